@@ -1,0 +1,67 @@
+-- Events as bytes: what one field means.
+-- Assumes nothing.
+use Prim.Native.Nat.{ℕ, _+_, _*_}
+use mathlib.Core.Bool.{Bool, true, false, _&&_}
+use mathlib.Core.List.{List, [], _∷_}
+use lib.ListN.{length, take, drop, getD}
+use Rattle.rules.specs.Lists.{if_then_else_, _==_, all, is-byte, number}
+use Rattle.rules.specs.Numbers.{nobody}
+use Rattle.rules.specs.Words.{Wanted, Anybody, Only, TrapKind, Program, Tlb, SysBp, Target, Oneself, Named, Call, Send, Receive, CreateBrother, CreateSon, Terminate, SetManager, GetCpuTime, WaitForClock, WaitForIo, Trap, Event, Malformed, ByRunner, Tick, Interrupt, Picked}
+use Rattle.rules.specs.Tags.{tag-facts, argument-rule, meets}
+use Rattle.rules.specs.Pick.{pick}
+
+abbrev pub wanted : ℕ → Wanted
+wanted n = if n == nobody then Anybody else Only n
+
+abbrev pub target : ℕ → Target
+target n = if n == nobody then Oneself else Named n
+
+-- a request whose argument meets the service's rule
+unfoldable pub request : ℕ → ℕ → Call
+request s a =
+    if s == 1 then CreateBrother else
+    if s == 2 then CreateSon else
+    if s == 3 then Terminate (target a) else
+    if s == 4 then SetManager Program a else
+    if s == 5 then SetManager Tlb a else
+    if s == 6 then SetManager SysBp a else
+    if s == 7 then GetCpuTime else
+    if s == 8 then WaitForClock else
+    WaitForIo a
+
+-- "kinds 0 program, 1 TLB, 2 SYS/Bp"
+unfoldable pub trap-of : ℕ → ℕ → Event
+trap-of k c =
+    if k == 0 then ByRunner (Trap Program c) else
+    if k == 1 then ByRunner (Trap Tlb c) else
+    if k == 2 then ByRunner (Trap SysBp c) else
+    Malformed
+
+unfoldable pub interrupt-of : Picked → ℕ → Event
+interrupt-of p w = if p .refusal == 0 then Interrupt (p .device) w else Malformed
+
+-- the value of a field whose tag and length are right
+unfoldable pub meaning : ℕ → List ℕ → Event
+meaning tag v =
+    let a = getD v 0 0 in
+    let w = number (drop 1 v) in
+    if tag == 16 then ByRunner (Send a w) else
+    if tag == 17 then ByRunner (Receive (wanted a)) else
+    if tag == 18 then (if meets (argument-rule a) w then ByRunner (request a w) else Malformed) else
+    if tag == 19 then trap-of a w else
+    if tag == 20 then Tick else
+    interrupt-of (pick (number (take 8 v))) (number (drop 8 v))
+
+-- "A field is a tag byte, a two-byte length, then the value; numbers are big-endian."
+unfoldable pub field-of : List ℕ → Event
+field-of [] = Malformed
+field-of (tag ∷ []) = Malformed
+field-of (tag ∷ high ∷ []) = Malformed
+field-of (tag ∷ high ∷ low ∷ v) =
+    let f = tag-facts tag in
+    let n = high * 256 + low in
+    if f .known && n == f .length && length v == n then meaning tag v else Malformed
+
+-- "exactly one well-formed field": anything else is malformed, numbers that are no bytes too
+unfoldable pub decode : List ℕ → Event
+decode bytes = if all is-byte bytes then field-of bytes else Malformed

@@ -1,0 +1,42 @@
+-- The numbers of document 01 ("Numbers"), each once.
+-- Assumes nothing.
+use Prim.Native.Nat.{ℕ}
+
+-- "threads, ordinary message blocks: 20 each". The rules are stated over the limits.
+pub record Limits : Type 0 where
+  pub threads : ℕ
+  pub blocks : ℕ
+
+abbrev pub small : Limits
+small = record { threads = 20; blocks = 20 }
+
+-- "thread names: 0 to 253"
+abbrev pub names : ℕ
+names = 254
+
+-- "254: the SSI; among managers, gone"
+abbrev pub service : ℕ
+service = 254
+
+-- "255: nobody, anybody, or oneself, as stated"
+abbrev pub nobody : ℕ
+nobody = 255
+
+-- "slice: 5 ticks"
+abbrev pub full-slice : ℕ
+full-slice = 5
+
+-- "beat (pseudo-clock): every 20 ticks"
+abbrev pub beat-ticks : ℕ
+beat-ticks = 20
+
+-- "devices: 0 to 47"; the pending word has 64 bits
+abbrev pub devices : ℕ
+devices = 48
+
+abbrev pub pending-bits : ℕ
+pending-bits = 64
+
+-- counts, beats and words are 32-bit: they are below this, and counts "go from 4,294,967,295 to 0"
+abbrev pub wrap : ℕ
+wrap = 4294967296

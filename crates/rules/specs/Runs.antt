@@ -1,0 +1,26 @@
+-- Runs: one event after the other, and the decision of each as a line of the event program.
+-- Assumes nothing.
+use Prim.Native.Nat.{ℕ}
+use mathlib.Core.List.{List, [], _∷_}
+use Rattle.rules.specs.Numbers.{Limits}
+use Rattle.rules.specs.Words.{Answer, Decision}
+use Rattle.rules.specs.Tables.{Tables}
+use Rattle.rules.specs.Step.{Stepped, step}
+use Rattle.rules.specs.Codes.{Numbers, answer-numbers}
+
+-- events, each the bytes of a field
+abbrev pub Input : Type 0
+Input = List (List ℕ)
+
+-- the tables after some events
+unfoldable pub run : Limits → Tables → Input → Tables
+run L T [] = T
+run L T (e ∷ es) = run L (step L T e .tables) es
+
+-- "refusal, status, runner, kind, sender, word"
+unfoldable pub line : Decision → List ℕ
+line d = let a = answer-numbers (d .answer) in d .refusal ∷ d .status ∷ d .runner ∷ a .kind ∷ a .sender ∷ a .word ∷ []
+
+unfoldable pub lines : Limits → Tables → Input → List (List ℕ)
+lines L T [] = []
+lines L T (e ∷ es) = let s = step L T e in line (s .decision) ∷ lines L (s .tables) es
