@@ -9,7 +9,8 @@ use lib.Dec.{leb, ltb}
 use lib.ListN.{length}
 use Rattle.rules.specs.Lists.{one-if, any, count, chain, times-in}
 use Rattle.rules.specs.Numbers.{Limits, names, full-slice, beat-ticks, devices, wrap}
-use Rattle.rules.specs.Words.{Wanted, TrapKind, State, Running, Ready, Receiving, Clock, Device, Trapped, Nothing, Manager, Unset, Set, Gone, Managers, NoParent, ParentIs, Thread, Message, Held, Runner, NoRunner, Runs, by-wanted, by-manager}
+use Rattle.rules.specs.Words.{by-wanted, by-manager}
+use Rattle.laws.proofs.Words.{Wanted, TrapKind, State, Running, Ready, Receiving, Clock, Device, Trapped, Nothing, Manager, Unset, Set, Gone, Managers, NoParent, ParentIs, Thread, Message, Held, Runner, NoRunner, Runs}
 use Rattle.rules.specs.Tables.{Tables, named, runs-as, manager}
 use Rattle.rules.specs.States.{is-running, is-ready, on-clock, waits-for, awaits}
 use Rattle.rules.specs.Waking.{is-ordinary, notice-of}
@@ -89,7 +90,7 @@ pub record Family (ts : List Thread) : Type 0 where
 pub record Good (b : ℕ) (ts : List Thread) (ms : List Message) (hs : List Held) : Type 0 where
   pub family : Family ts
   pub threads : (t : Thread) → List·Memᴰ t ts → Right ts ms t
-  pub devices : (d : ℕ) → count (waits-for d) ts + count (held-for d) hs ≤ 1
+  pub waiters : (d : ℕ) → count (waits-for d) ts + count (held-for d) hs ≤ 1
   pub messages : (m : Message) → List·Memᴰ m ms → Post ts m
   pub notices : (n : ℕ) → count (notice-of n) ms ≤ 1
   pub blocks : count (λ m. is-ordinary (m .kind)) ms ≤ b
