@@ -2,3 +2,4 @@
 -- Assumes nothing.
 pub mod Bits
 pub mod Table
+pub mod Runners

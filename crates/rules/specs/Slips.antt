@@ -6,7 +6,7 @@ use mathlib.Core.List.{List, [], _∷_, _++_, map}
 use lib.ListN.{replicate}
 use Rattle.rules.specs.Lists.{each, from-on}
 use Rattle.rules.specs.Runs.{Input}
-use Rattle.rules.specs.Benches.{Bench, given, to, from, ask, trapping, ticks, on, panicked, refused, made, P9}
+use Rattle.rules.specs.Benches.{Bench, given, to, from, ask, trapping, ticks, on, idle, panicked, refused, made, sons, P9}
 use Rattle.rules.specs.Opened.{opened}
 
 -- "idling in P9": the trapped son does not keep the node up
@@ -47,9 +47,26 @@ name-comes-round = record {
   last = made 1 ∷ on 1 ∷ panicked ∷ [];
 }
 
+-- "They are tried in this order": 1 before 2, 2 before 3, 3 before 4, 7 before 6, 10 before the requester's end
+abbrev pub down-before-rubbish : Bench
+down-before-rubbish = record { input = from 255 ∷ (9 ∷ []) ∷ []; last = panicked ∷ (1 ∷ 3 ∷ 255 ∷ 0 ∷ 255 ∷ 0 ∷ []) ∷ [] }
+
+abbrev pub rubbish-before-no-runner : Bench
+rubbish-before-no-runner = record {
+  input = ask 8 0 ∷ ask 10 0 ∷ to 5 7 ∷ [];
+  last = idle ∷ (2 ∷ 1 ∷ 255 ∷ 0 ∷ 255 ∷ 0 ∷ []) ∷ (3 ∷ 1 ∷ 255 ∷ 0 ∷ 255 ∷ 0 ∷ []) ∷ [];
+}
+
+abbrev pub first-before-full : Bench
+first-before-full = record {
+  input = sons ++ (ask 1 0 ∷ ask 2 0 ∷ ask 4 1 ∷ ask 4 0 ∷ []);
+  last = refused 7 ∷ refused 6 ∷ made 0 ∷ refused 10 ∷ [];
+}
+
 abbrev pub slips : List Bench
 slips =
-    idling-behind-a-trap ∷ notice-in-no-block ∷ slice-not-renewed ∷ waiters-before-the-runner ∷ blocks-freed ∷ late-answer ∷ name-comes-round ∷ []
+    idling-behind-a-trap ∷ notice-in-no-block ∷ slice-not-renewed ∷ waiters-before-the-runner ∷ blocks-freed ∷ late-answer ∷ name-comes-round
+    ∷ down-before-rubbish ∷ rubbish-before-no-runner ∷ first-before-full ∷ []
 
 pub the-slips-are-told-apart : map given slips ≡ map (λ s. s .last) slips
 unfolding given opened

@@ -1,0 +1,65 @@
+//! The fixed numbers of the document.
+
+/// A thread name, 0 to 253.
+pub type Name = u8;
+
+/// Threads that can live at once.
+pub const THREADS: usize = 20;
+/// Ordinary messages that can stand in inboxes at once.
+pub const BLOCKS: usize = 20;
+/// Thread names are 0 to `NAMES` - 1.
+pub const NAMES: u8 = 254;
+/// The first thread.
+pub const FIRST: Name = 0;
+/// The service interface, as a sender.
+pub const SSI: u8 = 254;
+/// A manager that has ended.
+pub const GONE: u8 = 254;
+/// Nobody, anybody or oneself.
+pub const NOBODY: u8 = 255;
+/// Ticks of a full slice.
+pub const SLICE: u8 = 5;
+/// Ticks from one beat to the next.
+pub const BEAT: u8 = 20;
+/// Devices are 0 to `DEVICES` - 1.
+pub const DEVICES: u8 = 48;
+/// Trap kinds are 0 to `KINDS` - 1.
+pub const KINDS: u8 = 3;
+
+/// The refusals, each with the document's number.
+#[derive(Clone, Copy, Debug, PartialEq, Eq)]
+#[repr(u8)]
+pub enum Refusal {
+    /// An event comes when halted or panicked.
+    Stopped = 1,
+    /// Not exactly one well-formed field, or a value out of its range.
+    Malformed = 2,
+    /// A runner is needed and there is none.
+    NoRunner = 3,
+    /// The name is no live thread's.
+    NotLive = 4,
+    /// A block is needed and none is free.
+    NoBlock = 5,
+    /// No thread block is free.
+    NoThreadBlock = 6,
+    /// Brother of thread 0.
+    BrotherOfFirst = 7,
+    /// Another thread waits for that device.
+    DeviceTaken = 8,
+    /// A decision other than 0 or 1.
+    BadDecision = 9,
+    /// Own name as manager.
+    OwnManager = 10,
+    /// The lent tables do not meet the table rules.
+    BadTables = 11,
+    /// The dump buffer is shorter than the dump.
+    ShortBuffer = 12,
+    /// The bytes are no dump.
+    NoDump = 13,
+}
+
+impl Refusal {
+    pub fn number(self) -> u8 {
+        self as u8
+    }
+}
