@@ -1,0 +1,144 @@
+-- What an event decoded from bytes has: its words and devices in their ranges.
+-- Assumes nothing.
+use Prim.Native.Nat.{ℕ, zero, suc, _+_, _*_, _<_}
+use mathlib.Core.Path.{_≡_, refl, ap, _∙_}
+use mathlib.Core.Bool.{Bool, true, false, _&&_, false≢true}
+use mathlib.Core.List.{List, [], _∷_}
+use native.Mathlib.Omega.{arith}
+use lib.Dec.{ltb}
+use lib.ListN.{length, take, drop, getD, length-drop}
+use borrow.Author.Tests.{eqb-true, ltb-true}
+use Rattle.rules.specs.Lists.{if_then_else_, _==_, all, is-byte, number, number-from}
+use Rattle.rules.specs.Numbers.{devices, wrap}
+use Rattle.laws.proofs.Words.{Call, Send, Receive, CreateBrother, CreateSon, Terminate, SetManager, GetCpuTime, WaitForClock, WaitForIo, Trap, Event, Malformed, ByRunner, Tick, Interrupt, TagFacts, NoService, ADevice}
+use Rattle.rules.specs.Tags.{facts-in, tag-facts, rule-in, argument-rule, meets}
+use Rattle.rules.specs.Pick.{pick}
+use Rattle.rules.specs.Events.{request, trap-of, interrupt-of, meaning, field-of, decode}
+use Rattle.rules.proofs.Bits.{pick-lowest}
+use Rattle.laws.proofs.Tests.{by-if, and-left, and-right}
+
+-- ---- words are of 32 bits, devices are 0 to 47
+
+unfoldable pub ProperCall : Call → Type 0
+ProperCall (Send to w) = w < wrap
+ProperCall (Receive f) = Unit {0}
+ProperCall CreateBrother = Unit {0}
+ProperCall CreateSon = Unit {0}
+ProperCall (Terminate n) = Unit {0}
+ProperCall (SetManager k n) = Unit {0}
+ProperCall GetCpuTime = Unit {0}
+ProperCall WaitForClock = Unit {0}
+ProperCall (WaitForIo d) = d < devices
+ProperCall (Trap k c) = c < wrap
+
+unfoldable pub Proper : Event → Type 0
+Proper Malformed = Unit {0}
+Proper (ByRunner c) = ProperCall c
+Proper Tick = Unit {0}
+Proper (Interrupt d w) = (d < devices) × (w < wrap)
+
+-- ---- four bytes make 32 bits
+
+abbrev Bytes : List ℕ → Type 0
+Bytes v = all is-byte v ≡ true
+
+four : (v : List ℕ) → length v ≡ 4 → Bytes v → number v < wrap
+unfolding number-from all
+four [] e b = absurd (omega arith)
+four (x ∷ []) e b = absurd (omega arith)
+four (x ∷ y ∷ []) e b = absurd (omega arith)
+four (x ∷ y ∷ z ∷ []) e b = absurd (omega arith)
+four (x ∷ y ∷ z ∷ w ∷ []) e b =
+    let bx : x < 256 = ltb-true x 256 (and-left (ltb x 256) _ b) in
+    let b1 = and-right (ltb x 256) _ b in
+    let by : y < 256 = ltb-true y 256 (and-left (ltb y 256) _ b1) in
+    let b2 = and-right (ltb y 256) _ b1 in
+    let bz : z < 256 = ltb-true z 256 (and-left (ltb z 256) _ b2) in
+    let b3 = and-right (ltb z 256) _ b2 in
+    let bw : w < 256 = ltb-true w 256 (and-left (ltb w 256) _ b3) in
+    omega arith
+four (x ∷ y ∷ z ∷ w ∷ u ∷ v) e b = absurd (omega arith)
+
+drop-bytes : (k : ℕ) (v : List ℕ) → Bytes v → Bytes (drop k v)
+unfolding all
+drop-bytes zero v b = b
+drop-bytes (suc k) [] b = b
+drop-bytes (suc k) (x ∷ v) b = drop-bytes k v (and-right (ltb x 256) _ b)
+
+word : (k : ℕ) (v : List ℕ) → length v ≡ k + 4 → Bytes v → number (drop k v) < wrap
+word k v e b = four (drop k v) (simp length-drop (omega arith)) (drop-bytes k v b)
+
+-- ---- each tag
+
+request-proper : (s a : ℕ) → meets (argument-rule s) a ≡ true → ProperCall (request s a)
+unfolding request ProperCall argument-rule rule-in meets
+request-proper s a h =
+    by-if ProperCall (s == 1) (λ _. tt) λ n1.
+    by-if ProperCall (s == 2) (λ _. tt) λ n2.
+    by-if ProperCall (s == 3) (λ _. tt) λ n3.
+    by-if ProperCall (s == 4) (λ _. tt) λ n4.
+    by-if ProperCall (s == 5) (λ _. tt) λ n5.
+    by-if ProperCall (s == 6) (λ _. tt) λ n6.
+    by-if ProperCall (s == 7) (λ _. tt) λ n7.
+    by-if ProperCall (s == 8) (λ _. tt) λ n8.
+    nine (s == 9) (simp (n1, n2, n3, n4, n5, n6, n7, n8) at h)
+  where
+    nine : (b : Bool) → meets (if b then ADevice else NoService) a ≡ true → a < devices
+    nine true e = ltb-true a devices e
+    nine false e = absurd (false≢true e)
+
+trap-proper : (k c : ℕ) → c < wrap → Proper (trap-of k c)
+unfolding trap-of Proper ProperCall
+trap-proper k c h = by-if Proper (k == 0) (λ _. h) λ _. by-if Proper (k == 1) (λ _. h) λ _. by-if Proper (k == 2) (λ _. h) λ _. tt
+
+interrupt-proper : (p w : ℕ) → w < wrap → Proper (interrupt-of (pick p) w)
+unfolding interrupt-of Proper
+interrupt-proper p w h = by-if Proper (pick p .refusal == 0) (λ e. (pick-lowest p (eqb-true _ 0 e) .1, h)) (λ _. tt)
+
+-- the last tag of the table, where it is none of the others
+last-length : (tag : ℕ) → (tag == 16) ≡ false → (tag == 17) ≡ false → (tag == 18) ≡ false → (tag == 19) ≡ false → (tag == 20) ≡ false → tag-facts tag .known ≡ true → tag-facts tag .length ≡ 12
+unfolding tag-facts facts-in
+last-length tag a b c d e = simp (a, b, c, d, e) (go (tag == 21))
+  where
+    facts : Bool → TagFacts
+    facts t = if t then record { known = true; length = 12; runner = false } else record { known = false; length = 0; runner = false }
+
+    go : (t : Bool) → facts t .known ≡ true → facts t .length ≡ 12
+    go true k = refl
+    go false k = absurd (false≢true k)
+
+meaning-proper : (tag : ℕ) (v : List ℕ) → Bytes v → tag-facts tag .known ≡ true → length v ≡ tag-facts tag .length → Proper (meaning tag v)
+unfolding meaning Proper ProperCall
+meaning-proper tag v b known e =
+    by-if Proper (tag == 16) (λ t. word 1 v (e ∙ at 16 t ∙ five .0) b) λ n16.
+    by-if Proper (tag == 17) (λ t. tt) λ n17.
+    by-if Proper (tag == 18) (λ t. by-if Proper (meets (argument-rule (getD v 0 0)) (number (drop 1 v))) (λ h. request-proper _ _ h) (λ _. tt)) λ n18.
+    by-if Proper (tag == 19) (λ t. trap-proper _ _ (word 1 v (e ∙ at 19 t ∙ five .1) b)) λ n19.
+    by-if Proper (tag == 20) (λ t. tt) λ n20.
+    interrupt-proper (number (take 8 v)) (number (drop 8 v)) (word 8 v (e ∙ last-length tag n16 n17 n18 n19 n20 known) b)
+  where
+    at : (n : ℕ) → (tag == n) ≡ true → tag-facts tag .length ≡ tag-facts n .length
+    at n t = ap (λ (x : ℕ). tag-facts x .length) (eqb-true tag n t)
+
+    five : (tag-facts 16 .length ≡ 5) × (tag-facts 19 .length ≡ 5)
+    five = unfold tag-facts facts-in in (refl, refl)
+
+field-proper : (bytes : List ℕ) → Bytes bytes → Proper (field-of bytes)
+unfolding field-of Proper
+field-proper [] b = tt
+field-proper (tag ∷ []) b = tt
+field-proper (tag ∷ high ∷ []) b = tt
+field-proper (tag ∷ high ∷ low ∷ v) b =
+    by-if Proper (tag-facts tag .known && (high * 256 + low == tag-facts tag .length) && (length v == high * 256 + low))
+    (λ h.
+    let k = and-left (tag-facts tag .known && (high * 256 + low == tag-facts tag .length)) _ h in
+    meaning-proper tag v rest (and-left (tag-facts tag .known) _ k) (eqb-true (length v) _ (and-right (tag-facts tag .known && (high * 256 + low == tag-facts tag .length)) _ h) ∙ eqb-true (high * 256 + low) _ (and-right (tag-facts tag .known) _ k)))
+    (λ _. tt)
+  where
+    rest : Bytes v
+    rest = unfold all in and-right (ltb low 256) _ (and-right (ltb high 256) _ (and-right (ltb tag 256) _ b))
+
+-- Whatever the bytes, the event that they mean has its values in their ranges.
+pub decode-proper : (bytes : List ℕ) → Proper (decode bytes)
+unfolding decode
+decode-proper bytes = by-if Proper (all is-byte bytes) (λ b. field-proper bytes b) (λ _. unfold Proper in tt)

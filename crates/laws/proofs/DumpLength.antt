@@ -1,0 +1,194 @@
+-- How long a dump can be: the lengths of queues, messages and held words, and from them the length of the dump.
+-- Assumes nothing.
+use Prim.Native.Nat.{ℕ, suc, _+_, _*_, _≤_, _<_}
+use mathlib.Core.Path.{_≡_, refl, sym, ap, _∙_}
+use mathlib.Core.Logic.{⊎-elim, _≢_}
+use mathlib.Core.Bool.{Bool, true, false, _&&_, not}
+use mathlib.Core.List.{List, [], _∷_, _++_, map, List·Memᴰ, List·Memᴰ·head, List·Memᴰ·tail}
+use native.Mathlib.Omega.{arith}
+use lib.ListN.{length, length-append, length-map}
+use borrow.Author.Tests.{eqb-true, eq-eqb}
+use Rattle.rules.specs.Lists.{_==_, one-if, keep, count, chain, times-in, each}
+use Rattle.rules.specs.Numbers.{Limits, small, names, devices}
+use Rattle.laws.proofs.Words.{State, Running, Ready, Receiving, Clock, Device, Trapped, Thread, Message, Held, Runner}
+use Rattle.rules.specs.Tables.{Tables, named}
+use Rattle.rules.specs.States.{is-ready, on-clock}
+use Rattle.rules.specs.Waking.{is-ordinary, notice-of}
+use Rattle.rules.specs.TableRules.{table-rules}
+use Rattle.rules.specs.Dump.{field, head-value, thread-value, message-value, held-value, dump}
+use Rattle.laws.proofs.Tests.{same?, and-right, and-true}
+use Rattle.laws.proofs.Counting.{count-append, count-map, count-add, count-add-le, count-same, count-keep, length-count, any-count, count-any, any-member, member-any}
+use Rattle.laws.proofs.Ordered.{up, up-tail, up-below}
+use Rattle.laws.proofs.Types.{here, Places, Good, Ruled}
+use Rattle.laws.proofs.Sound.{tested-ruled}
+
+-- ---- general
+
+pub same-turned : (a b : ℕ) → (a == b) ≡ (b == a)
+same-turned a b = ⊎-elim (λ e. rw (e .0)) (λ e. e .1 ∙ sym (ne-turned (e .0))) (same? a b)
+  where
+    ne-turned : a ≢ b → (b == a) ≡ false
+    ne-turned d = ⊎-elim (λ e. absurd (d (sym (e .0)))) (λ e. e .1) (same? b a)
+
+-- one of the numbers taken out
+pub one-out : (x : ℕ) (ys : List ℕ) → 1 ≤ times-in ys x → (zs : List ℕ) × (length ys ≡ suc (length zs)) × ((n : ℕ) → times-in ys n ≡ one-if (n == x) + times-in zs n)
+unfolding count
+one-out x [] h = absurd (omega arith)
+one-out x (y ∷ ys) h =
+    ⊎-elim
+    (λ e. (ys, refl, λ n. rw (e .0)))
+    (λ e. let r = one-out x ys (omega (arith, ap one-if (e .1))) in (y ∷ r .0, ap suc (r .1), λ n. omega (arith, r .2 n)))
+    (same? x y)
+
+-- a list in which no number stands more often than in another is no longer than that
+pub no-longer : (xs ys : List ℕ) → ((n : ℕ) → times-in xs n ≤ times-in ys n) → length xs ≤ length ys
+unfolding count
+no-longer [] ys h = omega arith
+no-longer (x ∷ xs) ys h =
+    let r = one-out x ys (omega (arith, h x, ap one-if (eq-eqb x x refl))) in
+    omega (arith, r .1, no-longer xs (r .0) (λ n. omega (arith, h n, r .2 n)))
+
+pub length-keep : {A : Type 0} (p : A → Bool) (xs : List A) → length (keep p xs) ≡ count p xs
+length-keep p xs = length-count (keep p xs) ∙ count-keep _ p xs ∙ count-same _ _ xs (λ x. and-true (p x))
+
+-- keys that rise from k and stay below n are at most n - k
+pub up-few : {A : Type 0} (key : A → ℕ) (k n : ℕ) (xs : List A) → k ≤ n → chain (up key) xs ≡ true → ((x : A) → List·Memᴰ x xs → (k ≤ key x) × (key x < n)) → k + length xs ≤ n
+up-few key k n [] l c h = omega arith
+up-few key k n (x ∷ xs) l c h =
+    let b = h x (List·Memᴰ·head refl) in
+    omega (arith, b .0, up-few key (suc (key x)) n xs (b .1) (up-tail key x xs c) (λ y m. (up-below key x xs c y m, h y (List·Memᴰ·tail m) .1)))
+
+pub length-each : {A : Type 0} {B : Type 0} (f : A → List B) (k : ℕ) (xs : List A) → ((x : A) → length (f x) ≡ k) → length (each f xs) ≡ k * length xs
+unfolding each
+length-each f k [] h = omega arith
+length-each f k (x ∷ xs) h = omega (arith, length-append (f x) (each f xs), h x, length-each f k xs h)
+
+-- ---- threads, queues, messages, held words
+
+-- names rise and are below 254
+pub threads-few : (L : Limits) (T : Tables) → Ruled L T → length (T .threads) ≤ names
+threads-few L T r =
+    omega (
+      arith,
+      up-few (λ t. t .name) 0 names (T .threads) (omega arith) (r .fits .rising)
+          (λ t m. (omega arith, r .inv .low (t .name) (member-any (named (t .name)) (T .threads) t m (eq-eqb (t .name) (t .name) refl)))),
+    )
+
+one-place : (b : Bool) (s : State) → one-if (b && is-ready s) + one-if (b && on-clock s) ≤ one-if b
+unfolding is-ready on-clock
+one-place false s = omega arith
+one-place true Running = omega arith
+one-place true Ready = omega arith
+one-place true (Receiving w) = omega arith
+one-place true Clock = omega arith
+one-place true (Device d) = omega arith
+one-place true (Trapped k) = omega arith
+
+-- both queues together: a thread stands in one of them at most, once
+pub queues-few : (ts : List Thread) (r : Runner) (q c : List ℕ) → Places ts r q c → length q + length c ≤ length ts
+unfolding here
+queues-few ts r q c a = omega (arith, no-longer (q ++ c) (map (λ t. t .name) ts) at-most, length-append q c, length-map ts (λ t. t .name))
+  where
+    at-most : (n : ℕ) → times-in (q ++ c) n ≤ times-in (map (λ t. t .name) ts) n
+    at-most n =
+        omega (
+          arith,
+          count-append (λ m. n == m) q c,
+          count-map (λ m. n == m) (λ t. t .name) ts,
+          a .wait n,
+          a .beat n,
+          count-add-le (λ t. named n t && is-ready (t .state)) (λ t. named n t && on-clock (t .state)) (named n) ts (λ t m. one-place (named n t) (t .state)),
+        )
+
+abbrev is-notice : Message → Bool
+is-notice m = not (is-ordinary (m .kind))
+
+-- the senders of notices live, and each has sent one at most
+notices-few : (b : ℕ) (ts : List Thread) (ms : List Message) (hs : List Held) → Good b ts ms hs → count is-notice ms ≤ length ts
+notices-few b ts ms hs g =
+    omega (arith, no-longer senders (map (λ t. t .name) ts) at-most, length-map (keep is-notice ms) (λ m. m .from), length-keep is-notice ms, length-map ts (λ t. t .name))
+  where
+    senders : List ℕ
+    senders = map (λ m. m .from) (keep is-notice ms)
+
+    sent : (n : ℕ) → times-in senders n ≡ count (notice-of n) ms
+    sent n = count-map (λ m. n == m) (λ m. m .from) (keep is-notice ms) ∙ count-keep (λ m. n == m .from) is-notice ms
+        ∙ count-same _ _ ms (λ m. ap (λ (x : Bool). is-notice m && x) (same-turned n (m .from)))
+
+    lives : (n : ℕ) → 1 ≤ count (notice-of n) ms → 1 ≤ count (named n) ts
+    lives n h =
+        let r = any-member (notice-of n) ms (count-any (notice-of n) ms h) in
+        let e : r .0 .from ≡ n = eqb-true _ _ (and-right (is-notice (r .0)) _ (r .2)) in
+        any-count (named n) ts (rw e at (g .messages (r .0) (r .1) .from-live))
+
+    at-most : (n : ℕ) → times-in senders n ≤ times-in (map (λ t. t .name) ts) n
+    at-most n =
+        ⊎-elim
+        (λ e. omega (arith, sent n, e .0))
+        (λ e. omega (arith, sent n, g .notices n, count-map (λ m. n == m) (λ t. t .name) ts, lives n (omega (arith, e .0))))
+        (same? (count (notice-of n) ms) 0)
+
+one-kind : (b : Bool) → one-if true ≡ one-if b + one-if (not b)
+one-kind true = omega arith
+one-kind false = omega arith
+
+-- ordinary messages and notices
+pub messages-few : (b : ℕ) (ts : List Thread) (ms : List Message) (hs : List Held) → Good b ts ms hs → length ms ≤ b + length ts
+messages-few b ts ms hs g =
+    omega (arith, length-count ms, count-add (λ m. true) (λ m. is-ordinary (m .kind)) is-notice ms (λ m. one-kind (is-ordinary (m .kind))), g .blocks, notices-few b ts ms hs g)
+
+-- devices rise and are below 48
+pub held-few : (b : ℕ) (ts : List Thread) (ms : List Message) (hs : List Held) → Good b ts ms hs → length hs ≤ devices
+held-few b ts ms hs g = omega (arith, up-few (λ h. h .device) 0 devices hs (omega arith) (g .held-order) (λ h m. (omega arith, g .held h m .0)))
+
+-- ---- the dump
+
+pub thread-length : (t : Thread) → length (thread-value t) ≡ 17
+unfolding thread-value
+thread-length t = refl
+
+pub message-length : (m : Message) → length (message-value m) ≡ 7
+unfolding message-value
+message-length m = refl
+
+pub held-length : (h : Held) → length (held-value h) ≡ 5
+unfolding held-value
+held-length h = refl
+
+pub head-length : (T : Tables) → length (head-value T) ≡ 9
+unfolding head-value
+head-length T = refl
+
+-- The length of a dump, by the lengths of its parts.
+pub dump-length : (T : Tables) → length (dump T) ≡ 12 + 20 * length (T .threads) + (3 + length (T .ready)) + (3 + length (T .clock)) + 10 * length (T .messages) + 8 * length (T .held)
+unfolding dump
+dump-length T =
+    simp length-append
+    (omega (
+      arith,
+      head-length T,
+      length-each (λ t. field 2 (thread-value t)) 20 (T .threads) (λ t. omega (arith, thread-length t)),
+      length-each (λ m. field 5 (message-value m)) 10 (T .messages) (λ m. omega (arith, message-length m)),
+      length-each (λ h. field 6 (held-value h)) 8 (T .held) (λ h. omega (arith, held-length h)),
+    ))
+
+-- with t threads and b blocks: a head, t threads, the queues with t names together, b ordinary messages and t notices, 48 held words.
+abbrev pub longest : Limits → ℕ
+longest L = 12 + 20 * L .threads + 3 + 3 + L .threads + 10 * (L .blocks + L .threads) + 8 * devices
+
+-- The dump of tables that meet the rules is no longer than that.
+pub dump-fits : (L : Limits) (T : Tables) → table-rules L T ≡ true → length (dump T) ≤ longest L
+dump-fits L T h =
+    let r = tested-ruled L T h in
+    omega (
+      arith,
+      dump-length T,
+      r .inv .few,
+      queues-few (T .threads) (T .runner) (T .ready) (T .clock) (r .inv .agree),
+      messages-few (L .blocks) (T .threads) (T .messages) (T .held) (r .fits),
+      held-few (L .blocks) (T .threads) (T .messages) (T .held) (r .fits),
+    )
+
+-- "1,241 bytes always suffice."
+pub dump-fits-small : (T : Tables) → table-rules small T ≡ true → length (dump T) ≤ 1241
+dump-fits-small T h = omega (arith, dump-fits small T h)

@@ -1,0 +1,462 @@
+-- Ticks and interrupts, were they accepted whatever the status: when they leave the threads as they are, and which series of them wakes one.
+-- Assumes nothing.
+use Prim.Native.Nat.{ℕ, zero, suc, _+_, _*_, _-_, _/_, _%_, _^_, _≤_, _<_}
+use mathlib.Core.Path.{_≡_, refl, sym, ap, ap₂, _∙_}
+use mathlib.Core.Logic.{⊎-elim, _≢_}
+use mathlib.Core.Bool.{Bool, true, false, _&&_, _||_, true≢false, false≢true}
+use mathlib.Core.List.{List, [], _∷_, _++_, map, List·Memᴰ, List·Memᴰ·head, List·Memᴰ·tail}
+use native.Mathlib.Omega.{arith}
+use lib.Dec.{ltb}
+use lib.ListN.{length, replicate, drop, getD, length-drop}
+use lib.Pow.{pow-mono}
+use borrow.Author.Tests.{eqb-true, eq-eqb, ne-eqb, ltb-true, lt-ltb}
+use Rattle.rules.specs.Lists.{if_then_else_, _==_, all, any, keep, from-on, is-byte, number-from, four-bytes}
+use Rattle.rules.specs.Numbers.{Limits, beat-ticks, devices, pending-bits, wrap}
+use Rattle.rules.specs.Words.{by-state}
+use Rattle.laws.proofs.Words.{State, Running, Ready, Receiving, Clock, Device, Trapped, Answer, Nothing, Result, Thread, NoRunner, Event, Malformed, ByRunner, Tick, Interrupt, Picked, TagFacts}
+use Rattle.rules.specs.Tables.{Tables, with-time, with-clock, in-state, named, live, change}
+use Rattle.rules.specs.States.{is-running, is-ready, on-clock, at-device, waits-for, wakes-from-outside}
+use Rattle.rules.specs.Waking.{Outcome, _handing_, wake-those, wake-by-name}
+use Rattle.rules.specs.Tick.{one-more, charge, beat, rotate, tick}
+use Rattle.rules.specs.Interrupt.{interrupt}
+use Rattle.rules.specs.Dispatch.{run-next, dispatch, status}
+use Rattle.rules.specs.Pick.{pending, first-pending, pick}
+use Rattle.rules.specs.Tags.{facts-in, tag-facts, argument-rule, meets}
+use Rattle.rules.specs.Events.{trap-of, interrupt-of, meaning, field-of, decode}
+use Rattle.rules.specs.Refusals.{first-of, over, is-malformed, needs-runner, own-rules, refusal}
+use Rattle.rules.specs.Step.{act, settle, step}
+use Rattle.rules.specs.Runs.{run}
+use Rattle.laws.proofs.Tests.{by-if, same?, and-left, and-right, _&_}
+use Rattle.laws.proofs.Counting.{any-member, member-any, not-any, none-any, all-at, map-same}
+use Rattle.laws.proofs.Members.{mem-keep, keep-mem, mem-map, map-mem}
+
+-- ---- general
+
+small-byte : (n : ℕ) → is-byte (n % 256) ≡ true
+small-byte n = lt-ltb (n % 256) 256 (omega arith)
+
+four-are : (n : ℕ) (bs : List ℕ) → all is-byte bs ≡ true → all is-byte (four-bytes n ++ bs) ≡ true
+unfolding all
+four-are n bs h = rw (small-byte (n / 256 / 256 / 256), small-byte (n / 256 / 256), small-byte (n / 256), small-byte n) h
+
+four-number : (a n : ℕ) (bs : List ℕ) → number-from a (four-bytes n ++ bs) ≡ number-from (a * wrap + n % wrap) bs
+unfolding number-from
+four-number a n bs = ap (λ (x : ℕ). number-from x bs) (omega arith)
+
+from-on-mem : (a n d : ℕ) → a ≤ d → d < a + n → List·Memᴰ d (from-on a n)
+unfolding from-on
+from-on-mem a zero d l h = absurd (omega arith)
+from-on-mem a (suc n) d l h = ⊎-elim (λ e. List·Memᴰ·head (sym (e .0))) (λ e. List·Memᴰ·tail (from-on-mem (suc a) n d (omega (arith, e .0)) (omega arith))) (same? a d)
+
+all-drop : (k : ℕ) (p : ℕ → Bool) (xs : List ℕ) → all p xs ≡ true → all p (drop k xs) ≡ true
+unfolding all
+all-drop zero p xs h = h
+all-drop (suc k) p [] h = h
+all-drop (suc k) p (x ∷ xs) h = all-drop k p xs (and-right (p x) _ h)
+
+-- four bytes or fewer say a number below 2 ^ 32
+number-below : (bs : List ℕ) → all is-byte bs ≡ true → length bs ≤ 4 → number-from 0 bs < wrap
+unfolding all number-from
+number-below [] h l = omega arith
+number-below (a ∷ []) h l = omega (arith, ltb-true a 256 (and-left (is-byte a) _ h))
+number-below (a ∷ b ∷ []) h l = let i = and-right (is-byte a) _ h in omega (arith, ltb-true a 256 (and-left (is-byte a) _ h), ltb-true b 256 (and-left (is-byte b) _ i))
+number-below (a ∷ b ∷ c ∷ []) h l =
+    let i = and-right (is-byte a) _ h in
+    let j = and-right (is-byte b) _ i in
+    omega (arith, ltb-true a 256 (and-left (is-byte a) _ h), ltb-true b 256 (and-left (is-byte b) _ i), ltb-true c 256 (and-left (is-byte c) _ j))
+number-below (a ∷ b ∷ c ∷ d ∷ []) h l =
+    let i = and-right (is-byte a) _ h in
+    let j = and-right (is-byte b) _ i in
+    let k = and-right (is-byte c) _ j in
+    omega (arith, ltb-true a 256 (and-left (is-byte a) _ h), ltb-true b 256 (and-left (is-byte b) _ i), ltb-true c 256 (and-left (is-byte c) _ j), ltb-true d 256 (and-left (is-byte d) _ k))
+number-below (a ∷ b ∷ c ∷ d ∷ e ∷ bs) h l = absurd (omega arith)
+
+-- ---- what the laws speak of
+
+-- a tick, or an interrupt with a device and a word in their ranges
+unfoldable pub from-outside : Event → Bool
+from-outside Malformed = false
+from-outside (ByRunner c) = false
+from-outside Tick = true
+from-outside (Interrupt d w) = ltb d devices && ltb w wrap
+
+-- the tables after an event, were it accepted: what it does and the dispatch, whatever the status
+unfoldable pub were-accepted : Tables → Event → Tables
+were-accepted T e = dispatch (act T e) .tables
+
+-- the tables after a series of events, were they accepted
+unfoldable pub outside : Tables → List Event → Tables
+outside T [] = T
+outside T (e ∷ es) = outside (were-accepted T e) es
+
+-- some thread is ready, or became ready and runs: the dispatch lets the front of the ready queue run in the same event
+unfoldable pub some-ready : Tables → Bool
+some-ready T = any (λ t. is-ready (t .state) || is-running (t .state)) (T .threads)
+
+-- "some thread waits for clock or device"
+abbrev pub some-waits : List Thread → Bool
+some-waits ts = any (λ t. wakes-from-outside (t .state)) ts
+
+-- what wakes a thread that waits for clock or device: the ticks up to the next beat, or an interrupt of its device
+unfoldable pub woken-by : ℕ → State → List Event
+woken-by since s = by-state (replicate (beat-ticks - since) Tick) (λ w. []) (λ d. Interrupt d 0 ∷ []) (λ k. []) s
+
+-- the same for the first of some threads that waits for clock or device
+unfoldable pub first-woken : ℕ → List Thread → List Event
+first-woken since [] = []
+first-woken since (t ∷ ts) = if wakes-from-outside (t .state) then woken-by since (t .state) else first-woken since ts
+
+abbrev pub waking-series : Tables → List Event
+waking-series T = first-woken (T .since) (T .threads)
+
+-- ---- when nobody runs
+
+rest-charge : (T : Tables) → T .runner ≡ NoRunner → charge T ≡ T
+unfolding charge
+rest-charge T r = rw r
+
+rest-rotate : (T : Tables) → T .runner ≡ NoRunner → rotate T ≡ T
+unfolding rotate
+rest-rotate T r = rw r
+
+beat-runner : (T : Tables) → beat T .runner ≡ T .runner
+unfolding beat wake-those
+beat-runner T = by-if (λ (U : Tables). U .runner ≡ T .runner) (T .since + 1 == beat-ticks) (λ e. refl) (λ e. refl)
+
+-- a tick is the beat alone
+pub rest-tick : (T : Tables) → T .runner ≡ NoRunner → tick T ≡ beat T
+unfolding tick
+rest-tick T r = ap (λ (U : Tables). rotate (beat U)) (rest-charge T r) ∙ rest-rotate (beat T) (beat-runner T ∙ r)
+
+-- with nobody ready the dispatch does nothing
+pub rest-dispatch : (o : Outcome) → o .tables .runner ≡ NoRunner → o .tables .ready ≡ [] → dispatch o ≡ o
+unfolding dispatch run-next
+rest-dispatch o r q = rw (r, q)
+
+-- ---- with nobody on clock or device, ticks and interrupts leave the threads as they are
+
+-- the threads are ts; nobody runs, is ready, or is in the clock queue
+pub record Still (ts : List Thread) (T : Tables) : Type 0 where
+  pub runner : T .runner ≡ NoRunner
+  pub ready : T .ready ≡ []
+  pub clock : T .clock ≡ []
+  pub threads : T .threads ≡ ts
+
+pub clock-wakes : (s : State) → wakes-from-outside s ≡ false → on-clock s ≡ false
+unfolding wakes-from-outside
+clock-wakes s e = go (on-clock s) e
+  where
+    go : (b : Bool) → (b || by-state false (λ w. false) (λ d. true) (λ k. false) s) ≡ false → b ≡ false
+    go true i = i
+    go false i = refl
+
+device-wakes : (d : ℕ) (s : State) → wakes-from-outside s ≡ false → at-device d s ≡ false
+unfolding wakes-from-outside on-clock at-device
+device-wakes d Running e = refl
+device-wakes d Ready e = refl
+device-wakes d (Receiving w) e = refl
+device-wakes d Clock e = refl
+device-wakes d (Device x) e = absurd (true≢false e)
+device-wakes d (Trapped k) e = refl
+
+module _ (ts : List Thread) (none : some-waits ts ≡ false) where
+  beat-still : (T : Tables) → Still ts T → Still ts (beat T)
+  unfolding beat wake-those
+  beat-still T S =
+      by-if (Still ts) (T .since + 1 == beat-ticks)
+      (λ e.
+      record {
+        runner = S .runner;
+        ready = ap₂ (λ (a b : List ℕ). a ++ b) (S .ready) (S .clock);
+        clock = refl;
+        threads = map-same _ (T .threads) (λ t m. rw (clock-wakes (t .state) (not-any (λ u. wakes-from-outside (u .state)) ts t none (rw (S .threads) at m)))) ∙ S .threads;
+      })
+      (λ e. record { runner = S .runner; ready = S .ready; clock = S .clock; threads = S .threads })
+
+  interrupt-still : (d w : ℕ) (T : Tables) → Still ts T → Still ts (interrupt d w T)
+  unfolding interrupt
+  interrupt-still d w T S =
+      let z : any (waits-for d) (T .threads) ≡ false = rw (S .threads) (none-any (waits-for d) ts (λ t m. device-wakes d (t .state) (not-any (λ u. wakes-from-outside (u .state)) ts t none m))) in
+      rw z (record { runner = S .runner; ready = S .ready; clock = S .clock; threads = S .threads })
+
+  dispatch-still : (T : Tables) (a : Answer) → Still ts T → Still ts (dispatch (T handing a) .tables)
+  dispatch-still T a S = rw (rest-dispatch (T handing a) (S .runner) (S .ready)) S
+
+  accepted-still : (T : Tables) (e : Event) → from-outside e ≡ true → Still ts T → Still ts (were-accepted T e)
+  unfolding from-outside were-accepted act
+  accepted-still T Malformed h S = absurd (false≢true h)
+  accepted-still T (ByRunner c) h S = absurd (false≢true h)
+  accepted-still T Tick h S = dispatch-still (tick T) Nothing (rw (rest-tick T (S .runner)) (beat-still T S))
+  accepted-still T (Interrupt d w) h S = dispatch-still (interrupt d w T) Nothing (interrupt-still d w T S)
+
+  pub outside-still : (T : Tables) (es : List Event) → all from-outside es ≡ true → Still ts T → Still ts (outside T es)
+  unfolding outside all
+  outside-still T [] h S = S
+  outside-still T (e ∷ es) h S = outside-still (were-accepted T e) es (and-right (from-outside e) _ h) (accepted-still T e (and-left (from-outside e) _ h) S)
+
+-- ---- when nobody runs or is ready, whoever is woken makes somebody run
+
+-- the front of the ready queue is a thread's name: it runs
+front-runs : (n : ℕ) (ns : List ℕ) (o : Outcome) → live n (o .tables) ≡ true → some-ready (run-next (n ∷ ns) o .tables) ≡ true
+unfolding run-next change some-ready
+front-runs n ns o h =
+    let m = any-member (named n) (o .tables .threads) h in
+    member-any (λ t. is-ready (t .state) || is-running (t .state)) _ _ (map-mem (λ t. if named n t then in-state Running Nothing t else t) _ (m .1)) (rw (m .2) (unfold is-ready is-running in refl))
+
+still-named : (p : Thread → Bool) (a : Thread → Answer) (n : ℕ) (ts : List Thread) → any (named n) ts ≡ true → any (named n) (map (λ t. if p t then in-state Ready (a t) t else t) ts) ≡ true
+still-named p a n ts h =
+    let m = any-member (named n) ts h in
+    member-any (named n) _ _ (map-mem (λ t. if p t then in-state Ready (a t) t else t) ts (m .1)) (by-if (λ (u : Thread). named n u ≡ true) (p (m .0)) (λ e. m .2) (λ e. m .2))
+
+-- names of threads join an empty ready queue, at least one: somebody runs
+pub woken-runs : (p : Thread → Bool) (a : Thread → Answer) (ns : List ℕ) (T : Tables) → T .runner ≡ NoRunner → T .ready ≡ []
+    → ((n : ℕ) → List·Memᴰ n ns → live n T ≡ true) → (k : ℕ) → List·Memᴰ k ns → some-ready (dispatch (wake-those p a ns T handing Nothing) .tables) ≡ true
+unfolding dispatch wake-those
+woken-runs p a [] T r q l k m = elim m [ ]
+woken-runs p a (n ∷ ns) T r q l k m = rw (r, q) (front-runs n ns _ (still-named p a n (T .threads) (l n (List·Memᴰ·head refl))))
+
+-- ---- which series wakes somebody
+
+-- nobody runs or is ready; the names in the clock queue are those of the threads that wait for the clock; devices are in their range
+pub record Resting (T : Tables) : Type 0 where
+  pub runner : T .runner ≡ NoRunner
+  pub ready : T .ready ≡ []
+  pub since : T .since < beat-ticks
+  pub queued : (n : ℕ) → List·Memᴰ n (T .clock) → live n T ≡ true
+  pub waits : (t : Thread) → List·Memᴰ t (T .threads) → t .state ≡ Clock → List·Memᴰ (t .name) (T .clock)
+  pub device : (t : Thread) (d : ℕ) → List·Memᴰ t (T .threads) → t .state ≡ Device d → d < devices
+
+abbrev at-beat : Tables → Tables
+at-beat T = let b = one-more (T .beats) in wake-those (λ t. on-clock (t .state)) (λ t. Result b) (T .clock) (with-clock [] (with-time 0 b T))
+
+-- the twentieth tick wakes the clock waiters
+last-tick : (T : Tables) → Resting T → T .since + 1 ≡ beat-ticks → (n : ℕ) → List·Memᴰ n (T .clock) → some-ready (were-accepted T Tick) ≡ true
+unfolding were-accepted act
+last-tick T R s n m =
+    ap (λ (U : Tables). some-ready (dispatch (U handing Nothing) .tables)) (rest-tick T (R .runner) ∙ beaten)
+    ∙ woken-runs (λ t. on-clock (t .state)) (λ t. Result (one-more (T .beats))) (T .clock) (with-clock [] (with-time 0 (one-more (T .beats)) T)) (R .runner) (R .ready) (R .queued) n m
+  where
+    beaten : beat T ≡ at-beat T
+    beaten = unfold beat in rw (eq-eqb (T .since + 1) beat-ticks s)
+
+-- a tick before it only counts
+early-tick : (T : Tables) → Resting T → T .since + 1 ≢ beat-ticks → were-accepted T Tick ≡ with-time (T .since + 1) (T .beats) T
+unfolding were-accepted act
+early-tick T R s =
+    ap (λ (U : Tables). dispatch (U handing Nothing) .tables) (rest-tick T (R .runner) ∙ counted)
+    ∙ ap (λ (o : Outcome). o .tables) (rest-dispatch (with-time (T .since + 1) (T .beats) T handing Nothing) (R .runner) (R .ready))
+  where
+    counted : beat T ≡ with-time (T .since + 1) (T .beats) T
+    counted = unfold beat in rw (ne-eqb (T .since + 1) beat-ticks s)
+
+later : (T : Tables) → Resting T → T .since + 1 < beat-ticks → Resting (with-time (T .since + 1) (T .beats) T)
+later T R h = record { runner = R .runner; ready = R .ready; since = h; queued = R .queued; waits = R .waits; device = R .device }
+
+-- as many ticks as the beat needs
+ticks-wake : (k : ℕ) (T : Tables) → Resting T → T .since + suc k ≡ beat-ticks → (n : ℕ) → List·Memᴰ n (T .clock) → some-ready (outside T (replicate (suc k) Tick)) ≡ true
+unfolding outside
+ticks-wake zero T R s n m = last-tick T R (omega arith) n m
+ticks-wake (suc k) T R s n m =
+    ap (λ (U : Tables). some-ready (outside U (replicate (suc k) Tick))) (early-tick T R (omega arith))
+    ∙ ticks-wake k (with-time (T .since + 1) (T .beats) T) (later T R (omega arith)) (omega arith) n m
+
+-- an interrupt wakes its device's waiter
+interrupt-wakes : (T : Tables) → Resting T → (d w : ℕ) → any (waits-for d) (T .threads) ≡ true → some-ready (were-accepted T (Interrupt d w)) ≡ true
+unfolding were-accepted act
+interrupt-wakes T R d w h =
+    let m = any-member (waits-for d) (T .threads) h in
+    ap (λ (U : Tables). some-ready (dispatch (U handing Nothing) .tables)) woken
+    ∙ woken-runs (waits-for d) (λ t. Result w) _ T (R .runner) (R .ready) lives (m .0 .name) (map-mem (λ (t : Thread). t .name) _ (keep-mem (waits-for d) (T .threads) (m .1) (m .2)))
+  where
+    woken : interrupt d w T ≡ wake-by-name (waits-for d) (λ t. Result w) T
+    woken = unfold interrupt in rw h
+
+    lives : (n : ℕ) → List·Memᴰ n (map (λ t. t .name) (keep (waits-for d) (T .threads))) → live n T ≡ true
+    lives n i =
+        let u = mem-map (λ (t : Thread). t .name) (keep (waits-for d) (T .threads)) i in
+        member-any (named n) (T .threads) (u .0) (mem-keep (waits-for d) (T .threads) (u .1) .0) (eq-eqb n (u .0 .name) (u .2))
+
+-- the thread that the series is for
+first-is : (since : ℕ) (ts : List Thread) → some-waits ts ≡ true
+    → (t : Thread) × List·Memᴰ t ts × (wakes-from-outside (t .state) ≡ true) × (first-woken since ts ≡ woken-by since (t .state))
+unfolding any first-woken
+first-is since [] h = absurd (false≢true h)
+first-is since (t ∷ ts) h = go (wakes-from-outside (t .state)) refl h (first-is since ts)
+  where
+    go : (b : Bool) → wakes-from-outside (t .state) ≡ b → (b || some-waits ts) ≡ true
+        → (some-waits ts ≡ true → (u : Thread) × List·Memᴰ u ts × (wakes-from-outside (u .state) ≡ true) × (first-woken since ts ≡ woken-by since (u .state)))
+        → (u : Thread) × List·Memᴰ u (t ∷ ts) × (wakes-from-outside (u .state) ≡ true) × ((if b then woken-by since (t .state) else first-woken since ts) ≡ woken-by since (u .state))
+    go true e i rest = (t, List·Memᴰ·head refl, e, refl)
+    go false e i rest = let r = rest i in (r .0, List·Memᴰ·tail (r .1), r .2, r .3)
+
+ticks-outside : (k : ℕ) → all from-outside (replicate k Tick) ≡ true
+unfolding all from-outside
+ticks-outside zero = refl
+ticks-outside (suc k) = ticks-outside k
+
+abbrev Woken : Tables → List Event → Type 0
+Woken T es = (all from-outside es ≡ true) × (some-ready (outside T es) ≡ true)
+
+clock-series : (T : Tables) → Resting T → (n : ℕ) → List·Memᴰ n (T .clock) → Woken T (replicate (beat-ticks - T .since) Tick)
+clock-series T R n m =
+    let k : beat-ticks - T .since ≡ suc (19 - T .since) = omega (arith, R .since) in
+    (ticks-outside (beat-ticks - T .since), rw k (ticks-wake (19 - T .since) T R (omega (arith, R .since)) n m))
+
+device-series : (T : Tables) → Resting T → (d : ℕ) → d < devices → any (waits-for d) (T .threads) ≡ true → Woken T (Interrupt d 0 ∷ [])
+unfolding all from-outside outside
+device-series T R d l h = (rw (lt-ltb d devices l), interrupt-wakes T R d 0 h)
+
+-- With somebody on clock or device, the waking series is one of ticks and interrupts, and after it somebody runs.
+pub series-wakes : (T : Tables) → Resting T → some-waits (T .threads) ≡ true → Woken T (waking-series T)
+series-wakes T R h = let f = first-is (T .since) (T .threads) h in rw (f .3) (go (f .0) (f .1) (f .0 .state) refl (f .2))
+  where
+    go : (t : Thread) → List·Memᴰ t (T .threads) → (s : State) → t .state ≡ s → wakes-from-outside s ≡ true → Woken T (woken-by (T .since) s)
+    go t m Running e i = unfold wakes-from-outside on-clock in absurd (false≢true i)
+    go t m Ready e i = unfold wakes-from-outside on-clock in absurd (false≢true i)
+    go t m (Receiving w) e i = unfold wakes-from-outside on-clock in absurd (false≢true i)
+    go t m Clock e i = unfold woken-by in clock-series T R (t .name) (R .waits t m e)
+    go t m (Device d) e i = unfold woken-by in device-series T R d (R .device t d m e) (member-any (waits-for d) (T .threads) t m (unfold at-device in rw e (eq-eqb d d refl)))
+    go t m (Trapped x) e i = unfold wakes-from-outside on-clock in absurd (false≢true i)
+
+-- ---- bytes say these events, and an idle node accepts them
+
+unfoldable pub bytes-of : Event → List ℕ
+bytes-of Malformed = []
+bytes-of (ByRunner c) = []
+bytes-of Tick = 20 ∷ 0 ∷ 0 ∷ []
+bytes-of (Interrupt d w) = 21 ∷ 0 ∷ 12 ∷ (four-bytes (2 ^ d / wrap) ++ (four-bytes (2 ^ d) ++ four-bytes w))
+
+-- twelve bytes: the pending devices p and the word w
+word-said : (p w : ℕ) → p / wrap < wrap → w < wrap → decode (21 ∷ 0 ∷ 12 ∷ (four-bytes (p / wrap) ++ (four-bytes p ++ four-bytes w))) ≡ interrupt-of (pick p) w
+unfolding decode field-of tag-facts facts-in meaning
+word-said p w a b =
+    rw bytes (ap₂ (λ (x y : ℕ). interrupt-of (pick x) y) devices-said (four-number 0 w [] ∙ unfold number-from in omega arith))
+  where
+    bytes : all is-byte (21 ∷ 0 ∷ 12 ∷ (four-bytes (p / wrap) ++ (four-bytes p ++ four-bytes w))) ≡ true
+    bytes = unfold all in four-are (p / wrap) (four-bytes p ++ four-bytes w) (four-are p (four-bytes w) (four-are w [] refl))
+
+    devices-said : number-from 0 (four-bytes (p / wrap) ++ (four-bytes p ++ [])) ≡ p
+    devices-said = four-number 0 (p / wrap) (four-bytes p ++ []) ∙ four-number _ p [] ∙ unfold number-from in omega arith
+
+-- the pick of a word with one bit
+picks : all (λ d. pick (2 ^ d) .refusal == 0 && pick (2 ^ d) .device == d) (from-on 0 devices) ≡ true
+unfolding all any from-on pick first-pending
+picks = refl
+
+picked : (d w : ℕ) → d < devices → interrupt-of (pick (2 ^ d)) w ≡ Interrupt d w
+unfolding interrupt-of
+picked d w h =
+    let p = all-at (λ x. pick (2 ^ x) .refusal == 0 && pick (2 ^ x) .device == x) (from-on 0 devices) picks d (from-on-mem 0 devices d (omega arith) h) in
+    rw (and-left (pick (2 ^ d) .refusal == 0) _ p) (ap (λ (x : ℕ). Interrupt x w) (eqb-true (pick (2 ^ d) .device) d (and-right (pick (2 ^ d) .refusal == 0) _ p)))
+
+-- Every tick and every interrupt in range is what some bytes say.
+pub said : (e : Event) → from-outside e ≡ true → decode (bytes-of e) ≡ e
+unfolding from-outside bytes-of
+said Malformed h = absurd (false≢true h)
+said (ByRunner c) h = absurd (false≢true h)
+said Tick h = unfold decode all field-of tag-facts facts-in meaning in refl
+said (Interrupt d w) h =
+    let l = ltb-true d devices (and-left (ltb d devices) _ h) in
+    word-said (2 ^ d) w (omega (arith, pow-mono {i = d} {j = 47} (omega arith))) (ltb-true w wrap (and-right (ltb d devices) _ h)) ∙ picked d w l
+
+-- an event of bytes has its device and word in their ranges
+in-range : Event → Bool
+in-range Malformed = true
+in-range (ByRunner c) = true
+in-range Tick = true
+in-range (Interrupt d w) = ltb d devices && ltb w wrap
+
+first-in-range : (word : ℕ) (ds : List ℕ) → all (λ d. ltb d devices) ds ≡ true → (first-pending word ds .refusal == 0) ≡ true → ltb (first-pending word ds .device) devices ≡ true
+unfolding first-pending all
+first-in-range word [] h = λ e. absurd (false≢true e)
+first-in-range word (d ∷ ds) h =
+    by-if (λ (r : Picked). (r .refusal == 0) ≡ true → ltb (r .device) devices ≡ true) (pending word d) (λ _ e. and-left (ltb d devices) _ h) (λ _. first-in-range word ds (and-right (ltb d devices) _ h))
+
+pick-in-range : (word : ℕ) → (pick word .refusal == 0) ≡ true → ltb (pick word .device) devices ≡ true
+unfolding pick
+pick-in-range word =
+    by-if (λ (r : Picked). (r .refusal == 0) ≡ true → ltb (r .device) devices ≡ true) (any (pending word) (from-on devices (pending-bits - devices)))
+    (λ _ e. absurd (false≢true e)) (λ _. first-in-range word (from-on 0 devices) (unfold all from-on in refl))
+
+interrupt-in-range : (word w : ℕ) → w < wrap → in-range (interrupt-of (pick word) w) ≡ true
+unfolding interrupt-of in-range
+interrupt-in-range word w l = by-if (λ (e : Event). in-range e ≡ true) (pick word .refusal == 0) (λ e. pick-in-range word e & lt-ltb w wrap l) (λ e. refl)
+
+trap-in-range : (k c : ℕ) → in-range (trap-of k c) ≡ true
+unfolding trap-of in-range
+trap-in-range k c =
+    by-if (λ (e : Event). in-range e ≡ true) (k == 0) (λ _. refl) (λ _.
+    by-if (λ (e : Event). in-range e ≡ true) (k == 1) (λ _. refl) (λ _.
+    by-if (λ (e : Event). in-range e ≡ true) (k == 2) (λ _. refl) (λ _. refl)))
+
+meaning-in-range : (tag : ℕ) (v : List ℕ) → all is-byte v ≡ true → length v ≡ tag-facts tag .length → in-range (meaning tag v) ≡ true
+unfolding meaning in-range
+meaning-in-range tag v h l =
+    by-if P (tag == 16) (λ _. refl) (λ a.
+    by-if P (tag == 17) (λ _. refl) (λ b.
+    by-if P (tag == 18) (λ _. by-if P (meets (argument-rule (getD v 0 0)) (number-from 0 (drop 1 v))) (λ _. refl) (λ _. refl)) (λ c.
+    by-if P (tag == 19) (λ _. trap-in-range (getD v 0 0) _) (λ d.
+    by-if P (tag == 20) (λ _. refl) (λ e.
+    interrupt-in-range _ _ (number-below (drop 8 v) (all-drop 8 is-byte v h) (simp length-drop (omega (arith, short a b c d e)))))))))
+  where
+    P : Event → Type 0
+    P e = in-range e ≡ true
+
+    short : (tag == 16) ≡ false → (tag == 17) ≡ false → (tag == 18) ≡ false → (tag == 19) ≡ false → (tag == 20) ≡ false → length v ≤ 12
+    short a b c d e = rw l (unfold tag-facts facts-in in rw (a, b, c, d, e) (by-if (λ (f : TagFacts). f .length ≤ 12) (tag == 21) (λ _. omega arith) (λ _. omega arith)))
+
+field-in-range : (bytes : List ℕ) → all is-byte bytes ≡ true → in-range (field-of bytes) ≡ true
+unfolding field-of in-range all
+field-in-range [] h = refl
+field-in-range (tag ∷ []) h = refl
+field-in-range (tag ∷ high ∷ []) h = refl
+field-in-range (tag ∷ high ∷ low ∷ v) h =
+    by-if (λ (e : Event). in-range e ≡ true) (tag-facts tag .known && high * 256 + low == tag-facts tag .length && length v == high * 256 + low)
+    (λ t.
+    let n = eqb-true _ _ (and-right (tag-facts tag .known) _ (and-left _ (length v == high * 256 + low) t)) in
+    let k = eqb-true (length v) (high * 256 + low) (and-right (tag-facts tag .known && high * 256 + low == tag-facts tag .length) _ t) in
+    meaning-in-range tag v (and-right (is-byte low) _ (and-right (is-byte high) _ (and-right (is-byte tag) _ h))) (k ∙ n))
+    (λ t. refl)
+
+-- And no bytes say another interrupt: those of `from-outside` are all that there are.
+pub heard : (bytes : List ℕ) (d w : ℕ) → decode bytes ≡ Interrupt d w → from-outside (Interrupt d w) ≡ true
+unfolding decode from-outside
+heard bytes d w e = unfold in-range in sym (ap in-range e) ∙ by-if (λ (x : Event). in-range x ≡ true) (all is-byte bytes) (λ h. field-in-range bytes h) (λ h. refl)
+
+unrefused : (L : Limits) (T : Tables) (e : Event) → from-outside e ≡ true → over (status T) ≡ false → refusal L T e ≡ 0
+unfolding from-outside refusal first-of is-malformed needs-runner own-rules
+unrefused L T Malformed h o = absurd (false≢true h)
+unrefused L T (ByRunner c) h o = absurd (false≢true h)
+unrefused L T Tick h o = rw o
+unrefused L T (Interrupt d w) h o = rw o
+
+-- A node that is not halted or panicked accepts them: the step does what they would do, were they accepted.
+pub step-accepts : (L : Limits) (T : Tables) (e : Event) → from-outside e ≡ true → over (status T) ≡ false → step L T (bytes-of e) .tables ≡ were-accepted T e
+unfolding step were-accepted
+step-accepts L T e h o =
+    ap (λ (x : Event). settle (refusal L T x) T x .tables) (said e h) ∙ ap (λ (k : ℕ). settle k T e .tables) (unrefused L T e h o) ∙ unfold settle in refl
+
+ticks-accepted : (L : Limits) (k : ℕ) (T : Tables) → Resting T → over (status T) ≡ false → T .since + k ≤ beat-ticks
+    → run L T (map bytes-of (replicate k Tick)) ≡ outside T (replicate k Tick)
+unfolding run outside
+ticks-accepted L zero T R o l = refl
+ticks-accepted L (suc zero) T R o l = step-accepts L T Tick (unfold from-outside in refl) o
+ticks-accepted L (suc (suc k)) T R o l =
+    let U = with-time (T .since + 1) (T .beats) T in
+    let e : were-accepted T Tick ≡ U = early-tick T R (omega arith) in
+    let rest = ticks-accepted L (suc k) U (later T R (omega arith)) (unfold status in o) (omega arith) in
+    ap (λ (X : Tables). run L X (map bytes-of (replicate (suc k) Tick))) (step-accepts L T Tick (unfold from-outside in refl) o ∙ e)
+    ∙ rest ∙ sym (ap (λ (X : Tables). outside X (replicate (suc k) Tick)) e)
+
+-- An idle node accepts the waking series.
+pub series-accepted : (L : Limits) (T : Tables) → Resting T → some-waits (T .threads) ≡ true → over (status T) ≡ false
+    → run L T (map bytes-of (waking-series T)) ≡ outside T (waking-series T)
+series-accepted L T R h o = let f = first-is (T .since) (T .threads) h in rw (f .3) (go (f .0) (f .1) (f .0 .state) refl (f .2))
+  where
+    go : (t : Thread) → List·Memᴰ t (T .threads) → (s : State) → t .state ≡ s → wakes-from-outside s ≡ true → run L T (map bytes-of (woken-by (T .since) s)) ≡ outside T (woken-by (T .since) s)
+    go t m Running e i = unfold wakes-from-outside on-clock in absurd (false≢true i)
+    go t m Ready e i = unfold wakes-from-outside on-clock in absurd (false≢true i)
+    go t m (Receiving w) e i = unfold wakes-from-outside on-clock in absurd (false≢true i)
+    go t m Clock e i = unfold woken-by in ticks-accepted L (beat-ticks - T .since) T R o (omega (arith, R .since))
+    go t m (Device d) e i = unfold woken-by run outside in step-accepts L T (Interrupt d 0) (unfold from-outside in rw (lt-ltb d devices (R .device t d m e))) o
+    go t m (Trapped x) e i = unfold wakes-from-outside on-clock in absurd (false≢true i)
