@@ -25,3 +25,7 @@ pub mod Idle
 pub mod Bytes
 pub mod DumpLength
 pub mod Dump
+pub mod Refusals
+pub mod Determinacy
+pub mod Counts
+pub mod Blocks

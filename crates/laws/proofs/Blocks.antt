@@ -1,0 +1,285 @@
+-- Law 8, blocks: the ordinary messages queued are those received from inboxes, those discarded and those in inboxes now, and the blocks suffice.
+-- Assumes nothing.
+use Prim.Native.Nat.{ℕ, zero, suc, _+_, _-_, _≤_}
+use mathlib.Core.Path.{_≡_, refl, ap, _∙_}
+use mathlib.Core.Logic.{_↔_}
+use mathlib.Core.Bool.{Bool, true, false, _&&_, _||_, not, true≢false}
+use mathlib.Core.List.{List, [], _∷_, List·Memᴰ·head, List·Memᴰ·tail}
+use native.Mathlib.Omega.{arith}
+use lib.Dec.{leb}
+use borrow.Author.Tests.{ne-eqb, leb-true, leb-false, le-leb}
+use Rattle.rules.specs.Lists.{if_then_else_, _==_, one-if, any, has, count, Pulled, missing, pulled, behind, pull}
+use Rattle.rules.specs.Numbers.{Limits, beat-ticks}
+use Rattle.rules.specs.Words.{by-manager}
+use Rattle.rules.specs.Tables.{Tables, of-thread, change, manager, me, start}
+use Rattle.rules.specs.States.{waits-for}
+use Rattle.rules.specs.Waking.{wake-those, is-ordinary, blocks-used, notice-of, accepts, queue, deliver, stop}
+use Rattle.rules.specs.Ending.{ended-set, remove, release, end}
+use Rattle.rules.specs.Send.{message, decides, decide, send}
+use Rattle.rules.specs.Receive.{wanted-by, received, receive}
+use Rattle.rules.specs.Trap.{notice, trap}
+use Rattle.rules.specs.Tick.{charge, beat, rotate, tick}
+use Rattle.rules.specs.Interrupt.{held-for, interrupt}
+use Rattle.rules.specs.Requests.{create, terminate, set-over, wait-for-clock, take-held}
+use Rattle.rules.specs.Events.{decode}
+use Rattle.rules.specs.Refusals.{_refuses_, needs-block, no-block-free, refusal}
+use Rattle.rules.specs.Step.{serve, act, step}
+use Rattle.rules.specs.Runs.{Input, run}
+use Rattle.laws.proofs.Words.{Wanted, TrapKind, Trapped, Manager, Unset, Set, Gone, MessageKind, Ordinary, Notice, Message, Held, Oneself, Named, Send, Receive, CreateBrother, CreateSon, Terminate, SetManager, GetCpuTime, WaitForClock, WaitForIo, Trap, Event, Malformed, ByRunner, Tick, Interrupt}
+use Rattle.laws.proofs.Tests.{by-if, and-true, and-false}
+use Rattle.laws.proofs.Counting.{count-add, count-same, count-zero, count-keep, count-insert, not-any}
+use Rattle.laws.proofs.Refusals.{call-is, is-send, block-needed, lacks-block, the-ten, accepted-exactly}
+use Rattle.laws.proofs.Counts.{for-runner, if-accepted, over-run, by-step, by-dispatch}
+
+-- ---- general
+
+-- what is pulled out is missing from the list
+unfoldable pub pulled-out : {A : Type 0} → (A → Bool) → Pulled A → ℕ
+pulled-out p missing = 0
+pulled-out p (pulled x xs) = one-if (p x)
+
+unfoldable pub left-in : {A : Type 0} → List A → Pulled A → List A
+left-in xs missing = xs
+left-in xs (pulled y ys) = ys
+
+pub count-pull : {A : Type 0} (p q : A → Bool) (xs : List A) → count p (left-in xs (pull q xs)) + pulled-out p (pull q xs) ≡ count p xs
+unfolding count pull behind pulled-out left-in
+count-pull p q [] = refl
+count-pull p q (x ∷ xs) = go (q x) (pull q xs) (count-pull p q xs)
+  where
+    go : (b : Bool) (r : Pulled _) → count p (left-in xs r) + pulled-out p r ≡ count p xs → count p (left-in (x ∷ xs) (if b then pulled x xs else behind x r)) + pulled-out p (if b then pulled x xs else behind x r) ≡ one-if (p x) + count p xs
+    go true r later = omega arith
+    go false missing later = omega arith
+    go false (pulled y ys) later = omega arith
+
+-- ---- what an accepted event does to ordinary messages
+
+-- queued: a send that is no decision, and whose receiver does not wait for it
+unfoldable pub queued-by : Tables → Event → ℕ
+queued-by T e = one-if (block-needed T e)
+
+unfoldable pub is-receive : (Wanted → Bool) → Event → Bool
+is-receive f e = call-is (λ to w. false) f false false (λ n. false) (λ n. false) (λ d. false) e
+
+-- is the message or notice that is handed over, if there is one, an ordinary message?
+unfoldable pub is-message : Pulled Message → Bool
+is-message missing = false
+is-message (pulled m ms) = is-ordinary (m .kind)
+
+-- received: a receive that hands an ordinary message over
+unfoldable pub received-by : Tables → Event → ℕ
+received-by T e = one-if (is-receive (λ w. is-message (pull (wanted-by (me (T .runner)) w) (T .messages))) e)
+
+-- the entry of kind k of thread n
+abbrev pub entry-of : TrapKind → ℕ → Tables → Manager
+entry-of k n T = of-thread Unset (λ t. manager k (t .managers)) n (T .threads)
+
+unfoldable pub is-unset : Manager → Bool
+is-unset Unset = true
+is-unset (Set n) = false
+is-unset Gone = false
+
+-- the set that an event ends: a decision 1, TERMINATE, a manager set again, a trap without a manager
+unfoldable pub ends : Tables → Event → List ℕ
+ends T Malformed = []
+ends T (ByRunner (Send to w)) = if decides (me (T .runner)) to T && not (w == 0) then ended-set (T .threads) to else []
+ends T (ByRunner (Receive w)) = []
+ends T (ByRunner CreateBrother) = []
+ends T (ByRunner CreateSon) = []
+ends T (ByRunner (Terminate Oneself)) = ended-set (T .threads) (me (T .runner))
+ends T (ByRunner (Terminate (Named n))) = ended-set (T .threads) n
+ends T (ByRunner (SetManager k n)) = if is-unset (entry-of k (me (T .runner)) T) then [] else ended-set (T .threads) (me (T .runner))
+ends T (ByRunner GetCpuTime) = []
+ends T (ByRunner WaitForClock) = []
+ends T (ByRunner (WaitForIo d)) = []
+ends T (ByRunner (Trap k c)) = by-manager (ended-set (T .threads) (me (T .runner))) (λ n. []) (entry-of k (me (T .runner)) T)
+ends T Tick = []
+ends T (Interrupt d w) = []
+
+-- ordinary messages to or from members of a set
+unfoldable pub of-set : List ℕ → Tables → ℕ
+of-set set T = count (λ m. is-ordinary (m .kind) && (has (m .to) set || has (m .from) set)) (T .messages)
+
+-- discarded: those to or from members of the ended set
+unfoldable pub discarded-by : Tables → Event → ℕ
+discarded-by T e = of-set (ends T e) T
+
+-- ---- the account of one event
+
+-- U is T with q ordinary messages queued, r received and those of a set discarded
+abbrev Balance : Tables → ℕ → ℕ → List ℕ → Tables → Type 0
+Balance T q r set U = blocks-used U + r + of-set set T ≡ blocks-used T + q
+
+no-set : (T : Tables) → of-set [] T ≡ 0
+unfolding any of-set
+no-set T = count-zero _ (T .messages) (λ m. and-false (is-ordinary (m .kind)))
+
+-- nothing happens to ordinary messages
+even : (T : Tables) {x : ℕ} → x ≡ blocks-used T → x + 0 + of-set [] T ≡ blocks-used T + 0
+even T e = omega (arith, no-set T)
+
+end-balance : (n : ℕ) (T : Tables) → Balance T 0 0 (ended-set (T .threads) n) (end n T)
+unfolding end release remove wake-those of-set
+end-balance n T = omega (arith, count-keep (λ m. is-ordinary (m .kind)) (λ m. not (out m)) (T .messages), count-add (λ m. is-ordinary (m .kind)) (λ m. not (out m) && is-ordinary (m .kind)) (λ m. is-ordinary (m .kind) && out m) (T .messages) (λ m. split (out m) (is-ordinary (m .kind))))
+  where
+    out : Message → Bool
+    out m = has (m .to) (ended-set (T .threads) n) || has (m .from) (ended-set (T .threads) n)
+
+    split : (g p : Bool) → one-if p ≡ one-if (not g && p) + one-if (p && g)
+    split true true = refl
+    split true false = refl
+    split false true = refl
+    split false false = refl
+
+-- an ordinary message that nobody waits for is queued
+deliver-balance : (m : Message) (T : Tables) → Balance T (one-if (is-ordinary (m .kind) && not (any (accepts m) (T .threads)))) 0 [] (deliver m T)
+unfolding deliver queue wake-those
+deliver-balance m T = go (any (accepts m) (T .threads)) refl
+  where
+    go : (b : Bool) → any (accepts m) (T .threads) ≡ b → Balance T (one-if (is-ordinary (m .kind) && not (any (accepts m) (T .threads)))) 0 [] (deliver m T)
+    go true e = rw e (rw (and-false (is-ordinary (m .kind))) (even T refl))
+    go false e = rw e (rw (and-true (is-ordinary (m .kind))) (omega (arith, no-set T, count-insert (λ x. is-ordinary (x .kind)) (λ x. leb (x .to) (m .to)) m (T .messages))))
+
+send-balance : (m to w : ℕ) (T : Tables) → Balance T (one-if (needs-block m to w T)) 0 (if decides m to T && not (w == 0) then ended-set (T .threads) to else []) (send m to w T)
+unfolding send decide is-ordinary wake-those
+send-balance m to w T = go (decides m to T) refl w
+  where
+    -- a notice is no ordinary message
+    apart : (x : Message) → (not (notice-of to x) && is-ordinary (x .kind)) ≡ is-ordinary (x .kind)
+    apart x = kind (x .kind)
+      where
+        kind : (k : MessageKind) → (not (not (is-ordinary k) && x .from == to) && is-ordinary k) ≡ is-ordinary k
+        kind Ordinary = refl
+        kind Notice = and-false (not (x .from == to))
+
+    go : (b : Bool) → decides m to T ≡ b → (w : ℕ) → Balance T (one-if (needs-block m to w T)) 0 (if decides m to T && not (w == 0) then ended-set (T .threads) to else []) (send m to w T)
+    go true d zero = rw d (even T (count-keep (λ x. is-ordinary (x .kind)) (λ x. not (notice-of to x)) (T .messages) ∙ count-same _ _ (T .messages) apart))
+    go true d (suc w) = rw (d, ne-eqb (suc w) 0 (λ e. omega arith)) (end-balance to T)
+    go false d w = rw d (deliver-balance (message to m w) T)
+
+receive-balance : (m : ℕ) (w : Wanted) (T : Tables) → Balance T 0 (one-if (is-message (pull (wanted-by m w) (T .messages)))) [] (receive m w T .tables)
+unfolding receive
+receive-balance m w T = go (pull (wanted-by m w) (T .messages)) (count-pull (λ x. is-ordinary (x .kind)) (wanted-by m w) (T .messages))
+  where
+    go : (x : Pulled Message) → count (λ y. is-ordinary (y .kind)) (left-in (T .messages) x) + pulled-out (λ y. is-ordinary (y .kind)) x ≡ blocks-used T → Balance T 0 (one-if (is-message x)) [] (received m w T x .tables)
+    go missing e = unfold received is-message stop change in even T refl
+    go (pulled y ys) e = unfold received is-message left-in pulled-out in omega (arith, no-set T, e)
+
+trap-balance : (m : ℕ) (k : TrapKind) (c : ℕ) (T : Tables) → Balance T 0 0 (by-manager (ended-set (T .threads) m) (λ n. []) (entry-of k m T)) (trap m k c T)
+unfolding trap is-ordinary
+trap-balance m k c T = go (entry-of k m T)
+  where
+    go : (g : Manager) → Balance T 0 0 (by-manager (ended-set (T .threads) m) (λ n. []) g) (by-manager (end m T) (λ n. deliver (notice n m c) (stop m (Trapped k) T)) g)
+    go Unset = end-balance m T
+    go (Set n) = even T (delivered ∙ unfold stop change in refl)
+      where
+        delivered : blocks-used (deliver (notice n m c) (stop m (Trapped k) T)) ≡ blocks-used (stop m (Trapped k) T)
+        delivered = omega (arith, deliver-balance (notice n m c) (stop m (Trapped k) T), no-set (stop m (Trapped k) T))
+    go Gone = end-balance m T
+
+tick-messages : (T : Tables) → tick T .messages ≡ T .messages
+unfolding tick
+tick-messages T = turned (beat (charge T)) ∙ beaten (charge T) ∙ charged T
+  where
+    charged : (U : Tables) → charge U .messages ≡ U .messages
+    charged U = unfold charge change in for-runner (λ (W : Tables). W .messages ≡ U .messages) (U .runner) refl (λ n s. refl)
+
+    beaten : (U : Tables) → beat U .messages ≡ U .messages
+    beaten U = unfold beat wake-those in by-if (λ (W : Tables). W .messages ≡ U .messages) (U .since + 1 == beat-ticks) (λ _. refl) (λ _. refl)
+
+    turned : (U : Tables) → rotate U .messages ≡ U .messages
+    turned U = unfold rotate wake-those in for-runner (λ (W : Tables). W .messages ≡ U .messages) (U .runner) refl (λ n s. by-if (λ (W : Tables). W .messages ≡ U .messages) (s == 0) (λ _. refl) (λ _. refl))
+
+act-balance : (T : Tables) (e : Event) → Balance T (queued-by T e) (received-by T e) (ends T e) (act T e .tables)
+unfolding act serve queued-by received-by ends block-needed call-is is-send is-receive
+act-balance T Malformed = even T refl
+act-balance T (ByRunner (Send to w)) = send-balance (me (T .runner)) to w T
+act-balance T (ByRunner (Receive w)) = receive-balance (me (T .runner)) w T
+act-balance T (ByRunner CreateBrother) = even T (unfold create in refl)
+act-balance T (ByRunner CreateSon) = even T (unfold create in refl)
+act-balance T (ByRunner (Terminate Oneself)) = unfold terminate in end-balance (me (T .runner)) T
+act-balance T (ByRunner (Terminate (Named n))) = unfold terminate in end-balance n T
+act-balance T (ByRunner (SetManager k n)) = go (me (T .runner)) (entry-of k (me (T .runner)) T)
+  where
+    go : (m : ℕ) (g : Manager) → Balance T 0 0 (if is-unset g then [] else ended-set (T .threads) m) (set-over g m k n T .tables)
+    go m Unset = unfold set-over change is-unset in even T refl
+    go m (Set x) = unfold set-over is-unset in end-balance m T
+    go m Gone = unfold set-over is-unset in end-balance m T
+act-balance T (ByRunner GetCpuTime) = even T refl
+act-balance T (ByRunner WaitForClock) = even T (unfold wait-for-clock stop change in refl)
+act-balance T (ByRunner (WaitForIo d)) = even T (go (pull (held-for d) (T .held)))
+  where
+    go : (x : Pulled Held) → blocks-used (take-held (me (T .runner)) d T x .tables) ≡ blocks-used T
+    go missing = unfold take-held stop change in refl
+    go (pulled h hs) = unfold take-held in refl
+act-balance T (ByRunner (Trap k c)) = trap-balance (me (T .runner)) k c T
+act-balance T Tick = even T (ap (count (λ m. is-ordinary (m .kind))) (tick-messages T))
+act-balance T (Interrupt d w) = even T (unfold interrupt wake-those in by-if (λ (U : Tables). blocks-used U ≡ blocks-used T) (any (waits-for d) (T .threads)) (λ _. refl) (λ _. refl))
+
+-- ---- steps and runs
+
+-- an accepted event finds a block free if it needs one
+block-free : (L : Limits) (T : Tables) (e : Event) → refusal L T e ≡ 0 → blocks-used T ≤ L .blocks → blocks-used T + queued-by T e ≤ L .blocks
+unfolding queued-by lacks-block the-ten
+block-free L T e a h = go (block-needed T e) (no-block-free L T) refl (not-any (λ r. r .holds) (the-ten L T e) (lacks-block L T e refuses 5) (accepted-exactly L T e .0 a) (List·Memᴰ·tail (List·Memᴰ·tail (List·Memᴰ·tail (List·Memᴰ·tail (List·Memᴰ·tail (List·Memᴰ·head refl)))))))
+  where
+    go : (b c : Bool) → no-block-free L T ≡ c → (b && c) ≡ false → blocks-used T + one-if b ≤ L .blocks
+    go false c e k = omega arith
+    go true true e k = absurd (true≢false k)
+    go true false e k = omega (arith, leb-false (L .blocks) (blocks-used T) e)
+
+-- the account of a step, and that the blocks suffice
+record Accounted (L : Limits) (T U : Tables) (q r d : ℕ) : Type 0 where
+  balance : blocks-used U + r + d ≡ blocks-used T + q
+  suffice : blocks-used T ≤ L .blocks → blocks-used U ≤ L .blocks
+
+stepped : (L : Limits) (T : Tables) (bytes : List ℕ) → Accounted L T (step L T bytes .tables) (if-accepted queued-by L T bytes) (if-accepted received-by L T bytes) (if-accepted discarded-by L T bytes)
+stepped L T bytes =
+    by-step (λ (U : Tables) (b : Bool). Accounted L T U (if b then queued-by T e else 0) (if b then received-by T e else 0) (if b then discarded-by T e else 0)) L T bytes
+    (record { balance = omega arith; suffice = λ h. h })
+    (λ a. by-dispatch (λ (U : Tables). Accounted L T U (queued-by T e) (received-by T e) (discarded-by T e)) (act T e) (acted a) (λ n ns. unfold change in record { balance = acted a .balance; suffice = acted a .suffice }))
+  where
+    e : Event
+    e = decode bytes
+
+    acted : refusal L T e ≡ 0 → Accounted L T (act T e .tables) (queued-by T e) (received-by T e) (discarded-by T e)
+    acted a = unfold discarded-by in record { balance = act-balance T e; suffice = λ h. omega (arith, act-balance T e, block-free L T e a h) }
+
+abbrev pub queued-in : Limits → Tables → Input → ℕ
+queued-in L T es = over-run queued-by L T es
+
+abbrev pub received-in : Limits → Tables → Input → ℕ
+received-in L T es = over-run received-by L T es
+
+abbrev pub discarded-in : Limits → Tables → Input → ℕ
+discarded-in L T es = over-run discarded-by L T es
+
+-- ---- the laws
+
+-- Over any run: what was there and what is queued are what is received, what is discarded and what is there at the end.
+pub blocks-balance : (L : Limits) (T : Tables) (es : Input) → blocks-used T + queued-in L T es ≡ received-in L T es + discarded-in L T es + blocks-used (run L T es)
+unfolding run over-run
+blocks-balance L T [] = omega arith
+blocks-balance L T (e ∷ es) = omega (arith, stepped L T e .balance, blocks-balance L (step L T e .tables) es)
+
+-- No run uses more blocks than there are.
+pub blocks-suffice : (L : Limits) (T : Tables) (es : Input) → blocks-used T ≤ L .blocks → blocks-used (run L T es) ≤ L .blocks
+unfolding run
+blocks-suffice L T [] h = h
+blocks-suffice L T (e ∷ es) h = blocks-suffice L (step L T e .tables) es (stepped L T e .suffice h)
+
+-- the free blocks: the limit less the ordinary messages in inboxes
+abbrev pub blocks-free : Limits → Tables → ℕ
+blocks-free L T = L .blocks - blocks-used T
+
+-- A needed block is refused exactly if none is free.
+pub refused-without-block : (L : Limits) (T : Tables) → (no-block-free L T ≡ true) ↔ (blocks-free L T ≡ 0)
+refused-without-block L T = (λ e. omega (arith, leb-true (L .blocks) (blocks-used T) e), λ e. le-leb (L .blocks) (blocks-used T) (omega arith))
+
+-- From a start: ordinary messages queued are those received from inboxes, those discarded and those in inboxes now; at most as many as there are blocks are there, and the others are free.
+pub blocks-accounted : (L : Limits) (es : Input) →
+    (queued-in L start es ≡ received-in L start es + discarded-in L start es + blocks-used (run L start es))
+    × (blocks-used (run L start es) ≤ L .blocks)
+    × (blocks-used (run L start es) + blocks-free L (run L start es) ≡ L .blocks)
+unfolding count
+blocks-accounted L es = let h : blocks-used (run L start es) ≤ L .blocks = blocks-suffice L start es (omega arith) in (omega (arith, blocks-balance L start es), h, omega arith)

@@ -1,0 +1,257 @@
+-- Law 2, refusals: each number is given exactly when document 01 says, in its order, and a refused event changes nothing.
+-- Assumes nothing.
+use Prim.Native.Nat.{ℕ, zero, suc}
+use mathlib.Core.Path.{_≡_, refl, sym, ap, _∙_}
+use mathlib.Core.Logic.{_↔_, _≢_, ⊎-elim}
+use mathlib.Core.Bool.{Bool, true, false, _&&_, _||_, not, true≢false, false≢true}
+use mathlib.Core.List.{List, [], _∷_, map, List·Memᴰ, List·Memᴰ·head, List·Memᴰ·tail}
+use native.Mathlib.Omega.{arith}
+use lib.Dec.{ltb}
+use borrow.Author.Tests.{eq-eqb}
+use Rattle.rules.specs.Lists.{if_then_else_, _==_, all, any, has}
+use Rattle.rules.specs.Numbers.{Limits}
+use Rattle.rules.specs.Tables.{Tables, live, runs, me}
+use Rattle.rules.specs.States.{waits-for}
+use Rattle.rules.specs.Send.{decides}
+use Rattle.rules.specs.Dispatch.{status}
+use Rattle.rules.specs.Events.{decode}
+use Rattle.rules.specs.Codes.{status-code}
+use Rattle.rules.specs.Refusals.{Rule, _refuses_, first-of, over, is-malformed, needs-runner, wants-nobody, ends-nobody, needs-block, no-block-free, no-thread-free, call-rules, own-rules, refusal}
+use Rattle.rules.specs.Step.{settle, step}
+use Rattle.laws.proofs.Words.{Nothing, Wanted, Target, Send, Receive, CreateBrother, CreateSon, Terminate, SetManager, GetCpuTime, WaitForClock, WaitForIo, Trap, Event, Malformed, ByRunner, Tick, Interrupt}
+use Rattle.laws.proofs.Tests.{by-if, same?, and-left, and-right, not-true}
+use Rattle.laws.proofs.Counting.{member-any}
+
+-- ---- any list of rules
+
+-- the test of number n
+unfoldable pub test-of : ℕ → List Rule → Bool
+test-of n [] = false
+test-of n (r ∷ rs) = if r .number == n then r .holds else test-of n rs
+
+-- does a rule before number n hold?
+unfoldable pub before : ℕ → List Rule → Bool
+before n [] = false
+before n (r ∷ rs) = if r .number == n then false else r .holds || before n rs
+
+-- n is the number of one rule
+unfoldable pub stands-once : ℕ → List Rule → Bool
+stands-once n [] = false
+stands-once n (r ∷ rs) = if r .number == n then not (has n (map (λ s. s .number) rs)) else stands-once n rs
+
+-- the number given is one of the list's, or 0
+first-listed : (rs : List Rule) → List·Memᴰ (first-of rs) (0 ∷ map (λ r. r .number) rs)
+unfolding first-of
+first-listed [] = List·Memᴰ·head refl
+first-listed (r ∷ rs) = by-if (λ (n : ℕ). List·Memᴰ n (0 ∷ map (λ s. s .number) (r ∷ rs))) (r .holds) (λ _. List·Memᴰ·tail (List·Memᴰ·head refl)) (λ _. later (first-listed rs))
+  where
+    later : {n : ℕ} → List·Memᴰ n (0 ∷ map (λ s. s .number) rs) → List·Memᴰ n (0 ∷ map (λ s. s .number) (r ∷ rs))
+    later (List·Memᴰ·head e) = List·Memᴰ·head e
+    later (List·Memᴰ·tail m) = List·Memᴰ·tail (List·Memᴰ·tail m)
+
+-- a number that no rule has is not given
+never-given : (n : ℕ) (rs : List Rule) → n ≢ 0 → has n (map (λ r. r .number) rs) ≡ false → first-of rs ≢ n
+never-given n rs z h e = go (first-listed rs)
+  where
+    go : List·Memᴰ (first-of rs) (0 ∷ map (λ r. r .number) rs) → ⊥
+    go (List·Memᴰ·head k) = z (sym e ∙ k)
+    go (List·Memᴰ·tail m) = true≢false (sym (member-any (λ k. n == k) _ (first-of rs) m (eq-eqb n (first-of rs) (sym e))) ∙ h)
+
+-- A number that stands once is given exactly if its test holds and no test before it does.
+pub first-exactly : (n : ℕ) (rs : List Rule) → n ≢ 0 → stands-once n rs ≡ true → (first-of rs ≡ n) ↔ ((test-of n rs ≡ true) × (before n rs ≡ false))
+unfolding first-of test-of before stands-once
+first-exactly n [] z o = absurd (false≢true o)
+first-exactly n (r ∷ rs) z o = ⊎-elim (λ e. rw (e .1) (here (r .holds) (e .0) (rw (e .1) at o))) (λ e. rw (e .1) (there (r .holds) (e .0) (first-exactly n rs z (rw (e .1) at o)))) (same? (r .number) n)
+  where
+    here : (b : Bool) → r .number ≡ n → not (has n (map (λ s. s .number) rs)) ≡ true → ((if b then r .number else first-of rs) ≡ n) ↔ ((b ≡ true) × (false ≡ false))
+    here true e k = (λ _. (refl, refl), λ _. e)
+    here false e k = (λ g. absurd (never-given n rs z (not-true _ k) g), λ x. absurd (false≢true (x .0)))
+
+    there : (b : Bool) → r .number ≢ n → (first-of rs ≡ n) ↔ ((test-of n rs ≡ true) × (before n rs ≡ false)) → ((if b then r .number else first-of rs) ≡ n) ↔ ((test-of n rs ≡ true) × ((b || before n rs) ≡ false))
+    there true d later = (λ g. absurd (d g), λ x. absurd (true≢false (x .1)))
+    there false d later = later
+
+-- None is given exactly if no test holds.
+pub none-exactly : (rs : List Rule) → all (λ r. not (r .number == 0)) rs ≡ true → (first-of rs ≡ 0) ↔ (any (λ r. r .holds) rs ≡ false)
+unfolding first-of any all
+none-exactly [] o = (λ _. refl, λ _. refl)
+none-exactly (r ∷ rs) o = go (r .holds) (none-exactly rs (and-right (not (r .number == 0)) _ o))
+  where
+    go : (b : Bool) → (first-of rs ≡ 0) ↔ (any (λ s. s .holds) rs ≡ false) → ((if b then r .number else first-of rs) ≡ 0) ↔ ((b || any (λ s. s .holds) rs) ≡ false)
+    go true later = (λ g. absurd (false≢true (sym (ap not (eq-eqb (r .number) 0 g)) ∙ and-left _ _ o)), λ x. absurd (true≢false x))
+    go false later = later
+
+-- ---- the ten tests in the document's words
+
+-- of a call that can be refused for what it asks, what is said of its kind; of all else "no"
+unfoldable pub call-is : (ℕ → ℕ → Bool) → (Wanted → Bool) → Bool → Bool → (Target → Bool) → (ℕ → Bool) → (ℕ → Bool) → Event → Bool
+call-is send receive brother son terminate set-manager io Malformed = false
+call-is send receive brother son terminate set-manager io (ByRunner (Send to w)) = send to w
+call-is send receive brother son terminate set-manager io (ByRunner (Receive w)) = receive w
+call-is send receive brother son terminate set-manager io (ByRunner CreateBrother) = brother
+call-is send receive brother son terminate set-manager io (ByRunner CreateSon) = son
+call-is send receive brother son terminate set-manager io (ByRunner (Terminate n)) = terminate n
+call-is send receive brother son terminate set-manager io (ByRunner (SetManager k n)) = set-manager n
+call-is send receive brother son terminate set-manager io (ByRunner GetCpuTime) = false
+call-is send receive brother son terminate set-manager io (ByRunner WaitForClock) = false
+call-is send receive brother son terminate set-manager io (ByRunner (WaitForIo d)) = io d
+call-is send receive brother son terminate set-manager io (ByRunner (Trap k c)) = false
+call-is send receive brother son terminate set-manager io Tick = false
+call-is send receive brother son terminate set-manager io (Interrupt d w) = false
+
+-- a send of which f holds: receiver, word
+unfoldable pub is-send : (ℕ → ℕ → Bool) → Event → Bool
+is-send f e = call-is f (λ w. false) false false (λ n. false) (λ n. false) (λ d. false) e
+
+-- 1: "an event comes when halted or panicked"
+abbrev pub comes-too-late : Tables → Bool
+comes-too-late T = over (status T)
+
+-- 3: "a runner is needed and there is none"
+abbrev pub lacks-runner : Tables → Event → Bool
+lacks-runner T e = needs-runner e && not (runs (T .runner))
+
+-- 4: "the name (send, receive, 3 to 6) is no live thread's, 255 in receive and in request 3 excepted"
+unfoldable pub names-nobody : Tables → Event → Bool
+names-nobody T e = call-is (λ to w. not (live to T)) (wants-nobody T) false false (ends-nobody T) (λ n. not (live n T)) (λ d. false) e
+
+-- 9: "a decision other than 0 or 1"
+unfoldable pub decides-wrongly : Tables → Event → Bool
+decides-wrongly T e = is-send (λ to w. decides (me (T .runner)) to T && ltb 1 w) e
+
+-- 5: "a block is needed and none is free"
+unfoldable pub block-needed : Tables → Event → Bool
+block-needed T e = is-send (λ to w. needs-block (me (T .runner)) to w T) e
+
+unfoldable pub lacks-block : Limits → Tables → Event → Bool
+lacks-block L T e = block-needed T e && no-block-free L T
+
+-- 7: "brother of thread 0"
+unfoldable pub is-brother-of-0 : Tables → Event → Bool
+is-brother-of-0 T e = call-is (λ to w. false) (λ w. false) true false (λ n. false) (λ n. false) (λ d. false) e && me (T .runner) == 0
+
+-- 6: "no thread block is free", for a brother or a son
+unfoldable pub lacks-thread : Limits → Tables → Event → Bool
+lacks-thread L T e = call-is (λ to w. false) (λ w. false) true true (λ n. false) (λ n. false) (λ d. false) e && no-thread-free L T
+
+-- 10: "own name as manager"
+unfoldable pub manages-itself : Tables → Event → Bool
+manages-itself T e = call-is (λ to w. false) (λ w. false) false false (λ n. false) (λ n. n == me (T .runner)) (λ d. false) e
+
+-- 8: "another thread waits for that device"
+unfoldable pub device-is-taken : Tables → Event → Bool
+device-is-taken T e = call-is (λ to w. false) (λ w. false) false false (λ n. false) (λ n. false) (λ d. any (waits-for d) (T .threads)) e
+
+-- in the document's order
+unfoldable pub the-ten : Limits → Tables → Event → List Rule
+the-ten L T e =
+    (comes-too-late T refuses 1)
+    ∷ (is-malformed e refuses 2)
+    ∷ (lacks-runner T e refuses 3)
+    ∷ (names-nobody T e refuses 4)
+    ∷ (decides-wrongly T e refuses 9)
+    ∷ (lacks-block L T e refuses 5)
+    ∷ (is-brother-of-0 T e refuses 7)
+    ∷ (lacks-thread L T e refuses 6)
+    ∷ (manages-itself T e refuses 10)
+    ∷ (device-is-taken T e refuses 8)
+    ∷ []
+
+-- The refusal is the number of the first of the ten that holds.
+pub refused-exactly : (L : Limits) (T : Tables) (e : Event) → refusal L T e ≡ first-of (the-ten L T e)
+unfolding refusal first-of own-rules call-rules the-ten call-is is-send names-nobody decides-wrongly block-needed lacks-block is-brother-of-0 lacks-thread manages-itself device-is-taken
+refused-exactly L T Malformed = refl
+refused-exactly L T (ByRunner (Send to w)) = refl
+refused-exactly L T (ByRunner (Receive w)) = refl
+refused-exactly L T (ByRunner CreateBrother) = refl
+refused-exactly L T (ByRunner CreateSon) = refl
+refused-exactly L T (ByRunner (Terminate n)) = refl
+refused-exactly L T (ByRunner (SetManager k n)) = refl
+refused-exactly L T (ByRunner GetCpuTime) = refl
+refused-exactly L T (ByRunner WaitForClock) = refl
+refused-exactly L T (ByRunner (WaitForIo d)) = refl
+refused-exactly L T (ByRunner (Trap k c)) = refl
+refused-exactly L T Tick = refl
+refused-exactly L T (Interrupt d w) = refl
+
+-- ---- each number
+
+module _ (L : Limits) (T : Tables) (e : Event) where
+  exactly : (n : ℕ) → n ≢ 0 → stands-once n (the-ten L T e) ≡ true → (refusal L T e ≡ n) ↔ ((test-of n (the-ten L T e) ≡ true) × (before n (the-ten L T e) ≡ false))
+  exactly n z o = rw (refused-exactly L T e) (first-exactly n (the-ten L T e) z o)
+
+  -- Each number is given exactly if its test holds and no test before it in the list of ten does.
+
+  pub refused-1 : (refusal L T e ≡ 1) ↔ ((comes-too-late T ≡ true) × (before 1 (the-ten L T e) ≡ false))
+  unfolding stands-once test-of the-ten any
+  refused-1 = exactly 1 (λ z. omega arith) refl
+
+  pub refused-2 : (refusal L T e ≡ 2) ↔ ((is-malformed e ≡ true) × (before 2 (the-ten L T e) ≡ false))
+  unfolding stands-once test-of the-ten any
+  refused-2 = exactly 2 (λ z. omega arith) refl
+
+  pub refused-3 : (refusal L T e ≡ 3) ↔ ((lacks-runner T e ≡ true) × (before 3 (the-ten L T e) ≡ false))
+  unfolding stands-once test-of the-ten any
+  refused-3 = exactly 3 (λ z. omega arith) refl
+
+  pub refused-4 : (refusal L T e ≡ 4) ↔ ((names-nobody T e ≡ true) × (before 4 (the-ten L T e) ≡ false))
+  unfolding stands-once test-of the-ten any
+  refused-4 = exactly 4 (λ z. omega arith) refl
+
+  pub refused-9 : (refusal L T e ≡ 9) ↔ ((decides-wrongly T e ≡ true) × (before 9 (the-ten L T e) ≡ false))
+  unfolding stands-once test-of the-ten any
+  refused-9 = exactly 9 (λ z. omega arith) refl
+
+  pub refused-5 : (refusal L T e ≡ 5) ↔ ((lacks-block L T e ≡ true) × (before 5 (the-ten L T e) ≡ false))
+  unfolding stands-once test-of the-ten any
+  refused-5 = exactly 5 (λ z. omega arith) refl
+
+  pub refused-7 : (refusal L T e ≡ 7) ↔ ((is-brother-of-0 T e ≡ true) × (before 7 (the-ten L T e) ≡ false))
+  unfolding stands-once test-of the-ten any
+  refused-7 = exactly 7 (λ z. omega arith) refl
+
+  pub refused-6 : (refusal L T e ≡ 6) ↔ ((lacks-thread L T e ≡ true) × (before 6 (the-ten L T e) ≡ false))
+  unfolding stands-once test-of the-ten any
+  refused-6 = exactly 6 (λ z. omega arith) refl
+
+  pub refused-10 : (refusal L T e ≡ 10) ↔ ((manages-itself T e ≡ true) × (before 10 (the-ten L T e) ≡ false))
+  unfolding stands-once test-of the-ten any
+  refused-10 = exactly 10 (λ z. omega arith) refl
+
+  pub refused-8 : (refusal L T e ≡ 8) ↔ ((device-is-taken T e ≡ true) × (before 8 (the-ten L T e) ≡ false))
+  unfolding stands-once test-of the-ten any
+  refused-8 = exactly 8 (λ z. omega arith) refl
+
+  -- An event is accepted exactly if none of the ten holds.
+  pub accepted-exactly : (refusal L T e ≡ 0) ↔ (any (λ r. r .holds) (the-ten L T e) ≡ false)
+  accepted-exactly = rw (refused-exactly L T e) (none-exactly (the-ten L T e) (unfold the-ten all in refl))
+
+  -- No other number is given.
+  pub refusals-are-listed : List·Memᴰ (refusal L T e) (0 ∷ 1 ∷ 2 ∷ 3 ∷ 4 ∷ 9 ∷ 5 ∷ 7 ∷ 6 ∷ 10 ∷ 8 ∷ [])
+  refusals-are-listed = rw (refused-exactly L T e) (unfold the-ten in first-listed (the-ten L T e))
+
+-- ---- what a step does with it
+
+module _ (L : Limits) (T : Tables) (bytes : List ℕ) where
+  -- The decision gives the number, and 0 for an accepted event.
+  pub decision-gives-it : step L T bytes .decision .refusal ≡ refusal L T (decode bytes)
+  unfolding step
+  decision-gives-it = go (refusal L T (decode bytes))
+    where
+      go : (r : ℕ) → settle r T (decode bytes) .decision .refusal ≡ r
+      go zero = unfold settle in refl
+      go (suc r) = unfold settle in refl
+
+  pub accepted-gives-0 : refusal L T (decode bytes) ≡ 0 → step L T bytes .decision .refusal ≡ 0
+  accepted-gives-0 h = decision-gives-it ∙ h
+
+  -- "A refused event returns the number, status and runner as they stand and no answer"; the tables stay as they are.
+  pub refused-changes-nothing : refusal L T (decode bytes) ≢ 0 →
+      (step L T bytes .tables ≡ T)
+      × (step L T bytes .decision ≡ record { refusal = refusal L T (decode bytes); status = status-code (status T); runner = me (T .runner); answer = Nothing })
+  unfolding step
+  refused-changes-nothing = go (refusal L T (decode bytes))
+    where
+      go : (r : ℕ) → r ≢ 0 → (settle r T (decode bytes) .tables ≡ T) × (settle r T (decode bytes) .decision ≡ record { refusal = r; status = status-code (status T); runner = me (T .runner); answer = Nothing })
+      go zero h = absurd (h refl)
+      go (suc r) h = unfold settle in (refl, refl)
