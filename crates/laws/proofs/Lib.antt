@@ -29,3 +29,5 @@ pub mod Refusals
 pub mod Determinacy
 pub mod Counts
 pub mod Blocks
+pub mod Passing
+pub mod Late
