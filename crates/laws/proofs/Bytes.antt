@@ -1,13 +1,15 @@
--- Big-endian numbers: two and four bytes are bytes, and give back the number that they were made of.
+-- Big-endian numbers: two and four bytes are bytes, give back the number that they were made of, and make no larger one than they can.
 -- Assumes nothing.
-use Prim.Native.Nat.{ℕ, _+_, _*_, _/_, _%_, _<_}
-use mathlib.Core.Path.{_≡_, refl}
+use Prim.Native.Nat.{ℕ, _+_, _*_, _/_, _%_, _≤_, _<_}
+use mathlib.Core.Path.{_≡_, refl, ap}
 use mathlib.Core.Bool.{true}
+use mathlib.Core.List.{List, [], _∷_, _++_}
 use native.Mathlib.Omega.{arith}
-use borrow.Author.Tests.{lt-ltb}
+use lib.ListN.{length}
+use borrow.Author.Tests.{ltb-true, lt-ltb}
 use Rattle.rules.specs.Lists.{all, is-byte, number-from, number, two-bytes, four-bytes}
 use Rattle.rules.specs.Numbers.{wrap}
-use Rattle.laws.proofs.Tests.{_&_}
+use Rattle.laws.proofs.Tests.{and-left, and-right, _&_}
 
 rest-is-byte : (n : ℕ) → is-byte (n % 256) ≡ true
 rest-is-byte n = lt-ltb (n % 256) 256 (omega arith)
@@ -28,3 +30,25 @@ two-back n h = omega arith
 pub four-back : (n : ℕ) → n < wrap → number (four-bytes n) ≡ n
 unfolding number-from
 four-back n h = omega arith
+
+-- behind a number a, four bytes say a number of a with 32 bits more
+pub four-number : (a n : ℕ) (bs : List ℕ) → number-from a (four-bytes n ++ bs) ≡ number-from (a * wrap + n % wrap) bs
+unfolding number-from
+four-number a n bs = ap (λ (x : ℕ). number-from x bs) (omega arith)
+
+-- Four bytes or fewer say a number below 2^32.
+pub number-below : (bs : List ℕ) → all is-byte bs ≡ true → length bs ≤ 4 → number bs < wrap
+unfolding all number-from
+number-below [] h l = omega arith
+number-below (a ∷ []) h l = omega (arith, ltb-true a 256 (and-left (is-byte a) _ h))
+number-below (a ∷ b ∷ []) h l = let i = and-right (is-byte a) _ h in omega (arith, ltb-true a 256 (and-left (is-byte a) _ h), ltb-true b 256 (and-left (is-byte b) _ i))
+number-below (a ∷ b ∷ c ∷ []) h l =
+    let i = and-right (is-byte a) _ h in
+    let j = and-right (is-byte b) _ i in
+    omega (arith, ltb-true a 256 (and-left (is-byte a) _ h), ltb-true b 256 (and-left (is-byte b) _ i), ltb-true c 256 (and-left (is-byte c) _ j))
+number-below (a ∷ b ∷ c ∷ d ∷ []) h l =
+    let i = and-right (is-byte a) _ h in
+    let j = and-right (is-byte b) _ i in
+    let k = and-right (is-byte c) _ j in
+    omega (arith, ltb-true a 256 (and-left (is-byte a) _ h), ltb-true b 256 (and-left (is-byte b) _ i), ltb-true c 256 (and-left (is-byte c) _ j), ltb-true d 256 (and-left (is-byte d) _ k))
+number-below (a ∷ b ∷ c ∷ d ∷ e ∷ bs) h l = absurd (omega arith)

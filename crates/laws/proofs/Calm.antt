@@ -1,89 +1,35 @@
--- The ready queue from event to event: what an event does to a thread's place in it, what a tick does, what a dispatch does.
+-- What an event other than a tick does to the runner, the ready queue and the time; and the rank of a ready thread from event to event.
 -- Assumes nothing.
-use Prim.Native.Nat.{ℕ, zero, suc, _+_, _-_, _*_, _≤_, _<_}
+use Prim.Native.Nat.{ℕ, zero, suc, _+_, _-_, _*_, _≤_}
 use mathlib.Core.Path.{_≡_, refl, sym, ap, _∙_}
-use mathlib.Core.Logic.{⊎-elim, _≢_}
-use mathlib.Core.Bool.{Bool, true, false, not, false≢true}
-use mathlib.Core.List.{List, [], _∷_, _++_, map, append-nil, append-assoc}
+use mathlib.Core.Logic.{⊎-elim}
+use mathlib.Core.Bool.{Bool, true, false, not, false≢true, true≢false}
+use mathlib.Core.List.{List, [], _∷_}
 use native.Mathlib.Omega.{arith}
 use borrow.Author.Tests.{eqb-true}
-use lib.ListN.{length}
-use Rattle.rules.specs.Lists.{if_then_else_, _==_, any, has, keep, count, Pulled, missing, pulled}
+use Rattle.rules.specs.Lists.{_==_, Pulled, missing, pulled, any, has}
 use Rattle.rules.specs.Numbers.{full-slice, beat-ticks}
 use Rattle.rules.specs.Words.{by-manager, by-runner}
-use Rattle.laws.proofs.Words.{Wanted, TrapKind, State, Receiving, Clock, Device, Trapped, Answer, Manager, Unset, Set, Gone, Parent, Thread, Message, Held, Runner, NoRunner, Runs, Target, Oneself, Named, Call, Send, Receive, CreateBrother, CreateSon, Terminate, SetManager, GetCpuTime, WaitForClock, WaitForIo, Trap, Event, Malformed, ByRunner, Tick, Interrupt}
-use Rattle.rules.specs.Tables.{Tables, named, live, of-thread, change, manager, runs-as}
+use Rattle.laws.proofs.Words.{Wanted, TrapKind, State, Running, Ready, Receiving, Clock, Device, Trapped, Answer, Nothing, Manager, Unset, Set, Gone, Parent, Thread, Message, Held, Runner, NoRunner, Runs, Target, Oneself, Named, Call, Send, Receive, CreateBrother, CreateSon, Terminate, SetManager, GetCpuTime, WaitForClock, WaitForIo, Trap, Event, Malformed, ByRunner, Tick, Interrupt}
+use Rattle.rules.specs.Tables.{Tables, in-state, named, live, of-thread, change, manager, runs-as, me}
 use Rattle.rules.specs.States.{waits-for}
 use Rattle.rules.specs.Waking.{Outcome, _handing_, wake-those, accepts, queue, deliver, stop}
-use Rattle.rules.specs.Ending.{ended-set, without-managers, remove, release, end}
+use Rattle.rules.specs.Ending.{ended-set, without-managers, remove, misses, told-gone, release, end}
 use Rattle.rules.specs.Send.{decides, decide, send}
 use Rattle.rules.specs.Receive.{received, receive}
 use Rattle.rules.specs.Trap.{notice, trap}
 use Rattle.rules.specs.Tick.{charge, beat, rotate, tick}
 use Rattle.rules.specs.Interrupt.{interrupt}
 use Rattle.rules.specs.Requests.{create, terminate, set-over, wait-for-clock, take-held}
-use Rattle.rules.specs.Dispatch.{run-next, dispatch}
+use Rattle.rules.specs.Dispatch.{dispatch}
 use Rattle.rules.specs.Step.{serve, act}
-use Rattle.laws.proofs.Tests.{by-if, same?}
-use Rattle.laws.proofs.Counting.{count-map, count-same, none-left, none-count, zero-any}
+use Rattle.laws.proofs.Tests.{by-if, by-runs, same?}
+use Rattle.laws.proofs.Counting.{zero-any, none-left}
+use Rattle.laws.proofs.Queues.{ahead, ahead-keep, Longer, longer-same, longer-trans, longer-place}
+use Rattle.laws.proofs.Threads.{names-mapped, turned-live, put-name}
+use Rattle.laws.proofs.Steps.{by-dispatch}
 
--- ---- general
-
--- to prove something of a value by the runner: prove it of each case
-pub by-runs : {A : Type 0} (P : A → Type 0) (r : Runner) {x : A} {f : ℕ → ℕ → A} → (r ≡ NoRunner → P x) → ((n s : ℕ) → r ≡ Runs n s → P (f n s)) → P (by-runner x f r)
-by-runs P NoRunner a b = a refl
-by-runs P (Runs n s) a b = b n s refl
-
--- how many names stand before n
-unfoldable pub ahead : ℕ → List ℕ → ℕ
-ahead n [] = 0
-ahead n (m ∷ q) = if n == m then 0 else 1 + ahead n q
-
--- more behind n changes nothing for it
-pub has-append : (n : ℕ) (q r : List ℕ) → has n q ≡ true → has n (q ++ r) ≡ true
-unfolding any
-has-append n [] r h = absurd (false≢true h)
-has-append n (x ∷ q) r h = ⊎-elim (λ e. rw (e .1)) (λ e. rw (e .1) (has-append n q r (rw (e .1) at h))) (same? n x)
-
-pub ahead-append : (n : ℕ) (q r : List ℕ) → has n q ≡ true → ahead n (q ++ r) ≡ ahead n q
-unfolding any ahead
-ahead-append n [] r h = absurd (false≢true h)
-ahead-append n (x ∷ q) r h = ⊎-elim (λ e. rw (e .1)) (λ e. rw (e .1) (ap (λ (k : ℕ). 1 + k) (ahead-append n q r (rw (e .1) at h)))) (same? n x)
-
--- who is kept stands with no more before it
-pub ahead-keep : (k : ℕ → Bool) (n : ℕ) (q : List ℕ) → k n ≡ true → has n q ≡ true → (has n (keep k q) ≡ true) × (ahead n (keep k q) ≤ ahead n q)
-unfolding any keep ahead
-ahead-keep k n [] h i = absurd (false≢true i)
-ahead-keep k n (x ∷ q) h i =
-    ⊎-elim
-    (λ e. rw (sym (ap k (e .0)) ∙ h, e .1) (refl, omega arith))
-    (λ e.
-    let later = ahead-keep k n q h (rw (e .1) at i) in
-    by-if (λ (l : List ℕ). (has n l ≡ true) × (ahead n l ≤ ahead n (x ∷ q))) (k x)
-    (λ _. rw (e .1) (later .0, omega (arith, later .1)))
-    (λ _. rw (e .1) (later .0, omega (arith, later .1))))
-    (same? n x)
-
-pub ahead-less : (n : ℕ) (q : List ℕ) → has n q ≡ true → ahead n q < length q
-unfolding any ahead
-ahead-less n [] h = absurd (false≢true h)
-ahead-less n (x ∷ q) h = ⊎-elim (λ e. rw (e .1) (omega arith)) (λ e. rw (e .1) (omega (arith, ahead-less n q (rw (e .1) at h)))) (same? n x)
-
--- a list with more behind it
-pub record Longer (q r : List ℕ) : Type 0 where
-  pub more : List ℕ
-  pub whole : r ≡ q ++ more
-
-pub longer-same : {q r : List ℕ} → r ≡ q → Longer q r
-longer-same {q} e = record { more = []; whole = e ∙ sym (append-nil q) }
-
-pub longer-trans : {q r s : List ℕ} → Longer q r → Longer r s → Longer q s
-longer-trans {q} a b = record { more = a .more ++ b .more; whole = b .whole ∙ ap (λ (l : List ℕ). l ++ b .more) (a .whole) ∙ append-assoc q (a .more) (b .more) }
-
-pub longer-place : (n : ℕ) {q r : List ℕ} → Longer q r → has n q ≡ true → (has n r ≡ true) × (ahead n r ≡ ahead n q)
-longer-place n {q} l h = rw (l .whole) (has-append n q (l .more) h, ahead-append n q (l .more) h)
-
--- ---- what an event other than a tick does to the runner and the ready queue
+-- ---- what an event other than a tick does
 
 -- the runner goes on with its slice, or nobody runs
 pub data Goes (T U : Tables) : Type 0 where
@@ -98,16 +44,22 @@ pub data Stays (n : ℕ) (T U : Tables) : Type 0 where
 pub record Calm (T U : Tables) : Type 0 where
   pub goes : Goes T U
   pub queue : (n : ℕ) → has n (T .ready) ≡ true → Stays n T U
+  pub since : U .since ≡ T .since
+  pub beats : U .beats ≡ T .beats
 
 -- nobody leaves the queue
 record Onward (T U : Tables) : Type 0 where
   longer : Longer (T .ready) (U .ready)
   goes : Goes T U
+  since : U .since ≡ T .since
+  beats : U .beats ≡ T .beats
 
 calm : {T U : Tables} → Onward T U → Calm T U
 calm {T} {U} o = record {
   goes = o .goes;
   queue = λ n h. let p = longer-place n (o .longer) h in stays (p .0) (omega (arith, p .1));
+  since = o .since;
+  beats = o .beats;
 }
 
 goes-trans : {T U W : Tables} → Goes T U → Goes U W → Goes T W
@@ -117,134 +69,131 @@ goes-trans (off a) (on b) = off (b ∙ a)
 goes-trans (off a) (off b) = off b
 
 onward-trans : {T U W : Tables} → Onward T U → Onward U W → Onward T W
-onward-trans a b = record { longer = longer-trans (a .longer) (b .longer); goes = goes-trans (a .goes) (b .goes) }
+onward-trans a b = record { longer = longer-trans (a .longer) (b .longer); goes = goes-trans (a .goes) (b .goes); since = b .since ∙ a .since; beats = b .beats ∙ a .beats }
 
--- the queue and the runner are as they were
-same-front : {T U : Tables} → U .ready ≡ T .ready → U .runner ≡ T .runner → Onward T U
-same-front q r = record { longer = longer-same q; goes = on r }
+-- queue, runner and time are as they were
+same-front : {T U : Tables} → U .ready ≡ T .ready → U .runner ≡ T .runner → U .since ≡ T .since → U .beats ≡ T .beats → Onward T U
+same-front q r s b = record { longer = longer-same q; goes = on r; since = s; beats = b }
 
 wake-onward : (p : Thread → Bool) (a : Thread → Answer) (ns : List ℕ) (T : Tables) → Onward T (wake-those p a ns T)
 unfolding wake-those
-wake-onward p a ns T = record { longer = record { more = ns; whole = refl }; goes = on refl }
+wake-onward p a ns T = record { longer = record { more = ns; whole = refl }; goes = on refl; since = refl; beats = refl }
 
-stop-onward : (m : ℕ) (s : State) (T : Tables) → Onward T (stop m s T)
+stop-onward : (n : ℕ) (s : State) (T : Tables) → Onward T (stop n s T)
 unfolding stop change
-stop-onward m s T = record { longer = longer-same refl; goes = off refl }
+stop-onward n s T = record { longer = longer-same refl; goes = off refl; since = refl; beats = refl }
 
 deliver-onward : (m : Message) (T : Tables) → Onward T (deliver m T)
 unfolding deliver queue
-deliver-onward m T = by-if (Onward T) (any (accepts m) (T .threads)) (λ e. wake-onward _ _ _ T) (λ e. same-front refl refl)
-
--- changes that keep names leave the dead dead
-names-kept : (f : Thread → Thread) → ((t : Thread) → f t .name ≡ t .name) → (n : ℕ) (ts : List Thread) → count (named n) (map f ts) ≡ count (named n) ts
-names-kept f h n ts = count-map (named n) f ts ∙ count-same _ _ ts (λ t. ap (λ (m : ℕ). n == m) (h t))
-
-change-dead : (m : ℕ) (f : Thread → Thread) → ((t : Thread) → f t .name ≡ t .name) → (n : ℕ) (T : Tables) → live n T ≡ false → live n (change m f T) ≡ false
-unfolding change
-change-dead m f h n T d =
-    zero-any (named n) _ (names-kept _ (λ t. by-if (λ (u : Thread). u .name ≡ t .name) (named m t) (λ _. h t) (λ _. refl)) n (T .threads) ∙ none-count (named n) (T .threads) d)
-
-wake-dead : (p : Thread → Bool) (a : Thread → Answer) (ns : List ℕ) (n : ℕ) (T : Tables) → count (named n) (T .threads) ≡ 0 → live n (wake-those p a ns T) ≡ false
-unfolding wake-those
-wake-dead p a ns n T d =
-    zero-any (named n) _ (names-kept _ (λ t. by-if (λ (u : Thread). u .name ≡ t .name) (p t) (λ _. refl) (λ _. refl)) n (T .threads) ∙ d)
+deliver-onward m T = by-if (Onward T) (any (accepts m) (T .threads)) (λ _. wake-onward _ _ _ T) (λ _. same-front refl refl refl refl)
 
 -- who is in the set lives no longer
-removed-dead : (set : List ℕ) (n : ℕ) (T : Tables) → has n set ≡ true → count (named n) (remove set T .threads) ≡ 0
-unfolding remove without-managers
+removed-dead : (set : List ℕ) (n : ℕ) (T : Tables) → has n set ≡ true → live n (release set (remove set T)) ≡ false
+unfolding release wake-those remove without-managers
 removed-dead set n T h =
-    names-kept (without-managers set) (λ t. refl) n _ ∙ none-left (λ t. t .name) (λ m. has m set) (named n) n (λ t e. eqb-true n (t .name) e) h (T .threads)
+    names-mapped _ (put-name (λ t. misses set (t .state)) Ready (λ t. told-gone (t .state))) n _
+    ∙ names-mapped (without-managers set) (λ t. refl) n _
+    ∙ zero-any (named n) _ (none-left (λ t. t .name) (λ m. has m set) (named n) n (λ t e. eqb-true n (t .name) e) h (T .threads))
 
-removed-goes : (set : List ℕ) (T : Tables) → Goes T (remove set T)
-unfolding remove
-removed-goes set T = go (T .runner) refl
-  where
-    go : (r : Runner) → T .runner ≡ r → Goes T (remove set T)
-    go NoRunner e = off (rw e)
-    go (Runs n s) e = kept (has n set) refl
-      where
-        kept : (b : Bool) → has n set ≡ b → Goes T (remove set T)
-        kept true i = off (rw (e, i))
-        kept false i = on (rw (e, i))
-
+-- Ending is calm: who is left stands no further back.
 pub end-calm : (n : ℕ) (T : Tables) → Calm T (end n T)
-unfolding end release
-end-calm n T = record { goes = goes-trans (removed-goes set T) (woken .goes); queue = λ m h. go m h (has m set) refl }
+unfolding end release wake-those remove
+end-calm n T = record { goes = gone (T .runner) refl; queue = λ m h. go m h (has m set) refl; since = refl; beats = refl }
   where
     set : List ℕ
     set = ended-set (T .threads) n
 
-    woken : Onward (remove set T) (end n T)
-    woken = wake-onward _ _ _ (remove set T)
+    gone : (r : Runner) → T .runner ≡ r → Goes T (end n T)
+    gone NoRunner e = off (rw e)
+    gone (Runs m s) e = dead (has m set) refl
+      where
+        dead : (b : Bool) → has m set ≡ b → Goes T (end n T)
+        dead true h = off (rw (e, h))
+        dead false h = on (rw (e, h))
 
     go : (m : ℕ) → has m (T .ready) ≡ true → (b : Bool) → has m set ≡ b → Stays m T (end n T)
-    go m h true e = ended (wake-dead _ _ _ m (remove set T) (removed-dead set m T e))
+    go m h true e = ended (removed-dead set m T e)
     go m h false e =
         let k = ahead-keep (λ x. not (has x set)) m (T .ready) (rw e) h in
-        let p = longer-place m (woken .longer) (unfold remove in k .0) in
-        stays (p .0) (unfold remove in omega (arith, k .1, p .1))
+        let p = longer-place m {q = remove set T .ready} {r = end n T .ready} (record { more = _; whole = refl }) (k .0) in
+        stays (p .0) (omega (arith, k .1, p .1))
 
 -- ---- each event but the tick
 
-decide-calm : (m to w : ℕ) (T : Tables) → Calm T (decide m to w T)
-unfolding decide
-decide-calm m to zero T = calm (onward-trans (same-front refl refl) (wake-onward _ _ _ _))
-decide-calm m to (suc w) T = end-calm to T
+unfoldable pub is-tick : Event → Bool
+is-tick Malformed = false
+is-tick (ByRunner c) = false
+is-tick Tick = true
+is-tick (Interrupt d w) = false
 
-received-calm : (m : ℕ) (w : Wanted) (T : Tables) (p : Pulled Message) → Calm T (received m w T p .tables)
-unfolding received
-received-calm m w T missing = calm (stop-onward m (Receiving w) T)
-received-calm m w T (pulled x xs) = calm (same-front refl refl)
+abbrev CalmTo : Tables → Outcome → Type 0
+CalmTo T o = Calm T (o .tables)
 
-trap-calm : (m : ℕ) (k : TrapKind) (c : ℕ) (T : Tables) → Calm T (trap m k c T)
-unfolding trap
-trap-calm m k c T = go (of-thread Unset (λ t. manager k (t .managers)) m (T .threads))
+still : (T : Tables) → Calm T T
+still T = calm (same-front refl refl refl refl)
+
+send-calm : (n to w : ℕ) (T : Tables) → Calm T (send n to w T)
+unfolding send
+send-calm n to w T = by-if (Calm T) (decides n to T) (λ _. decided w) (λ _. calm (deliver-onward _ T))
   where
-    go : (g : Manager) → Calm T (by-manager (end m T) (λ n. deliver (notice n m c) (stop m (Trapped k) T)) g)
-    go Unset = end-calm m T
-    go (Set n) = calm (onward-trans (stop-onward m (Trapped k) T) (deliver-onward _ _))
-    go Gone = end-calm m T
+    decided : (w : ℕ) → Calm T (decide n to w T)
+    decided zero = unfold decide in calm (onward-trans (same-front refl refl refl refl) (wake-onward _ _ _ _))
+    decided (suc w) = unfold decide in end-calm to T
 
-terminate-calm : (m : ℕ) (n : Target) (T : Tables) → Calm T (terminate m n T .tables)
-unfolding terminate
-terminate-calm m Oneself T = end-calm m T
-terminate-calm m (Named n) T = end-calm n T
-
-set-over-calm : (g : Manager) (m : ℕ) (k : TrapKind) (n : ℕ) (T : Tables) → Calm T (set-over g m k n T .tables)
-unfolding set-over change
-set-over-calm Unset m k n T = calm (same-front refl refl)
-set-over-calm (Set x) m k n T = end-calm m T
-set-over-calm Gone m k n T = end-calm m T
-
-take-held-calm : (m d : ℕ) (T : Tables) (p : Pulled Held) → Calm T (take-held m d T p .tables)
-unfolding take-held
-take-held-calm m d T missing = calm (stop-onward m (Device d) T)
-take-held-calm m d T (pulled h hs) = calm (same-front refl refl)
-
-create-onward : (p : Parent) (T : Tables) → Onward T (create p T .tables)
+create-calm : (p : Parent) (T : Tables) → CalmTo T (create p T)
 unfolding create
-create-onward p T = record { longer = record { more = _; whole = refl }; goes = on refl }
+create-calm p T = calm (record { longer = record { more = _; whole = refl }; goes = on refl; since = refl; beats = refl })
 
-serve-calm : (m : ℕ) (T : Tables) (c : Call) → Calm T (serve m T c .tables)
-unfolding serve send receive wait-for-clock
-serve-calm m T (Send to w) = by-if (Calm T) (decides m to T) (λ _. decide-calm m to w T) (λ _. calm (deliver-onward _ T))
-serve-calm m T (Receive w) = received-calm m w T _
-serve-calm m T CreateBrother = calm (create-onward _ T)
-serve-calm m T CreateSon = calm (create-onward _ T)
-serve-calm m T (Terminate n) = terminate-calm m n T
-serve-calm m T (SetManager k n) = set-over-calm _ m k n T
-serve-calm m T GetCpuTime = calm (same-front refl refl)
-serve-calm m T WaitForClock = calm (onward-trans (stop-onward m Clock T) (same-front refl refl))
-serve-calm m T (WaitForIo d) = take-held-calm m d T _
-serve-calm m T (Trap k c) = trap-calm m k c T
+trap-calm : (n : ℕ) (k : TrapKind) (c : ℕ) (T : Tables) → Calm T (trap n k c T)
+unfolding trap
+trap-calm n k c T = go (of-thread Unset (λ t. manager k (t .managers)) n (T .threads))
+  where
+    go : (m : Manager) → Calm T (by-manager (end n T) (λ to. deliver (notice to n c) (stop n (Trapped k) T)) m)
+    go Unset = end-calm n T
+    go (Set to) = calm (onward-trans (stop-onward n (Trapped k) T) (deliver-onward _ _))
+    go Gone = end-calm n T
 
--- An event other than a tick: the runner goes on with its slice or stops, and nobody who is ready falls back.
-pub act-calm : (e : Event) (T : Tables) → e ≢ Tick → Calm T (act T e .tables)
-unfolding act interrupt
-act-calm Malformed T d = calm (same-front refl refl)
-act-calm (ByRunner c) T d = serve-calm _ T c
-act-calm Tick T d = absurd (d refl)
-act-calm (Interrupt d w) T _ = by-if (Calm T) (any (waits-for d) (T .threads)) (λ _. calm (wake-onward _ _ _ T)) (λ _. calm (same-front refl refl))
+received-calm : (n : ℕ) (w : Wanted) (T : Tables) (p : Pulled Message) → CalmTo T (received n w T p)
+unfolding received
+received-calm n w T missing = calm (stop-onward n (Receiving w) T)
+received-calm n w T (pulled m ms) = calm (same-front refl refl refl refl)
+
+terminate-calm : (n : ℕ) (m : Target) (T : Tables) → CalmTo T (terminate n m T)
+unfolding terminate
+terminate-calm n Oneself T = end-calm n T
+terminate-calm n (Named m) T = end-calm m T
+
+set-calm : (old : Manager) (n : ℕ) (k : TrapKind) (m : ℕ) (T : Tables) → CalmTo T (set-over old n k m T)
+unfolding set-over change
+set-calm Unset n k m T = calm (same-front refl refl refl refl)
+set-calm (Set o) n k m T = end-calm n T
+set-calm Gone n k m T = end-calm n T
+
+held-calm : (n d : ℕ) (T : Tables) (p : Pulled Held) → CalmTo T (take-held n d T p)
+unfolding take-held
+held-calm n d T missing = calm (stop-onward n (Device d) T)
+held-calm n d T (pulled h hs) = calm (same-front refl refl refl refl)
+
+pub serve-calm : (n : ℕ) (c : Call) (T : Tables) → Calm T (serve n T c .tables)
+unfolding serve receive wait-for-clock
+serve-calm n (Send to w) T = send-calm n to w T
+serve-calm n (Receive w) T = received-calm n w T _
+serve-calm n CreateBrother T = create-calm _ T
+serve-calm n CreateSon T = create-calm _ T
+serve-calm n (Terminate m) T = terminate-calm n m T
+serve-calm n (SetManager k m) T = set-calm _ n k m T
+serve-calm n GetCpuTime T = still T
+serve-calm n WaitForClock T = calm (onward-trans (stop-onward n Clock T) (same-front refl refl refl refl))
+serve-calm n (WaitForIo d) T = held-calm n d T _
+serve-calm n (Trap k c) T = trap-calm n k c T
+
+-- An event other than a tick leaves the runner on or off, the time as it was, and who was ready no further back, if alive.
+pub act-calm : (e : Event) (T : Tables) → is-tick e ≡ false → Calm T (act T e .tables)
+unfolding is-tick act interrupt
+act-calm Malformed T h = still T
+act-calm (ByRunner c) T h = serve-calm (me (T .runner)) c T
+act-calm Tick T h = absurd (true≢false h)
+act-calm (Interrupt d w) T h = by-if (Calm T) (any (waits-for d) (T .threads)) (λ _. calm (wake-onward _ _ _ T)) (λ _. calm (same-front refl refl refl refl))
 
 -- ---- the rank of a ready thread: the ticks that are left before its turn, at most
 
@@ -261,17 +210,6 @@ pub data Nearer (n k : ℕ) (T : Tables) : Type 0 where
   over : live n T ≡ false → Nearer n k T
   soon : has n (T .ready) ≡ true → rank n T ≤ k → Nearer n k T
 
--- the front of the queue runs: of another in the queue the rank then is a full slice for each that stood before it
-pub next-nearer : (n : ℕ) (q : List ℕ) (o : Outcome) → has n q ≡ true → Nearer n (full-slice * ahead n q) (run-next q o .tables)
-unfolding any ahead rank slice-left run-next runs-as change
-next-nearer n [] o h = absurd (false≢true h)
-next-nearer n (x ∷ q) o h = ⊎-elim (λ e. now (e .1)) (λ e. soon (rw (e .1) at h) (rw (e .1) (omega arith))) (same? n x)
-
-next-dead : (n : ℕ) (q : List ℕ) (o : Outcome) → live n (o .tables) ≡ false → live n (run-next q o .tables) ≡ false
-unfolding run-next
-next-dead n [] o d = d
-next-dead n (x ∷ q) o d = unfold change in change-dead x _ (λ t. refl) n (o .tables) d
-
 nearer-le : {n j k : ℕ} {T : Tables} → Nearer n j T → j ≤ k → Nearer n k T
 nearer-le (now r) le = now r
 nearer-le (over d) le = over d
@@ -279,18 +217,18 @@ nearer-le (soon h p) le = soon h (omega arith)
 
 -- a dispatch raises no rank, and takes no ended thread back
 dispatch-nearer : (n : ℕ) (o : Outcome) → has n (o .tables .ready) ≡ true → Nearer n (rank n (o .tables)) (dispatch o .tables)
-unfolding dispatch
+unfolding any ahead rank slice-left runs-as change
 dispatch-nearer n o h =
-    by-runs (λ (x : Outcome). Nearer n (rank n (o .tables)) (x .tables)) (o .tables .runner)
-    (λ _. nearer-le (next-nearer n (o .tables .ready) o h) (unfold rank in omega arith))
-    (λ m s _. soon h (omega arith))
+    by-dispatch (Nearer n (rank n (o .tables))) o (λ m s _. soon h (omega arith)) (λ _ e. absurd (false≢true (rw e at h))) λ x q _ e.
+    let i : has n (x ∷ q) ≡ true = rw e at h in
+    ⊎-elim (λ k. now (k .1)) (λ k. soon (rw (k .1) at i) (rw (e, k .1) (omega arith))) (same? n x)
 
 dispatch-dead : (n : ℕ) (o : Outcome) → live n (o .tables) ≡ false → live n (dispatch o .tables) ≡ false
-unfolding dispatch
-dispatch-dead n o d = by-runs (λ (x : Outcome). live n (x .tables) ≡ false) (o .tables .runner) (λ _. next-dead n (o .tables .ready) o d) (λ m s _. d)
+dispatch-dead n o d =
+    by-dispatch (λ U. live n U ≡ false) o (λ _ _ _. d) (λ _ _. d) (λ x q _ _. unfold change in turned-live (named x) (in-state Running Nothing) (λ t. refl) n (o .tables .threads) ∙ d)
 
 -- An event other than a tick, with its dispatch: the rank of a ready thread does not rise, unless the thread runs or has ended.
-pub act-nearer : (n : ℕ) (e : Event) (T : Tables) → e ≢ Tick → has n (T .ready) ≡ true → Nearer n (rank n T) (dispatch (act T e) .tables)
+pub act-nearer : (n : ℕ) (e : Event) (T : Tables) → is-tick e ≡ false → has n (T .ready) ≡ true → Nearer n (rank n T) (dispatch (act T e) .tables)
 act-nearer n e T d h = let c = act-calm e T d in go (c .goes) (c .queue n h)
   where
     lower : Goes T (act T e .tables) → slice-left (act T e .tables .runner) ≤ slice-left (T .runner)
@@ -315,7 +253,7 @@ beat-longer : (T : Tables) → Longer (T .ready) (beat T .ready)
 unfolding beat wake-those
 beat-longer T = by-if (λ (U : Tables). Longer (T .ready) (U .ready)) (T .since + 1 == beat-ticks) (λ _. record { more = T .clock; whole = refl }) (λ _. longer-same refl)
 
-beat-runner : (T : Tables) → beat T .runner ≡ T .runner
+pub beat-runner : (T : Tables) → beat T .runner ≡ T .runner
 unfolding beat wake-those
 beat-runner T = by-if (λ (U : Tables). U .runner ≡ T .runner) (T .since + 1 == beat-ticks) (λ _. refl) (λ _. refl)
 

@@ -1,51 +1,23 @@
 -- The ended set is the smallest one: it holds the named thread, holds the dependants of its members, and lies in every set that does.
 -- Assumes nothing.
 use Prim.Native.Nat.{ℕ, zero, suc, _+_, _≤_}
-use mathlib.Core.Path.{_≡_, refl, sym, ap, _∙_}
+use mathlib.Core.Path.{_≡_, refl, ap, _∙_}
 use mathlib.Core.Logic.{_⊎_, inl, inr, ⊎-elim}
 use mathlib.Core.Bool.{Bool, true, false, _&&_, _||_, not, true≢false, false≢true}
 use mathlib.Core.List.{List, [], _∷_, _++_, map, append-nil, List·Memᴰ}
 use native.Mathlib.Omega.{arith}
 use lib.ListN.{length}
 use borrow.Author.Tests.{eqb-true, eq-eqb}
-use Rattle.rules.specs.Lists.{_==_, one-if, any, has, keep, count, times}
+use Rattle.rules.specs.Lists.{_==_, one-if, any, count, times, has}
 use Rattle.rules.specs.Words.{by-parent}
 use Rattle.laws.proofs.Words.{Parent, NoParent, ParentIs, Thread}
 use Rattle.rules.specs.Tables.{named}
 use Rattle.rules.specs.States.{awaits}
 use Rattle.rules.specs.Ending.{depends, grow, ended-set}
-use Rattle.laws.proofs.Tests.{_&_, and-left, and-right, or-cases, or-left, or-right, not-true}
-use Rattle.laws.proofs.Counting.{any-append, any-member, member-any, none-passes, count-add-le, count-length, keep-none}
-use Rattle.laws.proofs.Members.{mem-keep, keep-mem, mem-map, map-mem}
-
--- ---- general
-
-pub member-has : {x : ℕ} (l : List ℕ) → List·Memᴰ x l → has x l ≡ true
-member-has {x} l m = member-any (λ k. x == k) l x m (eq-eqb x x refl)
-
--- is n among the numbers that f gives for those that pass?
-module _ {A : Type 0} (f : A → ℕ) (j : A → Bool) (xs : List A) where
-  pub kept-has : {x : A} → List·Memᴰ x xs → j x ≡ true → has (f x) (map f (keep j xs)) ≡ true
-  kept-has {x} m h = member-has (map f (keep j xs)) (map-mem f (keep j xs) (keep-mem j xs m h))
-
-  pub has-kept : (n : ℕ) → has n (map f (keep j xs)) ≡ true → (x : A) × List·Memᴰ x xs × (j x ≡ true) × (n ≡ f x)
-  has-kept n h =
-      let r = any-member (λ k. n == k) (map f (keep j xs)) h in
-      let s = mem-map f (keep j xs) (r .1) in
-      let k = mem-keep j xs (s .1) in
-      (s .0, k .0, k .1, eqb-true n (r .0) (r .2) ∙ s .2)
-
-pub has-left : (x : ℕ) (s t : List ℕ) → has x s ≡ true → has x (s ++ t) ≡ true
-has-left x s t h = any-append (λ k. x == k) s t ∙ or-left _ _ h
-
-pub has-right : (x : ℕ) (s t : List ℕ) → has x t ≡ true → has x (s ++ t) ≡ true
-has-right x s t h = any-append (λ k. x == k) s t ∙ or-right (has x s) _ h
-
-pub has-split : (x : ℕ) (s t : List ℕ) → has x (s ++ t) ≡ true → (has x s ≡ true) ⊎ (has x t ≡ true)
-has-split x s t h = or-cases (has x s) (has x t) (sym (any-append (λ k. x == k) s t) ∙ h)
-
-pub has-any : (x : ℕ) (p : ℕ → Bool) (l : List ℕ) → has x l ≡ true → p x ≡ true → any p l ≡ true
-has-any x p l h e = let r = any-member (λ k. x == k) l h in member-any p l (r .0) (r .1) (ap p (sym (eqb-true x (r .0) (r .2))) ∙ e)
+use Rattle.laws.proofs.Tests.{clash, and-left, and-right, _&_, or-cases, or-left, or-right, not-true}
+use Rattle.laws.proofs.Counting.{count-add-le, count-length, keep-none, none-passes, any-member}
+use Rattle.laws.proofs.Members.{member-has, kept-has, has-kept, has-left, has-right, has-split, has-any}
+use Rattle.laws.proofs.Threads.{member-live}
 
 -- ---- what the set is to be: a test on names that passes, with each name, its children and those trapped on it
 pub record Closed (p : ℕ → Bool) (ts : List Thread) : Type 0 where
@@ -144,7 +116,7 @@ module _ (ts : List Thread) where
 
       go : (b : Bool) → has (t .name) (ended-set ts n) ≡ b → has (t .name) (ended-set ts n) ≡ true
       go true e = e
-      go false e = absurd (false≢true (sym none ∙ (d & ap not e)))
+      go false e = absurd (clash (d & ap not e) none)
 
   -- So the test "is a member" passes, with each name, its children and those trapped on it.
   pub ended-set-closed : (n : ℕ) → Closed (λ x. has x (ended-set ts n)) ts
@@ -165,7 +137,7 @@ module _ (ts : List Thread) where
       (or-cases (x == n) _ (ended-least (λ y. (y == n) || any (named y) ts) closed n (or-left _ _ (eq-eqb n n refl)) x h))
     where
       lives : (t : Thread) → List·Memᴰ t ts → ((t .name == n) || any (named (t .name)) ts) ≡ true
-      lives t m = or-right (t .name == n) _ (member-any (named (t .name)) ts t m (eq-eqb (t .name) (t .name) refl))
+      lives t m = or-right (t .name == n) _ (member-live ts t m)
 
       closed : Closed (λ y. (y == n) || any (named y) ts) ts
       closed = record { children = λ t m e. lives t m; trapped = λ t m y e i. lives t m }

@@ -1,6 +1,6 @@
 -- What an event decoded from bytes has: its words and devices in their ranges.
 -- Assumes nothing.
-use Prim.Native.Nat.{ℕ, zero, suc, _+_, _*_, _<_}
+use Prim.Native.Nat.{ℕ, _+_, _*_, _<_}
 use mathlib.Core.Path.{_≡_, refl, ap, _∙_}
 use mathlib.Core.Bool.{Bool, true, false, _&&_, false≢true}
 use mathlib.Core.List.{List, [], _∷_}
@@ -8,7 +8,7 @@ use native.Mathlib.Omega.{arith}
 use lib.Dec.{ltb}
 use lib.ListN.{length, take, drop, getD, length-drop}
 use borrow.Author.Tests.{eqb-true, ltb-true}
-use Rattle.rules.specs.Lists.{if_then_else_, _==_, all, is-byte, number, number-from}
+use Rattle.rules.specs.Lists.{if_then_else_, _==_, all, is-byte, number}
 use Rattle.rules.specs.Numbers.{devices, wrap}
 use Rattle.laws.proofs.Words.{Call, Send, Receive, CreateBrother, CreateSon, Terminate, SetManager, GetCpuTime, WaitForClock, WaitForIo, Trap, Event, Malformed, ByRunner, Tick, Interrupt, TagFacts, NoService, ADevice}
 use Rattle.rules.specs.Tags.{facts-in, tag-facts, rule-in, argument-rule, meets}
@@ -16,6 +16,8 @@ use Rattle.rules.specs.Pick.{pick}
 use Rattle.rules.specs.Events.{request, trap-of, interrupt-of, meaning, field-of, decode}
 use Rattle.rules.proofs.Bits.{pick-lowest}
 use Rattle.laws.proofs.Tests.{by-if, and-left, and-right}
+use Rattle.laws.proofs.Counting.{all-drop}
+use Rattle.laws.proofs.Bytes.{number-below}
 
 -- ---- words are of 32 bits, devices are 0 to 47
 
@@ -42,31 +44,8 @@ Proper (Interrupt d w) = (d < devices) × (w < wrap)
 abbrev Bytes : List ℕ → Type 0
 Bytes v = all is-byte v ≡ true
 
-four : (v : List ℕ) → length v ≡ 4 → Bytes v → number v < wrap
-unfolding number-from all
-four [] e b = absurd (omega arith)
-four (x ∷ []) e b = absurd (omega arith)
-four (x ∷ y ∷ []) e b = absurd (omega arith)
-four (x ∷ y ∷ z ∷ []) e b = absurd (omega arith)
-four (x ∷ y ∷ z ∷ w ∷ []) e b =
-    let bx : x < 256 = ltb-true x 256 (and-left (ltb x 256) _ b) in
-    let b1 = and-right (ltb x 256) _ b in
-    let by : y < 256 = ltb-true y 256 (and-left (ltb y 256) _ b1) in
-    let b2 = and-right (ltb y 256) _ b1 in
-    let bz : z < 256 = ltb-true z 256 (and-left (ltb z 256) _ b2) in
-    let b3 = and-right (ltb z 256) _ b2 in
-    let bw : w < 256 = ltb-true w 256 (and-left (ltb w 256) _ b3) in
-    omega arith
-four (x ∷ y ∷ z ∷ w ∷ u ∷ v) e b = absurd (omega arith)
-
-drop-bytes : (k : ℕ) (v : List ℕ) → Bytes v → Bytes (drop k v)
-unfolding all
-drop-bytes zero v b = b
-drop-bytes (suc k) [] b = b
-drop-bytes (suc k) (x ∷ v) b = drop-bytes k v (and-right (ltb x 256) _ b)
-
 word : (k : ℕ) (v : List ℕ) → length v ≡ k + 4 → Bytes v → number (drop k v) < wrap
-word k v e b = four (drop k v) (simp length-drop (omega arith)) (drop-bytes k v b)
+word k v e b = number-below (drop k v) (all-drop k is-byte v b) (simp length-drop (omega arith))
 
 -- ---- each tag
 

@@ -1,10 +1,10 @@
 -- The rule of parents as a test and as a type: going up ends in time exactly if every name has a depth.
 -- Assumes nothing.
 use Prim.Native.Nat.{ℕ, zero, suc, _+_, _≤_, _<_}
-use mathlib.Core.Path.{_≡_, refl, sym, ap, _∙_}
+use mathlib.Core.Path.{_≡_, refl, ap, _∙_}
 use mathlib.Core.Logic.{⊎-elim, _≢_, _↔_}
-use mathlib.Core.Bool.{Bool, true, false, _&&_, not, true≢false, false≢true}
-use mathlib.Core.List.{List, _∷_, List·Memᴰ, List·Memᴰ·head, List·Memᴰ·tail}
+use mathlib.Core.Bool.{Bool, true, _&&_, not, false≢true}
+use mathlib.Core.List.{List, List·Memᴰ}
 use native.Mathlib.Omega.{arith}
 use lib.Dec.{ltb}
 use lib.ListN.{length}
@@ -14,38 +14,9 @@ use Rattle.laws.proofs.Words.{Parent, NoParent, ParentIs, Thread}
 use Rattle.rules.specs.Tables.{Tables, named}
 use Rattle.rules.specs.TableRules.{has-parent, climbs, parents-right}
 use Rattle.laws.proofs.Tests.{by-if, same?, and-left, and-right, _&_}
-use Rattle.laws.proofs.Counting.{count-strict, length-count, any-member, member-any, none-any, none-passes, all-of, all-at}
+use Rattle.laws.proofs.Counting.{count-strict, length-count, any-member, member-any, all-of, all-at, any-only}
 use Rattle.laws.proofs.Types.{Family}
-
--- ---- general
-
-module _ {A : Type 0} where
-  -- of those that pass there is one at most: two that pass are one
-  pub only-one : (p : A → Bool) (xs : List A) → count p xs ≤ 1 → (x y : A) → List·Memᴰ x xs → List·Memᴰ y xs → p x ≡ true → p y ≡ true → x ≡ y
-  unfolding count
-  only-one p (z ∷ xs) h x y (List·Memᴰ·head e) (List·Memᴰ·head f) a b = e ∙ sym f
-  only-one p (z ∷ xs) h x y (List·Memᴰ·head e) (List·Memᴰ·tail n) a b =
-      let k : p z ≡ true = ap p (sym e) ∙ a in
-      absurd (true≢false (sym b ∙ none-passes p xs y (omega (arith, ap one-if k)) n))
-  only-one p (z ∷ xs) h x y (List·Memᴰ·tail m) (List·Memᴰ·head f) a b =
-      let k : p z ≡ true = ap p (sym f) ∙ b in
-      absurd (true≢false (sym a ∙ none-passes p xs x (omega (arith, ap one-if k)) m))
-  only-one p (z ∷ xs) h x y (List·Memᴰ·tail m) (List·Memᴰ·tail n) a b = only-one p xs (omega arith) x y m n a b
-
-  -- asked of the one that passes p, any says what f says of it
-  pub any-only : (p f : A → Bool) (xs : List A) → count p xs ≤ 1 → (x : A) → List·Memᴰ x xs → p x ≡ true → any (λ y. p y && f y) xs ≡ f x
-  any-only p f xs h x m a = go (f x) refl
-    where
-      go : (b : Bool) → f x ≡ b → any (λ y. p y && f y) xs ≡ b
-      go true e = member-any (λ y. p y && f y) xs x m (a & e)
-      go false e = none-any (λ y. p y && f y) xs (λ y n. each y n (p y) refl)
-        where
-          each : (y : A) → List·Memᴰ y xs → (c : Bool) → p y ≡ c → (c && f y) ≡ false
-          each y n true i = ap f (only-one p xs h y x n m i a) ∙ e
-          each y n false i = refl
-
-pub member-live : (ts : List Thread) (t : Thread) → List·Memᴰ t ts → any (named (t .name)) ts ≡ true
-member-live ts t m = member-any (named (t .name)) ts t m (eq-eqb (t .name) (t .name) refl)
+use Rattle.laws.proofs.Threads.{live-member}
 
 -- ---- from the type to the test: of the threads nearer to the top there is one fewer at each step
 
@@ -77,9 +48,8 @@ module _ (ts : List Thread) (F : Family ts) where
   above : (t : Thread) → List·Memᴰ t ts → t .name ≢ 0 → (u : Thread) × List·Memᴰ u ts × (t .parent ≡ ParentIs (u .name)) × (nearer (u .name) < nearer (t .name))
   above t m d =
       let q = F .under t m d in
-      let r = any-member (named (q .0)) ts (q .2) in
-      let e : q .0 ≡ r .0 .name = eqb-true (q .0) (r .0 .name) (r .2) in
-      (r .0, r .1, q .1 ∙ ap ParentIs e, nearer-up t (r .0) (r .1) (omega (arith, q .3, ap (F .depth) e)))
+      let r = live-member ts (q .0) (q .2) in
+      (r .0, r .1, q .1 ∙ ap ParentIs (r .2), nearer-up t (r .0) (r .1) (omega (arith, q .3, ap (F .depth) (r .2))))
 
   reaches : (k : ℕ) (t : Thread) → List·Memᴰ t ts → nearer (t .name) ≤ k → climbs k ts (t .parent) ≡ true
   reaches zero t m h = ⊎-elim (λ e. rw (F .root t m (e .0)) (at-top 0)) (λ e. absurd (omega (arith, above t m (e .0) .3))) (same? (t .name) 0)

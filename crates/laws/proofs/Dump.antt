@@ -1,21 +1,21 @@
 -- The dump and its reader: every value comes back, cutting gives the fields, and so reading a dump gives the tables that were written.
 -- Assumes nothing.
-use Prim.Native.Nat.{ℕ, zero, suc, _+_, _≤_, _<_}
+use Prim.Native.Nat.{ℕ, zero, suc, _≤_, _<_}
 use mathlib.Core.Path.{_≡_, refl, sym, ap, ap₂, _∙_}
 use mathlib.Core.Logic.{⊎-elim, _≢_, _↔_}
-use mathlib.Core.Bool.{Bool, true, false, _&&_, false≢true}
-use mathlib.Core.List.{List, [], _∷_, _++_, map, append-nil, append-assoc, List·Memᴰ, List·Memᴰ·head, List·Memᴰ·tail}
+use mathlib.Core.Bool.{Bool, true, false, _&&_}
+use mathlib.Core.List.{List, [], _∷_, _++_, map, append-nil, List·Memᴰ}
 use native.Mathlib.Omega.{arith}
 use lib.Dec.{ltb}
 use lib.ListN.{length, length-append}
 use lib.Seq.{take-at, drop-at}
-use borrow.Author.Tests.{eqb-true, eq-eqb, ne-eqb, ltb-true, lt-ltb}
-use Rattle.rules.specs.Lists.{if_then_else_, _==_, one-if, all, any, keep, times-in, each, same, is-byte, number, two-bytes, four-bytes}
-use Rattle.rules.specs.Numbers.{Limits, names, devices, wrap, nobody, service}
+use borrow.Author.Tests.{ne-eqb, ltb-true, lt-ltb}
+use Rattle.rules.specs.Lists.{if_then_else_, _==_, all, any, keep, each, times-in, same, is-byte, number, two-bytes, four-bytes}
+use Rattle.rules.specs.Numbers.{Limits, names, service, nobody, devices, wrap}
 use Rattle.rules.specs.Words.{by-state, by-wanted, by-manager, by-parent, by-runner}
 use Rattle.laws.proofs.Words.{Wanted, Anybody, Only, TrapKind, Program, Tlb, SysBp, State, Running, Ready, Receiving, Clock, Device, Trapped, Answer, Nothing, FromMessage, FromNotice, SenderGone, Result, Manager, Unset, Set, Gone, Managers, Parent, NoParent, ParentIs, Thread, MessageKind, Ordinary, Notice, Message, Held, Runner, NoRunner, Runs, Status, Working, Idle, Halted, Panicked}
-use Rattle.rules.specs.Tables.{Tables, named, runs-as, me, manager}
-use Rattle.rules.specs.States.{is-running, is-ready, on-clock}
+use Rattle.rules.specs.Tables.{Tables, named, manager, me}
+use Rattle.rules.specs.States.{is-ready, on-clock}
 use Rattle.rules.specs.Dispatch.{status}
 use Rattle.rules.specs.Events.{wanted}
 use Rattle.rules.specs.Codes.{status-code, slice-code, answer-numbers, trap-code, state-numbers, manager-code, parent-code, message-code}
@@ -23,46 +23,14 @@ use Rattle.rules.specs.TableRules.{answer-in-range, table-rules}
 use Rattle.rules.specs.Dump.{field, head-value, answer-value, thread-value, message-value, held-value, dump}
 use Rattle.rules.specs.Load.{Field, cut, runner-from, parent-from, manager-from, trap-kind-from, state-from, answer-from, message-kind-from, at, word-at, thread-from, message-from, held-from, values-of, value-of, tables-from, Loaded, no-dump, loaded, load}
 use Rattle.laws.proofs.Tests.{by-if, same?, and-left, and-right, _&_}
-use Rattle.laws.proofs.Counting.{count-any, count-less, any-count, member-any, all-of}
+use Rattle.laws.proofs.Counting.{all-of, all-both, each-append, all-each}
+use Rattle.laws.proofs.Members.{map-back, member-times, same-refl, same-true}
 use Rattle.laws.proofs.Bytes.{two-are-bytes, four-are-bytes, two-back, four-back}
 use Rattle.laws.proofs.Types.{here, Entry, Detail, Ruled}
+use Rattle.laws.proofs.Threads.{member-live, here-live}
+use Rattle.laws.proofs.PlacesKept.{runner-live}
 use Rattle.laws.proofs.Sound.{tested-ruled}
 use Rattle.laws.proofs.DumpLength.{threads-few, queues-few, thread-length, message-length, held-length, head-length}
-
--- ---- general
-
-pub same-refl : (xs : List ℕ) → same xs xs ≡ true
-unfolding same
-same-refl [] = refl
-same-refl (x ∷ xs) = eq-eqb x x refl & same-refl xs
-
-pub same-true : (xs ys : List ℕ) → same xs ys ≡ true → xs ≡ ys
-unfolding same
-same-true [] [] h = refl
-same-true [] (y ∷ ys) h = absurd (false≢true h)
-same-true (x ∷ xs) [] h = absurd (false≢true h)
-same-true (x ∷ xs) (y ∷ ys) h =
-    ap₂ (λ (z : ℕ) (zs : List ℕ). z ∷ zs) (eqb-true x y (and-left (x == y) _ h)) (same-true xs ys (and-right (x == y) _ h))
-
-pub all-both : {A : Type 0} (p : A → Bool) (xs ys : List A) → all p xs ≡ true → all p ys ≡ true → all p (xs ++ ys) ≡ true
-unfolding all
-all-both p [] ys h k = k
-all-both p (x ∷ xs) ys h k = and-left (p x) _ h & all-both p xs ys (and-right (p x) _ h) k
-
-pub all-each : {A : Type 0} {B : Type 0} (p : B → Bool) (f : A → List B) (xs : List A) → ((x : A) → List·Memᴰ x xs → all p (f x) ≡ true) → all p (each f xs) ≡ true
-unfolding all each
-all-each p f [] h = refl
-all-each p f (x ∷ xs) h = all-both p (f x) (each f xs) (h x (List·Memᴰ·head refl)) (all-each p f xs (λ y m. h y (List·Memᴰ·tail m)))
-
-pub each-append : {A : Type 0} {B : Type 0} (f : A → List B) (xs ys : List A) → each f (xs ++ ys) ≡ each f xs ++ each f ys
-unfolding each
-each-append f [] ys = refl
-each-append f (x ∷ xs) ys = ap (λ l. f x ++ l) (each-append f xs ys) ∙ sym (append-assoc (f x) (each f xs) (each f ys))
-
--- what was coded and read comes back
-pub map-back : {A : Type 0} {B : Type 0} (code : A → B) (read : B → A) (xs : List A) → ((x : A) → List·Memᴰ x xs → read (code x) ≡ x) → map read (map code xs) ≡ xs
-map-back code read [] h = refl
-map-back code read (x ∷ xs) h = ap₂ (λ (y : _) (ys : List _). y ∷ ys) (h x (List·Memᴰ·head refl)) (map-back code read xs (λ y m. h y (List·Memᴰ·tail m)))
 
 -- ---- each value back
 
@@ -193,7 +161,7 @@ module _ (L : Limits) (T : Tables) (r : Ruled L T) where
   thread-ranged t m =
       let g = r .fits .threads t m in
       record {
-        name = r .inv .low (t .name) (member-any (named (t .name)) (T .threads) t m (eq-eqb (t .name) (t .name) refl));
+        name = r .inv .low (t .name) (member-live (T .threads) t m);
         parent = parent-ranged t m;
         state = state-ranged (t .name) (t .managers) (t .state) (g .detail);
         managers = λ k. entry-ranged (t .name) (manager k (t .managers)) (g .entries k);
@@ -202,21 +170,11 @@ module _ (L : Limits) (T : Tables) (r : Ruled L T) where
       }
 
   pub runner-ranged : by-runner (Unit {0}) (λ n s. n < names) (T .runner)
-  unfolding here runs-as
   runner-ranged = go (T .runner) refl
     where
       go : (x : Runner) → T .runner ≡ x → by-runner (Unit {0}) (λ n s. n < names) x
       go NoRunner e = tt
-      go (Runs n s) e =
-          r .inv .low n
-          (count-any (named n) (T .threads)
-          (omega (
-            arith,
-            r .inv .agree .run n,
-            ap (λ (x : Runner). one-if (runs-as n x)) e,
-            ap one-if (eq-eqb n n refl),
-            count-less (λ t. named n t && is-running (t .state)) (named n) (T .threads) (λ t h. and-left (named n t) _ h),
-          )))
+      go (Runs n s) e = r .inv .low n (runner-live (r .inv) n s e)
 
 -- ---- fields
 
@@ -468,20 +426,7 @@ module _ (L : Limits) (T : Tables) (r : Ruled L T) where
 
   -- a queue holds names of live threads
   queue-bytes : (p : State → Bool) (q : List ℕ) → ((n : ℕ) → here p n (T .threads) ≡ times-in q n) → all is-byte q ≡ true
-  unfolding here
-  queue-bytes p q h =
-      all-of is-byte q λ n m.
-      a-byte n
-      (omega (
-        arith,
-        r .inv .low n (count-any (named n) (T .threads)
-            (omega (
-              arith,
-              h n,
-              any-count (λ k. n == k) q (member-any (λ k. n == k) q n m (eq-eqb n n refl)),
-              count-less (λ t. named n t && p (t .state)) (named n) (T .threads) (λ t e. and-left (named n t) _ e),
-            ))),
-      ))
+  queue-bytes p q h = all-of is-byte q (λ n m. a-byte n (omega (arith, r .inv .low n (here-live p n (T .threads) (omega (arith, h n, member-times q n m))))))
 
   message-bytes : (m : Message) → List·Memᴰ m (T .messages) → all is-byte (message-value m) ≡ true
   unfolding all message-value

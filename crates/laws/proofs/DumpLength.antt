@@ -1,67 +1,27 @@
 -- How long a dump can be: the lengths of queues, messages and held words, and from them the length of the dump.
 -- Assumes nothing.
-use Prim.Native.Nat.{ℕ, suc, _+_, _*_, _≤_, _<_}
-use mathlib.Core.Path.{_≡_, refl, sym, ap, _∙_}
-use mathlib.Core.Logic.{⊎-elim, _≢_}
-use mathlib.Core.Bool.{Bool, true, false, _&&_, not}
-use mathlib.Core.List.{List, [], _∷_, _++_, map, List·Memᴰ, List·Memᴰ·head, List·Memᴰ·tail}
+use Prim.Native.Nat.{ℕ, _+_, _*_, _≤_}
+use mathlib.Core.Path.{_≡_, refl, ap, _∙_}
+use mathlib.Core.Logic.{⊎-elim}
+use mathlib.Core.Bool.{Bool, true, _&&_, not}
+use mathlib.Core.List.{List, _++_, map}
 use native.Mathlib.Omega.{arith}
 use lib.ListN.{length, length-append, length-map}
-use borrow.Author.Tests.{eqb-true, eq-eqb}
-use Rattle.rules.specs.Lists.{_==_, one-if, keep, count, chain, times-in, each}
+use borrow.Author.Tests.{eqb-true}
+use Rattle.rules.specs.Lists.{_==_, keep, count, times-in}
 use Rattle.rules.specs.Numbers.{Limits, small, names, devices}
-use Rattle.laws.proofs.Words.{State, Running, Ready, Receiving, Clock, Device, Trapped, Thread, Message, Held, Runner}
+use Rattle.laws.proofs.Words.{Thread, Message, Held, Runner}
 use Rattle.rules.specs.Tables.{Tables, named}
-use Rattle.rules.specs.States.{is-ready, on-clock}
 use Rattle.rules.specs.Waking.{is-ordinary, notice-of}
 use Rattle.rules.specs.TableRules.{table-rules}
 use Rattle.rules.specs.Dump.{field, head-value, thread-value, message-value, held-value, dump}
-use Rattle.laws.proofs.Tests.{same?, and-right, and-true}
-use Rattle.laws.proofs.Counting.{count-append, count-map, count-add, count-add-le, count-same, count-keep, length-count, any-count, count-any, any-member, member-any}
-use Rattle.laws.proofs.Ordered.{up, up-tail, up-below}
-use Rattle.laws.proofs.Types.{here, Places, Good, Ruled}
+use Rattle.laws.proofs.Tests.{same?, same-turned, and-right}
+use Rattle.laws.proofs.Counting.{count-append, count-map, count-same, count-not, count-keep, length-keep, any-count, count-any, any-member, length-each}
+use Rattle.laws.proofs.Ordered.{up-few}
+use Rattle.laws.proofs.Types.{Places, Good, Ruled}
+use Rattle.laws.proofs.Queues.{no-longer}
+use Rattle.laws.proofs.Threads.{member-live, apart}
 use Rattle.laws.proofs.Sound.{tested-ruled}
-
--- ---- general
-
-pub same-turned : (a b : ℕ) → (a == b) ≡ (b == a)
-same-turned a b = ⊎-elim (λ e. rw (e .0)) (λ e. e .1 ∙ sym (ne-turned (e .0))) (same? a b)
-  where
-    ne-turned : a ≢ b → (b == a) ≡ false
-    ne-turned d = ⊎-elim (λ e. absurd (d (sym (e .0)))) (λ e. e .1) (same? b a)
-
--- one of the numbers taken out
-pub one-out : (x : ℕ) (ys : List ℕ) → 1 ≤ times-in ys x → (zs : List ℕ) × (length ys ≡ suc (length zs)) × ((n : ℕ) → times-in ys n ≡ one-if (n == x) + times-in zs n)
-unfolding count
-one-out x [] h = absurd (omega arith)
-one-out x (y ∷ ys) h =
-    ⊎-elim
-    (λ e. (ys, refl, λ n. rw (e .0)))
-    (λ e. let r = one-out x ys (omega (arith, ap one-if (e .1))) in (y ∷ r .0, ap suc (r .1), λ n. omega (arith, r .2 n)))
-    (same? x y)
-
--- a list in which no number stands more often than in another is no longer than that
-pub no-longer : (xs ys : List ℕ) → ((n : ℕ) → times-in xs n ≤ times-in ys n) → length xs ≤ length ys
-unfolding count
-no-longer [] ys h = omega arith
-no-longer (x ∷ xs) ys h =
-    let r = one-out x ys (omega (arith, h x, ap one-if (eq-eqb x x refl))) in
-    omega (arith, r .1, no-longer xs (r .0) (λ n. omega (arith, h n, r .2 n)))
-
-pub length-keep : {A : Type 0} (p : A → Bool) (xs : List A) → length (keep p xs) ≡ count p xs
-length-keep p xs = length-count (keep p xs) ∙ count-keep _ p xs ∙ count-same _ _ xs (λ x. and-true (p x))
-
--- keys that rise from k and stay below n are at most n - k
-pub up-few : {A : Type 0} (key : A → ℕ) (k n : ℕ) (xs : List A) → k ≤ n → chain (up key) xs ≡ true → ((x : A) → List·Memᴰ x xs → (k ≤ key x) × (key x < n)) → k + length xs ≤ n
-up-few key k n [] l c h = omega arith
-up-few key k n (x ∷ xs) l c h =
-    let b = h x (List·Memᴰ·head refl) in
-    omega (arith, b .0, up-few key (suc (key x)) n xs (b .1) (up-tail key x xs c) (λ y m. (up-below key x xs c y m, h y (List·Memᴰ·tail m) .1)))
-
-pub length-each : {A : Type 0} {B : Type 0} (f : A → List B) (k : ℕ) (xs : List A) → ((x : A) → length (f x) ≡ k) → length (each f xs) ≡ k * length xs
-unfolding each
-length-each f k [] h = omega arith
-length-each f k (x ∷ xs) h = omega (arith, length-append (f x) (each f xs), h x, length-each f k xs h)
 
 -- ---- threads, queues, messages, held words
 
@@ -71,22 +31,11 @@ threads-few L T r =
     omega (
       arith,
       up-few (λ t. t .name) 0 names (T .threads) (omega arith) (r .fits .rising)
-          (λ t m. (omega arith, r .inv .low (t .name) (member-any (named (t .name)) (T .threads) t m (eq-eqb (t .name) (t .name) refl)))),
+          (λ t m. (omega arith, r .inv .low (t .name) (member-live (T .threads) t m))),
     )
-
-one-place : (b : Bool) (s : State) → one-if (b && is-ready s) + one-if (b && on-clock s) ≤ one-if b
-unfolding is-ready on-clock
-one-place false s = omega arith
-one-place true Running = omega arith
-one-place true Ready = omega arith
-one-place true (Receiving w) = omega arith
-one-place true Clock = omega arith
-one-place true (Device d) = omega arith
-one-place true (Trapped k) = omega arith
 
 -- both queues together: a thread stands in one of them at most, once
 pub queues-few : (ts : List Thread) (r : Runner) (q c : List ℕ) → Places ts r q c → length q + length c ≤ length ts
-unfolding here
 queues-few ts r q c a = omega (arith, no-longer (q ++ c) (map (λ t. t .name) ts) at-most, length-append q c, length-map ts (λ t. t .name))
   where
     at-most : (n : ℕ) → times-in (q ++ c) n ≤ times-in (map (λ t. t .name) ts) n
@@ -97,7 +46,7 @@ queues-few ts r q c a = omega (arith, no-longer (q ++ c) (map (λ t. t .name) ts
           count-map (λ m. n == m) (λ t. t .name) ts,
           a .wait n,
           a .beat n,
-          count-add-le (λ t. named n t && is-ready (t .state)) (λ t. named n t && on-clock (t .state)) (named n) ts (λ t m. one-place (named n t) (t .state)),
+          apart n ts,
         )
 
 abbrev is-notice : Message → Bool
@@ -128,14 +77,10 @@ notices-few b ts ms hs g =
         (λ e. omega (arith, sent n, g .notices n, count-map (λ m. n == m) (λ t. t .name) ts, lives n (omega (arith, e .0))))
         (same? (count (notice-of n) ms) 0)
 
-one-kind : (b : Bool) → one-if true ≡ one-if b + one-if (not b)
-one-kind true = omega arith
-one-kind false = omega arith
-
 -- ordinary messages and notices
 pub messages-few : (b : ℕ) (ts : List Thread) (ms : List Message) (hs : List Held) → Good b ts ms hs → length ms ≤ b + length ts
 messages-few b ts ms hs g =
-    omega (arith, length-count ms, count-add (λ m. true) (λ m. is-ordinary (m .kind)) is-notice ms (λ m. one-kind (is-ordinary (m .kind))), g .blocks, notices-few b ts ms hs g)
+    omega (arith, count-not (λ m. is-ordinary (m .kind)) ms, g .blocks, notices-few b ts ms hs g)
 
 -- devices rise and are below 48
 pub held-few : (b : ℕ) (ts : List Thread) (ms : List Message) (hs : List Held) → Good b ts ms hs → length hs ≤ devices

@@ -3,18 +3,19 @@
 use Prim.Native.Nat.{ℕ}
 use mathlib.Core.Path.{_≡_, refl, sym, ap, _∙_, subst}
 use mathlib.Core.Logic.{⊎-elim}
-use mathlib.Core.Bool.{Bool, true, false, _||_, not, true≢false, false≢true}
+use mathlib.Core.Bool.{Bool, true, false, _||_, not, false≢true}
 use mathlib.Core.List.{List, map, List·Memᴰ, List·Memᴰ·append-cases}
 use native.Mathlib.Omega.{arith}
-use Rattle.rules.specs.Lists.{if_then_else_, has, keep}
+use Rattle.rules.specs.Lists.{if_then_else_, keep, has}
 use Rattle.rules.specs.Words.{by-parent, by-runner}
 use Rattle.laws.proofs.Words.{Anybody, Only, TrapKind, Program, Tlb, SysBp, State, Running, Ready, Receiving, Clock, Device, Trapped, SenderGone, Manager, Unset, Set, Gone, Managers, ParentIs, Thread, Message, Runner, NoRunner, Runs}
 use Rattle.rules.specs.Tables.{Tables, in-state, manager}
 use Rattle.rules.specs.States.{awaits}
 use Rattle.rules.specs.Waking.{wake-those}
 use Rattle.rules.specs.Ending.{ended-set, gone-if, without-managers, remove, misses, told-gone, release, end}
-use Rattle.laws.proofs.Tests.{by-if, or-false, not-true}
+use Rattle.laws.proofs.Tests.{by-if, clash, or-false, not-true}
 use Rattle.laws.proofs.Members.{mem-keep, keep-mem, mem-map, map-mem}
+use Rattle.laws.proofs.Threads.{left}
 use Rattle.laws.proofs.Closure.{Closed, ended-set-closed}
 
 -- ---- what is said of the tables after an ending
@@ -44,14 +45,11 @@ pub record Survives (set : List ℕ) (t u : Thread) : Type 0 where
 -- ---- the threads that stay, for any set
 
 module _ (set : List ℕ) where
-  abbrev pub left : List Thread → List Thread
-  left ts = keep (λ t. not (has (t .name) set)) ts
-
   abbrev pub freed : Thread → Thread
   freed t = if misses set (t .state) then in-state Ready (told-gone (t .state)) t else t
 
   abbrev pub stay : List Thread → List Thread
-  stay ts = map freed (map (without-managers set) (left ts))
+  stay ts = map freed (map (without-managers set) (left set ts))
 
   abbrev pub stay-messages : List Message → List Message
   stay-messages ms = keep (λ m. not (has (m .to) set || has (m .from) set)) ms
@@ -95,7 +93,7 @@ module _ (set : List ℕ) where
         parent = refl;
         ticks = refl;
         managers = λ k. gone-manager k (t .managers);
-        same = λ h. absurd (true≢false (sym (r .2) ∙ h (r .0) (r .1)));
+        same = λ h. absurd (clash (r .2) (h (r .0) (r .1)));
         told = λ n i h. (refl, receiver-told n i);
       })
       (λ e.
@@ -105,21 +103,21 @@ module _ (set : List ℕ) where
         ticks = refl;
         managers = λ k. gone-manager k (t .managers);
         same = λ h. (refl, refl);
-        told = λ n i h. absurd (true≢false (sym h ∙ sym (receiver-misses n i) ∙ e));
+        told = λ n i h. absurd (clash h (sym (receiver-misses n i) ∙ e));
       })
 
   -- where a thread that stays comes from
   pub origin : (ts : List Thread) (u : Thread) → List·Memᴰ u (stay ts) → (t : Thread) × List·Memᴰ t ts × (has (t .name) set ≡ false) × (u ≡ freed (without-managers set t)) × Survives set t u
   origin ts u m =
-      let a = mem-map freed (map (without-managers set) (left ts)) m in
-      let b = mem-map (without-managers set) (left ts) (a .1) in
+      let a = mem-map freed (map (without-managers set) (left set ts)) m in
+      let b = mem-map (without-managers set) (left set ts) (a .1) in
       let c = mem-keep (λ t. not (has (t .name) set)) ts (b .1) in
       let e : u ≡ freed (without-managers set (b .0)) = a .2 ∙ ap freed (b .2) in
       (b .0, c .0, not-true _ (c .1), e, subst (λ (x : Thread). Survives set (b .0) x) (sym e) (survives (b .0)))
 
   -- a thread that is no member stays
   pub lasting : (ts : List Thread) (t : Thread) → List·Memᴰ t ts → has (t .name) set ≡ false → List·Memᴰ (freed (without-managers set t)) (stay ts)
-  lasting ts t m o = map-mem freed _ (map-mem (without-managers set) (left ts) (keep-mem (λ u. not (has (u .name) set)) ts m (ap not o)))
+  lasting ts t m o = map-mem freed _ (map-mem (without-managers set) (left set ts) (keep-mem (λ u. not (has (u .name) set)) ts m (ap not o)))
 
   -- ---- what the parts no longer name
 
@@ -154,11 +152,11 @@ module _ (set : List ℕ) where
   kept-left l x m = not-true _ (mem-keep (λ y. not (has y set)) l m .1)
 
   -- nor is that of a thread that is told of an end
-  woken-left : (ts : List Thread) (x : ℕ) → List·Memᴰ x (map (λ t. t .name) (keep (λ t. misses set (t .state)) (map (without-managers set) (left ts)))) → has x set ≡ false
+  woken-left : (ts : List Thread) (x : ℕ) → List·Memᴰ x (map (λ t. t .name) (keep (λ t. misses set (t .state)) (map (without-managers set) (left set ts)))) → has x set ≡ false
   unfolding without-managers
   woken-left ts x m =
-      let a = mem-map (λ (t : Thread). t .name) (keep (λ t. misses set (t .state)) (map (without-managers set) (left ts))) m in
-      let b = mem-map (without-managers set) (left ts) (mem-keep (λ t. misses set (t .state)) (map (without-managers set) (left ts)) (a .1) .0) in
+      let a = mem-map (λ (t : Thread). t .name) (keep (λ t. misses set (t .state)) (map (without-managers set) (left set ts))) m in
+      let b = mem-map (without-managers set) (left set ts) (mem-keep (λ t. misses set (t .state)) (map (without-managers set) (left set ts)) (a .1) .0) in
       let e : x ≡ b .0 .name = a .2 ∙ ap (λ (t : Thread). t .name) (b .2) in
       ap (λ (y : ℕ). has y set) e ∙ not-true _ (mem-keep (λ t. not (has (t .name) set)) ts (b .1) .1)
 
@@ -171,14 +169,14 @@ module _ (set : List ℕ) where
     parent-left p e = out (has p set) refl
       where
         out : (b : Bool) → has p set ≡ b → has p set ≡ false
-        out true h = absurd (true≢false (sym (C .children t m (ap (by-parent false (λ x. has x set)) e ∙ h)) ∙ o))
+        out true h = absurd (clash (C .children t m (ap (by-parent false (λ x. has x set)) e ∙ h)) o)
         out false h = h
 
     pub awaited-left : (x : ℕ) → awaits x t ≡ true → has x set ≡ false
     awaited-left x e = out (has x set) refl
       where
         out : (b : Bool) → has x set ≡ b → has x set ≡ false
-        out true h = absurd (true≢false (sym (C .trapped t m x e h) ∙ o))
+        out true h = absurd (clash (C .trapped t m x e h) o)
         out false h = h
 
 -- ---- the laws

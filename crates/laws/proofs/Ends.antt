@@ -7,23 +7,24 @@ use mathlib.Core.Bool.{true, false, _||_, not, true≢false, false≢true}
 use mathlib.Core.List.{List, map, List·Memᴰ}
 use native.Mathlib.Omega.{arith}
 use borrow.Author.Tests.{eqb-true, eq-eqb, lt-ltb}
-use Rattle.rules.specs.Lists.{_==_, any, has, count}
+use Rattle.rules.specs.Lists.{_==_, any, count, has}
 use Rattle.rules.specs.Numbers.{Limits, names}
 use Rattle.rules.specs.Words.{by-manager}
 use Rattle.laws.proofs.Words.{Anybody, Only, TrapKind, State, Running, Ready, Receiving, Clock, Device, Trapped, Manager, Unset, Set, Gone, Managers, Thread, Message, Held}
 use Rattle.rules.specs.Tables.{Tables, named, live, manager}
 use Rattle.rules.specs.States.{is-ready, at-device, waits-for, trapped-on, awaits}
-use Rattle.rules.specs.Waking.{is-ordinary, notice-of, wake-those}
+use Rattle.rules.specs.Waking.{wake-those, is-ordinary, notice-of}
 use Rattle.rules.specs.Receive.{wanted-by}
 use Rattle.rules.specs.Ending.{ended-set, gone-if, without-managers, remove, misses, told-gone, release, end}
 use Rattle.rules.specs.TableRules.{answer-in-range}
-use Rattle.laws.proofs.Tests.{by-if, same?}
-use Rattle.laws.proofs.Counting.{count-map, count-same, count-less, count-keep-le, any-count, count-any, any-member, member-any, any-fewer, all-left}
-use Rattle.laws.proofs.Ordered.{up-map, up-keep}
+use Rattle.laws.proofs.Tests.{by-if, clash, same?}
+use Rattle.laws.proofs.Counting.{count-map, count-less, count-keep-le, any-count, count-any, member-any, any-fewer, all-left}
+use Rattle.laws.proofs.Ordered.{keep-less, up-less, up-map}
 use Rattle.laws.proofs.Types.{Inv, Entry, Detail, Right, Family, Good, Fits}
+use Rattle.laws.proofs.Threads.{live-member, names-kept, left, put-name}
 use Rattle.laws.proofs.Closure.{Closed, ended-set-closed}
-use Rattle.laws.proofs.Ending.{left, freed, stay, stay-messages, gone-all, gone-manager, survives, origin, message-left, parent-left, awaited-left}
-use Rattle.laws.proofs.Right.{keep-less, less-order}
+use Rattle.laws.proofs.Ending.{freed, stay, stay-messages, gone-all, gone-manager, origin, message-left, parent-left, awaited-left}
+use Rattle.laws.proofs.Right.{less-order}
 
 -- ---- thread 0 lives as long as any thread does
 
@@ -34,29 +35,25 @@ top-lives ts F (suc k) t m h = ⊎-elim (λ e. member-any (named 0) ts t m (eq-e
     above : t .name ≢ 0 → ((u : Thread) → List·Memᴰ u ts → F .depth (u .name) < k → any (named 0) ts ≡ true) → any (named 0) ts ≡ true
     above d later =
         let q = F .under t m d in
-        let r = any-member (named (q .0)) ts (q .2) in
-        later (r .0) (r .1) (omega (arith, q .3, ap (F .depth) (eqb-true (q .0) (r .0 .name) (r .2))))
+        let r = live-member ts (q .0) (q .2) in
+        later (r .0) (r .1) (omega (arith, q .3, ap (F .depth) (r .2)))
 
 -- Where a thread lives, thread 0 lives.
 pub zero-lives : {ts : List Thread} → Family ts → (n : ℕ) → any (named n) ts ≡ true → any (named 0) ts ≡ true
-zero-lives {ts} F n h = let r = any-member (named n) ts h in top-lives ts F (suc (F .depth (r .0 .name))) (r .0) (r .1) (omega arith)
+zero-lives {ts} F n h = let r = live-member ts n h in top-lives ts F (suc (F .depth (r .0 .name))) (r .0) (r .1) (omega arith)
 
 -- ---- what stays, for any set
 
 module _ (set : List ℕ) where
-  freed-name : (t : Thread) → freed set t .name ≡ t .name
-  freed-name t = by-if (λ (u : Thread). u .name ≡ t .name) (misses set (t .state)) (λ _. refl) (λ _. refl)
-
   -- who waits for a device has waited for it
-  asleep : (d : ℕ) (t : Thread) → waits-for d (freed set (without-managers set t)) ≡ true → waits-for d t ≡ true
+  waited : (d : ℕ) (t : Thread) → waits-for d (freed set (without-managers set t)) ≡ true → waits-for d t ≡ true
   unfolding without-managers at-device
-  asleep d t = by-if (λ (u : Thread). waits-for d u ≡ true → waits-for d t ≡ true) (misses set (t .state)) (λ _ x. absurd (false≢true x)) (λ _ x. x)
+  waited d t = by-if (λ (u : Thread). waits-for d u ≡ true → waits-for d t ≡ true) (misses set (t .state)) (λ _ x. absurd (false≢true x)) (λ _ x. x)
 
   count-stay : (n : ℕ) (ts : List Thread) → has n set ≡ false → count (named n) (stay set ts) ≡ count (named n) ts
   count-stay n ts o =
-      count-map (named n) (freed set) (map (without-managers set) (left set ts))
-      ∙ count-map (λ t. named n (freed set t)) (without-managers set) (left set ts)
-      ∙ count-same _ (named n) (left set ts) (λ t. ap (λ (x : ℕ). n == x) (survives set t .name))
+      names-kept (freed set) (put-name (λ t. misses set (t .state)) Ready (λ t. told-gone (t .state))) n (map (without-managers set) (left set ts))
+      ∙ names-kept (without-managers set) (λ t. unfold without-managers in refl) n (left set ts)
       ∙ all-left (λ t. t .name) (λ x. has x set) (named n) n (λ t e. eqb-true n (t .name) e) o ts
 
   pub lives-on : (n : ℕ) (ts : List Thread) → any (named n) ts ≡ true → has n set ≡ false → any (named n) (stay set ts) ≡ true
@@ -131,7 +128,7 @@ module _ (set : List ℕ) where
     unfolding without-managers
     awaits-left t m o n e =
         by-if (λ (u : Thread). awaits n u ≡ true) (misses set (t .state))
-        (λ w. absurd (true≢false (sym w ∙ trapped-not-missing (t .managers) (t .state) n e)))
+        (λ w. absurd (clash w (trapped-not-missing (t .managers) (t .state) n e)))
         (λ w. trap-stays (t .managers) (t .state) (awaited-left set C t m o) n e)
 
     pub stay-good : Good b (stay set ts) (stay-messages set ms) hs
@@ -159,7 +156,7 @@ module _ (set : List ℕ) where
           };
       notices = λ n. omega (arith, G .notices n, keep-less (λ m. not (has (m .to) set || has (m .from) set)) ms .counts (notice-of n));
       blocks = omega (arith, G .blocks, keep-less (λ m. not (has (m .to) set || has (m .from) set)) ms .counts (λ m. is-ordinary (m .kind)));
-      rising = up-map (λ t. t .name) (freed set) freed-name _ (up-map (λ t. t .name) (without-managers set) (λ t. unfold without-managers in refl) (left set ts) (up-keep (λ t. t .name) (λ t. not (has (t .name) set)) ts (G .rising)));
+      rising = up-map (λ t. t .name) (freed set) (put-name (λ t. misses set (t .state)) Ready (λ t. told-gone (t .state))) _ (up-map (λ t. t .name) (without-managers set) (λ t. unfold without-managers in refl) (left set ts) (up-less (λ t. t .name) (keep-less (λ t. not (has (t .name) set)) ts) (G .rising)));
       order = less-order (keep-less _ ms) (G .order);
       held = G .held;
       held-order = G .held-order;
@@ -171,7 +168,7 @@ module _ (set : List ℕ) where
               arith,
               count-map (waits-for d) (freed set) (map (without-managers set) (left set ts)),
               count-map (λ t. waits-for d (freed set t)) (without-managers set) (left set ts),
-              count-less (λ t. waits-for d (freed set (without-managers set t))) (waits-for d) (left set ts) (asleep d),
+              count-less (λ t. waits-for d (freed set (without-managers set t))) (waits-for d) (left set ts) (waited d),
               count-keep-le (waits-for d) (λ t. not (has (t .name) set)) ts,
             )
 

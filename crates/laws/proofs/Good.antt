@@ -1,21 +1,21 @@
 -- Every step keeps the rules of families, managers, wanted names, devices, answers, messages and notices.
 -- Assumes nothing.
-use Prim.Native.Nat.{ℕ, zero, suc, _+_, _-_, _≤_, _<_}
+use Prim.Native.Nat.{ℕ, zero, suc, _+_, _≤_, _<_}
 use mathlib.Core.Path.{_≡_, refl, sym, ap, _∙_}
-use mathlib.Core.Logic.{inl, inr, ⊎-elim, _≢_}
+use mathlib.Core.Logic.{inl, inr, ⊎-elim, _≢_, _⊎_}
 use mathlib.Core.Bool.{Bool, true, false, _&&_, not, true≢false, false≢true}
-use mathlib.Core.List.{List, [], _∷_, map, List·Memᴰ, List·Memᴰ·head, List·Memᴰ·tail}
+use mathlib.Core.List.{List, _∷_, map, List·Memᴰ}
 use native.Mathlib.Omega.{arith}
 use native.Mathlib.Nat.{mod-lt}
 use lib.Dec.{leb, ltb}
 use borrow.Author.Tests.{eqb-true, eqb-false, eq-eqb, ne-eqb, leb-false, lt-ltb}
-use Rattle.rules.specs.Lists.{if_then_else_, _==_, one-if, any, keep, count, insert, times-in, Pulled, missing, pulled, pull}
+use Rattle.rules.specs.Lists.{if_then_else_, _==_, one-if, Pulled, missing, pulled, any, keep, count, pull, insert, times-in}
 use Rattle.rules.specs.Numbers.{Limits, names, beat-ticks, devices, wrap}
-use Rattle.rules.specs.Words.{by-wanted, by-manager, by-runner}
-use Rattle.laws.proofs.Words.{Wanted, Anybody, Only, TrapKind, Program, Tlb, SysBp, State, Running, Ready, Receiving, Clock, Device, Trapped, Answer, Nothing, Result, Manager, Unset, Set, Gone, Managers, NoParent, ParentIs, Thread, MessageKind, Ordinary, Notice, Message, Held, Runner, NoRunner, Runs, Oneself, Named, Call, Send, Receive, CreateBrother, CreateSon, Terminate, SetManager, GetCpuTime, WaitForClock, WaitForIo, Trap, Event, Malformed, ByRunner, Tick, Interrupt}
-use Rattle.rules.specs.Tables.{Tables, with-runner, with-ticks, with-managers, in-state, named, live, of-thread, change, manager, set-entry, new-thread, runs-as, me}
+use Rattle.rules.specs.Words.{by-wanted, by-manager}
+use Rattle.laws.proofs.Words.{Wanted, Anybody, Only, TrapKind, Program, Tlb, SysBp, State, Running, Ready, Receiving, Clock, Device, Trapped, Answer, Nothing, Result, Manager, Unset, Set, Gone, Managers, NoParent, ParentIs, Thread, MessageKind, Ordinary, Notice, Message, Held, Runs, Oneself, Named, Call, Send, Receive, CreateBrother, CreateSon, Terminate, SetManager, GetCpuTime, WaitForClock, WaitForIo, Trap, Event, Malformed, ByRunner, Tick, Interrupt}
+use Rattle.rules.specs.Tables.{Tables, in-state, with-managers, with-ticks, named, live, of-thread, change, manager, set-entry, new-thread, runs-as, me}
 use Rattle.rules.specs.States.{is-running, is-ready, on-clock, receives, at-device, waits-for, trapped-on, awaits}
-use Rattle.rules.specs.Waking.{Outcome, wake-those, wake, is-ordinary, blocks-used, notice-of, handed-as, handed, accepts, queue, deliver, stop}
+use Rattle.rules.specs.Waking.{Outcome, wake-those, is-ordinary, blocks-used, notice-of, handed-as, handed, accepts, queue, deliver, stop}
 use Rattle.rules.specs.Send.{message, waits-for-decision, decides, decide, send}
 use Rattle.rules.specs.Receive.{wanted-by, received, receive}
 use Rattle.rules.specs.Trap.{notice, trap}
@@ -23,24 +23,23 @@ use Rattle.rules.specs.Tick.{one-more, charge, beat, rotate, tick}
 use Rattle.rules.specs.Interrupt.{held-for, hold, interrupt}
 use Rattle.rules.specs.Requests.{next-name, create, create-brother, terminate, set-over, wait-for-clock, take-held, wait-for-io}
 use Rattle.rules.specs.Ending.{end}
-use Rattle.rules.specs.Dispatch.{run-next, dispatch}
+use Rattle.rules.specs.Dispatch.{dispatch}
 use Rattle.rules.specs.Events.{decode}
 use Rattle.rules.specs.Refusals.{first-of, wants-nobody, ends-nobody, no-block-free, call-rules, refusal}
-use Rattle.rules.specs.Step.{serve, act, settle, step}
+use Rattle.rules.specs.Step.{serve, act, step}
 use Rattle.rules.specs.TableRules.{answer-in-range}
-use Rattle.laws.proofs.Tests.{by-if, same?, and-left, and-right, and-false, not-true, not-false}
-use Rattle.laws.proofs.Counting.{count-cons, count-map, count-add, count-le-add, count-zero, count-less, count-insert, count-keep, count-keep-le, any-count, count-any, none-count, any-member, member-any, not-any, none-any}
+use Rattle.laws.proofs.Tests.{by-if, by-runs, clash, same?, and-left, and-right, and-false, not-both, not-true, not-false}
+use Rattle.laws.proofs.Counting.{count-cons, count-map, count-le-add, count-zero, count-less, count-insert, count-keep, count-keep-le, any-count, count-any, none-count, any-member, not-any, none-any}
 use Rattle.laws.proofs.Members.{mem-keep, mem-insert, mem-map}
-use Rattle.laws.proofs.Ordered.{up-keep, up-insert}
-use Rattle.laws.proofs.Types.{here, Agree, Inv, Entry, Detail, Right, Post, Family, Good, Fits}
-use Rattle.laws.proofs.Right.{Less, less-refl, keep-less, pull-none, pull-less, less-order, less-held, chain-insert, Around, entry-around, right-around, sender-trapped, turned-live, turned-name, turned-around, some-good}
-use Rattle.laws.proofs.Decoded.{ProperCall, Proper, decode-proper}
-use Rattle.laws.proofs.Ends.{zero-lives, end-good}
+use Rattle.laws.proofs.Ordered.{Less, less-refl, keep-less, pull-none, pull-took, up-less, up-insert}
+use Rattle.laws.proofs.Types.{Agree, Inv, Entry, Detail, Post, Family, Good, Fits}
+use Rattle.laws.proofs.Threads.{member-live, live-member, of-only, turned-name, turned-live, here-only}
+use Rattle.laws.proofs.Steps.{passed, called, by-step, by-dispatch}
 use Rattle.laws.proofs.Names.{name-free}
-use Rattle.laws.proofs.PlacesKept.{passed, runner-live, called, act-inv}
-
-clash : {b : Bool} → b ≡ true → b ≡ false → ⊥
-clash x y = true≢false (sym x ∙ y)
+use Rattle.laws.proofs.PlacesKept.{runner-live, act-inv}
+use Rattle.laws.proofs.Right.{less-order, order-insert, Around, entry-around, right-around, nothing-form, new-right, turned-around, some-good}
+use Rattle.laws.proofs.Ends.{zero-lives, end-good}
+use Rattle.laws.proofs.Decoded.{ProperCall, Proper, decode-proper}
 
 -- ---- states in which nobody is awaited: those of a test that no trapped thread passes
 
@@ -73,51 +72,23 @@ receives-free : (m : ℕ) (s : State) → receives m s ≡ true → (n : ℕ) (g
 unfolding receives
 receives-free m s = not-trapped (receives m) (λ k. refl) s
 
--- ---- the thread of a name
-
-split : (a b : Bool) → one-if a ≡ one-if (a && b) + one-if (a && not b)
-split true true = refl
-split true false = refl
-split false b = refl
-
--- where one thread of the name is in a kind of state, every thread of the name is
-only : (p : State → Bool) (n : ℕ) (ts : List Thread) → count (named n) ts ≤ 1 → 1 ≤ here p n ts → (t : Thread) → List·Memᴰ t ts → t .name ≡ n → p (t .state) ≡ true
-unfolding here
-only p n ts o h t m e = go (p (t .state)) refl
-  where
-    go : (b : Bool) → p (t .state) ≡ b → p (t .state) ≡ true
-    go true x = x
-    go false x =
-        absurd (omega (arith, count-add (named n) (λ u. named n u && p (u .state)) (λ u. named n u && not (p (u .state))) ts (λ u. split (named n u) (p (u .state))), any-count (λ u. named n u && not (p (u .state))) ts (member-any (λ u. named n u && not (p (u .state))) ts t m (rw (eq-eqb n (t .name) (sym e), x)))))
-
--- what is looked up of a name is that of its only thread
-of-only : {A : Type 0} (d : A) (f : Thread → A) (n : ℕ) (ts : List Thread) → count (named n) ts ≤ 1 → (t : Thread) → List·Memᴰ t ts → t .name ≡ n → of-thread d f n ts ≡ f t
-unfolding of-thread
-of-only d f n (u ∷ ts) o t (List·Memᴰ·head e) x = rw (eq-eqb n (u .name) (sym x ∙ ap (λ (v : Thread). v .name) e)) (ap f (sym e))
-of-only {A} d f n (u ∷ ts) o t (List·Memᴰ·tail m) x =
-    by-if (λ (y : A). y ≡ f t) (named n u)
-    (λ e. absurd (omega (arith, count-cons (named n) u ts, ap one-if e, any-count (named n) ts (member-any (named n) ts t m (eq-eqb n (t .name) (sym x))))))
-    (λ e. of-only d f n ts (omega (arith, count-cons (named n) u ts)) t m x)
+-- ---- who runs, or is next, awaits nobody
 
 -- the runner's thread awaits nobody
 abbrev Free : ℕ → List Thread → Type 0
 Free n ts = (t : Thread) → List·Memᴰ t ts → t .name ≡ n → (m : ℕ) → awaits m t ≡ false
 
 runner-free : (T : Tables) → Agree T → (n s : ℕ) → T .runner ≡ Runs n s → Free n (T .threads)
-runner-free T A n s r t m e k = running-free (t .state) (only is-running n (T .threads) (A .once n) (omega (arith, A .run n, one)) t m e) k (t .managers)
+runner-free T A n s r t m e k = running-free (t .state) (here-only is-running (T .threads) (A .once) t m (omega (arith, A .run (t .name), one))) k (t .managers)
   where
-    one : one-if (runs-as n (T .runner)) ≡ 1
-    one = unfold runs-as in rw (r, eq-eqb n n refl)
+    one : one-if (runs-as (t .name) (T .runner)) ≡ 1
+    one = unfold runs-as in rw (r, eq-eqb (t .name) n e)
 
 -- a thread that is in the queue's front awaits nobody
 front-free : (T : Tables) → Agree T → (n : ℕ) (q : List ℕ) → T .ready ≡ n ∷ q → Free n (T .threads)
-front-free T A n q r t m e k = ready-free (t .state) (only is-ready n (T .threads) (A .once n) (omega (arith, A .wait n, ap (λ (l : List ℕ). times-in l n) r, count-cons (λ x. n == x) n q, ap one-if (eq-eqb n n refl))) t m e) k (t .managers)
+front-free T A n q r t m e k = ready-free (t .state) (here-only is-ready (T .threads) (A .once) t m (omega (arith, A .wait (t .name), ap (λ (l : List ℕ). times-in l (t .name)) r, count-cons (λ x. t .name == x) n q, ap one-if (eq-eqb (t .name) n e)))) k (t .managers)
 
 -- ---- forms of answers
-
-nothing-form : answer-in-range Nothing ≡ true
-unfolding answer-in-range
-nothing-form = refl
 
 result-form : (w : ℕ) → w < wrap → answer-in-range (Result w) ≡ true
 unfolding answer-in-range
@@ -190,7 +161,7 @@ fewer-good {b} {ts} l f G = record {
   rising = G .rising;
   order = less-order l (G .order);
   held = λ h i. G .held h (f .member h i);
-  held-order = less-held f (G .held-order);
+  held-order = up-less (λ h. h .device) f (G .held-order);
 }
 
 -- ---- a message into an inbox
@@ -218,7 +189,7 @@ module _ (m : Message) {b : ℕ} {ts : List Thread} {ms : List Message} {hs : Li
     notices = λ n. omega (arith, one n, count-insert (notice-of n) (λ x. leb (x .to) (m .to)) m ms);
     blocks = omega (arith, room, count-insert (λ x. is-ordinary (x .kind)) (λ x. leb (x .to) (m .to)) m ms);
     rising = G .rising;
-    order = chain-insert m ms (G .order);
+    order = order-insert m ms (G .order);
     held = G .held;
     held-order = G .held-order;
   }
@@ -242,13 +213,9 @@ no-notice {ms} G t m f = go (any (notice-of (t .name)) ms) refl
     go false e = none-count (notice-of (t .name)) ms e
     go true e =
         let r = any-member (notice-of (t .name)) ms e in
-        absurd (clash (sender-trapped G (r .0) (r .1) (not-true _ (and-left (not (is-ordinary (r .0 .kind))) _ (r .2))) t m (sym (eqb-true (r .0 .from) (t .name) (and-right (not (is-ordinary (r .0 .kind))) _ (r .2))))) (f (r .0 .to)))
+        absurd (clash (G .messages (r .0) (r .1) .notice (not-true _ (and-left (not (is-ordinary (r .0 .kind))) _ (r .2))) t m (sym (eqb-true (r .0 .from) (t .name) (and-right (not (is-ordinary (r .0 .kind))) _ (r .2))))) (f (r .0 .to)))
 
 -- ---- a word held for a device that nobody waits for
-
-not-both : (b : Bool) → (not b && b) ≡ false
-not-both true = refl
-not-both false = refl
 
 module _ (d w : ℕ) (known : d < devices) (fits : w < wrap) {b : ℕ} {ts : List Thread} {ms : List Message} {hs : List Held} (G : Good b ts ms hs) (nobody-waits : any (waits-for d) ts ≡ false) where
   abbrev others : List Held
@@ -269,7 +236,7 @@ module _ (d w : ℕ) (known : d < devices) (fits : w < wrap) {b : ℕ} {ts : Lis
     rising = G .rising;
     order = G .order;
     held = λ h i. ⊎-elim (λ e. (omega (arith, ap (λ (z : Held). z .device) e), omega (arith, ap (λ (z : Held). z .word) e))) (λ j. G .held h (mem-keep (λ z. not (held-for d z)) hs j .0)) (mem-insert (λ z. ltb (z .device) d) word others i);
-    held-order = up-insert (λ h. h .device) word d refl others (λ h i. eqb-false (h .device) d (not-true _ (mem-keep (λ z. not (held-for d z)) hs i .1))) (up-keep (λ h. h .device) (λ z. not (held-for d z)) hs (G .held-order));
+    held-order = up-insert (λ h. h .device) word others (λ h i. eqb-false (h .device) d (not-true _ (mem-keep (λ z. not (held-for d z)) hs i .1))) (up-less (λ h. h .device) (keep-less (λ z. not (held-for d z)) hs) (G .held-order));
   }
     where
       one : (x : ℕ) → count (waits-for x) ts + count (held-for x) (insert (λ h. ltb (h .device) d) word others) ≤ 1
@@ -291,12 +258,6 @@ module _ (d w : ℕ) (known : d < devices) (fits : w < wrap) {b : ℕ} {ts : Lis
 
 -- ---- a new thread
 
-no-entry : (ts : List Thread) (n : ℕ) (k : TrapKind) → Entry ts n (manager k (record { program = Unset; tlb = Unset; sysbp = Unset }))
-unfolding Entry manager
-no-entry ts n Program = tt
-no-entry ts n Tlb = tt
-no-entry ts n SysBp = tt
-
 module _ (n p : ℕ) {b : ℕ} {ts : List Thread} {ms : List Message} {hs : List Held} (G : Good b ts ms hs) (free : any (named n) ts ≡ false) (parent-lives : any (named p) ts ≡ true) where
   abbrev newcomer : Thread
   newcomer = new-thread n (ParentIs p) Ready
@@ -315,10 +276,10 @@ module _ (n p : ℕ) {b : ℕ} {ts : List Thread} {ms : List Message} {hs : List
 
   -- a live name is not the new one
   other : (x : ℕ) → any (named x) ts ≡ true → x ≢ n
-  other x h e = true≢false (sym h ∙ ap (λ (y : ℕ). any (named y) ts) e ∙ free)
+  other x h e = clash h (ap (λ (y : ℕ). any (named y) ts) e ∙ free)
 
   member-other : (t : Thread) → List·Memᴰ t ts → t .name ≢ n
-  member-other t m = other (t .name) (member-any (named (t .name)) ts t m (eq-eqb (t .name) (t .name) refl))
+  member-other t m = other (t .name) (member-live ts t m)
 
   deeper : ℕ → ℕ
   deeper x = if x == n then suc (G .family .depth p) else G .family .depth x
@@ -330,9 +291,6 @@ module _ (n p : ℕ) {b : ℕ} {ts : List Thread} {ms : List Message} {hs : List
   deeper-new : deeper n ≡ suc (G .family .depth p)
   unfolding deeper
   deeper-new = rw (eq-eqb n n refl)
-
-  new-right : Right more ms newcomer
-  new-right = record { entries = no-entry more n; detail = unfold Detail in tt; answer = λ e. refl; form = nothing-form; ticks = omega arith }
 
   new-family : Family more
   new-family = record {
@@ -350,7 +308,7 @@ module _ (n p : ℕ) {b : ℕ} {ts : List Thread} {ms : List Message} {hs : List
   new-good : Good b more ms hs
   new-good = record {
     family = new-family;
-    threads = λ u m. ⊎-elim (λ e. rw e new-right) (λ i. right-around around (G .threads u i)) (mem-insert lower newcomer ts m);
+    threads = λ u m. ⊎-elim (λ e. rw e (new-right more ms n (ParentIs p) Ready (unfold Detail in tt))) (λ i. right-around around (G .threads u i)) (mem-insert lower newcomer ts m);
     waiters = λ d. unfold at-device in omega (arith, G .waiters d, count-insert (waits-for d) lower newcomer ts);
     messages = λ m i.
         let P = G .messages m i in
@@ -362,7 +320,7 @@ module _ (n p : ℕ) {b : ℕ} {ts : List Thread} {ms : List Message} {hs : List
         };
     notices = G .notices;
     blocks = G .blocks;
-    rising = up-insert (λ t. t .name) newcomer n refl ts member-other (G .rising);
+    rising = up-insert (λ t. t .name) newcomer ts member-other (G .rising);
     order = G .order;
     held = G .held;
     held-order = G .held-order;
@@ -370,34 +328,30 @@ module _ (n p : ℕ) {b : ℕ} {ts : List Thread} {ms : List Message} {hs : List
 
 -- ---- a manager entry that is set
 
-entry-set : (ts : List Thread) (own : ℕ) (n : ℕ) (g : Managers) → Entry ts own (Set n) → ((j : TrapKind) → Entry ts own (manager j g)) → (j k : TrapKind) → Entry ts own (manager j (set-entry k (Set n) g))
+-- an entry is the one that was set, or the old one
+set-or-old : (j k : TrapKind) (m : Manager) (g : Managers) → (manager j (set-entry k m g) ≡ m) ⊎ (manager j (set-entry k m g) ≡ manager j g)
 unfolding manager set-entry
-entry-set ts own n g E old Program Program = E
-entry-set ts own n g E old Program Tlb = old Program
-entry-set ts own n g E old Program SysBp = old Program
-entry-set ts own n g E old Tlb Program = old Tlb
-entry-set ts own n g E old Tlb Tlb = E
-entry-set ts own n g E old Tlb SysBp = old Tlb
-entry-set ts own n g E old SysBp Program = old SysBp
-entry-set ts own n g E old SysBp Tlb = old SysBp
-entry-set ts own n g E old SysBp SysBp = E
+set-or-old Program Program m g = inl refl
+set-or-old Program Tlb m g = inr refl
+set-or-old Program SysBp m g = inr refl
+set-or-old Tlb Program m g = inr refl
+set-or-old Tlb Tlb m g = inl refl
+set-or-old Tlb SysBp m g = inr refl
+set-or-old SysBp Program m g = inr refl
+set-or-old SysBp Tlb m g = inr refl
+set-or-old SysBp SysBp m g = inl refl
+
+entry-set : (ts : List Thread) (own n : ℕ) (g : Managers) → Entry ts own (Set n) → ((j : TrapKind) → Entry ts own (manager j g)) → (j k : TrapKind) → Entry ts own (manager j (set-entry k (Set n) g))
+entry-set ts own n g E old j k = ⊎-elim (λ e. rw e E) (λ e. rw e (old j)) (set-or-old j k (Set n) g)
 
 detail-set : (ts : List Thread) (ms : List Message) (n m : ℕ) (k : TrapKind) (g : Managers) (x : State) → Detail ts ms n g x → Detail ts ms n (set-entry k (Set m) g) x
-unfolding Detail manager set-entry
+unfolding Detail
 detail-set ts ms n m k g Running d = tt
 detail-set ts ms n m k g Ready d = tt
 detail-set ts ms n m k g (Receiving w) d = d
 detail-set ts ms n m k g Clock d = tt
 detail-set ts ms n m k g (Device e) d = d
-detail-set ts ms n m Program g (Trapped Program) d = refl
-detail-set ts ms n m Program g (Trapped Tlb) d = d
-detail-set ts ms n m Program g (Trapped SysBp) d = d
-detail-set ts ms n m Tlb g (Trapped Program) d = d
-detail-set ts ms n m Tlb g (Trapped Tlb) d = refl
-detail-set ts ms n m Tlb g (Trapped SysBp) d = d
-detail-set ts ms n m SysBp g (Trapped Program) d = d
-detail-set ts ms n m SysBp g (Trapped Tlb) d = d
-detail-set ts ms n m SysBp g (Trapped SysBp) d = refl
+detail-set ts ms n m k g (Trapped j) d = ⊎-elim (λ e. rw e) (λ e. rw e d) (set-or-old j k (Set m) g)
 
 -- ---- each call of the runner `me`
 
@@ -410,13 +364,13 @@ module _ {L : Limits} {T : Tables} (I : Inv L T) (G : Fits L T) (me s : ℕ) (ru
 
   -- the runner's thread
   self : (t : Thread) × List·Memᴰ t (T .threads) × (t .name ≡ me)
-  self = let r = any-member (named me) (T .threads) me-lives in (r .0, r .1, sym (eqb-true me (r .0 .name) (r .2)))
+  self = let r = live-member (T .threads) me me-lives in (r .0, r .1, sym (r .2))
 
   looked-up : {A : Type 0} (d : A) (f : Thread → A) (t : Thread) → List·Memᴰ t (T .threads) → t .name ≡ me → of-thread d f me (T .threads) ≡ f t
   looked-up d f t m e = of-only d f me (T .threads) (I .agree .once me) t m e
 
   put-lives : (x : State) (n : ℕ) → live n T ≡ true → any (named n) (map (put me x) (T .threads)) ≡ true
-  put-lives x n h = turned-live (named me) (in-state x Nothing) (λ t. refl) (λ t. refl) n (T .threads) ∙ h
+  put-lives x n h = turned-live (named me) (in-state x Nothing) (λ t. refl) n (T .threads) ∙ h
 
   -- "0 continues it (it becomes ready), 1 ends it; an unread notice is discarded"
   decide-good : (to w : ℕ) → live to T ≡ true → Fits L (decide me to w T)
@@ -448,7 +402,7 @@ module _ {L : Limits} {T : Tables} (I : Inv L T) (G : Fits L T) (me s : ℕ) (ru
           put-good me (Receiving w) me-free
           (λ t m x. unfold Detail in (known w ok, rw x (pull-none (wanted-by me w) (T .messages) e)))
           (put-waiters me (Receiving w) (λ d. unfold at-device in refl) G) G
-      go (pulled m ms) e = fewer-good (pull-less (wanted-by me w) (T .messages) e) (less-refl (T .held)) G
+      go (pulled m ms) e = fewer-good (pull-took (wanted-by me w) (T .messages) e .less) (less-refl (T .held)) G
 
   trap-good : (k : TrapKind) (c : ℕ) → c < wrap → Fits L (trap me k c T)
   unfolding trap stop change
@@ -479,7 +433,7 @@ module _ {L : Limits} {T : Tables} (I : Inv L T) (G : Fits L T) (me s : ℕ) (ru
         word = fits;
         notice = λ _ u j x.
             let r = mem-map (put me (Trapped k)) (T .threads) j in
-            rw (r .2) (waits n e (r .0) (r .1) (sym (ap (λ (v : Thread). v .name) (r .2) ∙ turned-name (named me) (in-state (Trapped k) Nothing) (λ t. refl) (λ t. refl) (r .0)) ∙ x));
+            rw (r .2) (waits n e (r .0) (r .1) (sym (ap (λ (v : Thread). v .name) (r .2) ∙ turned-name (named me) (in-state (Trapped k) Nothing) (λ t. refl) (r .0)) ∙ x));
       }
 
       one : (m n : ℕ) → one-if (notice-of n (notice m me c)) + count (notice-of n) (T .messages) ≤ 1
@@ -513,7 +467,7 @@ module _ {L : Limits} {T : Tables} (I : Inv L T) (G : Fits L T) (me s : ℕ) (ru
       (λ t m x.
       let R = right-around (turned-around (named me) g (λ u. refl) (λ u. refl) (T .threads) (less-refl (T .messages))) (G .threads t m) in
       record {
-        entries = λ j. entry-set _ (t .name) n (t .managers) (turned-live (named me) g (λ u. refl) (λ u. refl) n (T .threads) ∙ l, λ y. d (y ∙ sym (eqb-true me (t .name) x))) (R .entries) j k;
+        entries = λ j. entry-set _ (t .name) n (t .managers) (turned-live (named me) g (λ u. refl) n (T .threads) ∙ l, λ y. d (y ∙ sym (eqb-true me (t .name) x))) (R .entries) j k;
         detail = detail-set _ (T .messages) (t .name) n k (t .managers) (t .state) (R .detail);
         answer = R .answer;
         form = R .form;
@@ -551,7 +505,7 @@ module _ {L : Limits} {T : Tables} (I : Inv L T) (G : Fits L T) (me s : ℕ) (ru
     where
       go : (r : Pulled Held) → pull (held-for d) (T .held) ≡ r → Fits L (take-held me d T r .tables)
       go missing e = put-good me (Device d) me-free (λ t m x. unfold Detail in small) (one-waiter d free (pull-none (held-for d) (T .held) e)) G
-      go (pulled h hs) e = fewer-good (less-refl (T .messages)) (pull-less (held-for d) (T .held) e) G
+      go (pulled h hs) e = fewer-good (less-refl (T .messages)) (pull-took (held-for d) (T .held) e .less) G
 
 -- ---- tick
 
@@ -567,21 +521,17 @@ turned-free p g name h n ts F u i e m =
 module _ (L : Limits) (T : Tables) (G : Fits L T) where
   charge-good : RunnerFree T → Fits L (charge T) × RunnerFree (charge T)
   unfolding charge change RunnerFree
-  charge-good F = go (T .runner) refl
-    where
-      g : Thread → Thread
-      g t = with-ticks (one-more (t .ticks)) t
-
-      go : (r : Runner) → T .runner ≡ r → let U = by-runner T (λ n s. with-runner (Runs n (s - 1)) (change n (λ t. with-ticks (one-more (t .ticks)) t) T)) r in Fits L U × RunnerFree U
-      go NoRunner e = (G, F)
-      go (Runs n s) e = (
+  charge-good F =
+      let g : Thread → Thread = λ t. with-ticks (one-more (t .ticks)) t in
+      by-runs (λ (U : Tables). Fits L U × RunnerFree U) (T .runner) (λ _. (G, F))
+      (λ n s e. (
         some-good (named n) g (λ t. refl) (λ t. refl)
             (λ t m x. let R = right-around (turned-around (named n) g (λ u. refl) (λ u. refl) (T .threads) (less-refl (T .messages))) (G .threads t m) in record { entries = R .entries; detail = R .detail; answer = R .answer; form = R .form; ticks = mod-lt (t .ticks + 1) (omega arith) })
             (λ t m x k y. inr y)
             (λ d. omega (arith, G .waiters d, turned-fewer (named n) g (λ k t x. x) d (T .threads)))
             (less-refl (T .messages)) G,
         λ k z i. turned-free (named n) g (λ t. refl) (λ t m x. x) k (T .threads) (F k s (e ∙ (cc))),
-      )
+      ))
 
   beat-good : RunnerFree T → Fits L (beat T) × RunnerFree (beat T)
   unfolding beat wake-those RunnerFree
@@ -595,14 +545,11 @@ module _ (L : Limits) (T : Tables) (G : Fits L T) where
 
   rotate-good : RunnerFree T → Fits L (rotate T)
   unfolding rotate wake-those RunnerFree
-  rotate-good F = go (T .runner) refl
-    where
-      go : (r : Runner) → T .runner ≡ r → Fits L (by-runner T (λ n s. if s == 0 then with-runner NoRunner (wake n Nothing T) else T) r)
-      go NoRunner e = G
-      go (Runs n s) e =
-          by-if (Fits L) (s == 0)
-          (λ _. wake-good (named n) (λ t. Nothing) (λ t m x k y. absurd (clash y (F n s e t m (sym (eqb-true n (t .name) x)) k))) (λ t m x. nothing-form) (less-refl (T .messages)) G)
-          (λ _. G)
+  rotate-good F =
+      by-runs (Fits L) (T .runner) (λ _. G) λ n s e.
+      by-if (Fits L) (s == 0)
+      (λ _. wake-good (named n) (λ t. Nothing) (λ t m x k y. absurd (clash y (F n s e t m (sym (eqb-true n (t .name) x)) k))) (λ t m x. nothing-form) (less-refl (T .messages)) G)
+      (λ _. G)
 
 tick-good : {L : Limits} {T : Tables} → Inv L T → Fits L T → Fits L (tick T)
 unfolding tick RunnerFree
@@ -622,19 +569,12 @@ interrupt-good L T d w known fits G =
 
 -- ---- dispatch
 
-next-good : (L : Limits) (q : List ℕ) (o : Outcome) → o .tables .ready ≡ q → Agree (o .tables) → Fits L (o .tables) → Fits L (run-next q o .tables)
-unfolding run-next change
-next-good L [] o e A G = G
-next-good L (n ∷ q) o e A G = put-good n Running (front-free (o .tables) A n q e) (λ t m x. unfold Detail in tt) (put-waiters n Running (λ d. unfold at-device in refl) G) G
-
 -- Dispatch keeps the rules.
 pub dispatch-good : {L : Limits} (o : Outcome) → Inv L (o .tables) → Fits L (o .tables) → Fits L (dispatch o .tables)
-unfolding dispatch
-dispatch-good {L} o I G = go (o .tables .runner)
-  where
-    go : (r : Runner) → Fits L (by-runner (run-next (o .tables .ready) o) (λ n s. o) r .tables)
-    go NoRunner = next-good L (o .tables .ready) o refl (I .agree) G
-    go (Runs n s) = G
+unfolding change
+dispatch-good {L} o I G =
+    by-dispatch (Fits L) o (λ n s _. G) (λ _ _. G)
+    (λ n q _ e. put-good n Running (front-free (o .tables) (I .agree) n q e) (λ t m x. unfold Detail in tt) (put-waiters n Running (λ d. unfold at-device in refl) G) G)
 
 -- ---- each accepted call
 
@@ -676,9 +616,5 @@ act-good {L} {T} (Interrupt d w) p l f I G = interrupt-good L T d w (p .0) (p .1
 
 -- Every step, on any bytes, accepted or refused, keeps the rules of families, managers, wanted names, devices, answers, messages and notices.
 pub step-good : {L : Limits} {T : Tables} (bytes : List ℕ) → L .threads < names → Inv L T → Fits L T → Fits L (step L T bytes .tables)
-unfolding step settle
-step-good {L} {T} bytes l I G = go (refusal L T (decode bytes)) refl
-  where
-    go : (r : ℕ) → refusal L T (decode bytes) ≡ r → Fits L (settle r T (decode bytes) .tables)
-    go zero f = dispatch-good (act T (decode bytes)) (act-inv (decode bytes) l f I) (act-good (decode bytes) (decode-proper bytes) l f I G)
-    go (suc r) f = G
+step-good {L} {T} bytes l I G =
+    by-step (λ U b. Fits L U) L T bytes G (λ f. dispatch-good (act T (decode bytes)) (act-inv (decode bytes) l f I) (act-good (decode bytes) (decode-proper bytes) l f I G))

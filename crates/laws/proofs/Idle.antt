@@ -1,13 +1,12 @@
 -- The four statuses, each exactly when document 01 says; above all idle and panicked.
 -- Assumes nothing.
-use Prim.Native.Nat.{ℕ, zero, suc, _≤_, _<_}
+use Prim.Native.Nat.{ℕ, zero, suc, _<_}
 use mathlib.Core.Path.{_≡_, refl, sym, ap, _∙_}
 use mathlib.Core.Logic.{_↔_}
-use mathlib.Core.Bool.{Bool, true, false, _&&_, _||_, true≢false, false≢true}
+use mathlib.Core.Bool.{Bool, true, false, _||_, false≢true}
 use mathlib.Core.List.{List, [], _∷_, map, List·Memᴰ, List·Memᴰ·head}
 use native.Mathlib.Omega.{arith}
-use borrow.Author.Tests.{eqb-true, eq-eqb}
-use Rattle.rules.specs.Lists.{if_then_else_, _==_, one-if, all, any, count, times-in}
+use Rattle.rules.specs.Lists.{if_then_else_, one-if, all, any, times-in}
 use Rattle.rules.specs.Numbers.{Limits, devices}
 use Rattle.rules.specs.Words.{by-runner}
 use Rattle.laws.proofs.Words.{State, Device, Nothing, Managers, Thread, Message, Runner, NoRunner, Runs, Working, Idle, Halted, Panicked, Event}
@@ -21,33 +20,15 @@ use Rattle.rules.specs.Codes.{status-code}
 use Rattle.rules.specs.Step.{Stepped, decided, settle, step}
 use Rattle.rules.specs.Runs.{Input, run}
 use Rattle.rules.specs.TableRules.{table-rules}
-use Rattle.laws.proofs.Tests.{and-left, and-right, _&_}
-use Rattle.laws.proofs.Counting.{any-count, count-any, any-member, member-any, not-any, none-any}
-use Rattle.laws.proofs.Types.{here, Agree, Detail, Ruled}
+use Rattle.laws.proofs.Tests.{clash}
+use Rattle.laws.proofs.Counting.{member-any, not-any, none-any}
+use Rattle.laws.proofs.Members.{member-times, times-member}
+use Rattle.laws.proofs.Types.{Agree, Detail, Ruled}
+use Rattle.laws.proofs.Queues.{times-none}
+use Rattle.laws.proofs.Threads.{member-here, here-member}
+use Rattle.laws.proofs.PlacesKept.{runner-live}
 use Rattle.laws.proofs.Sound.{tested-ruled}
-use Rattle.laws.proofs.Outside.{from-outside, outside, some-ready, some-waits, waking-series, clock-wakes, Still, outside-still, Resting, series-wakes, bytes-of, series-accepted}
-
--- ---- general: members of queues, and threads of a name in a kind of state
-
-member-here : (p : State → Bool) (ts : List Thread) (t : Thread) → List·Memᴰ t ts → p (t .state) ≡ true → 1 ≤ here p (t .name) ts
-unfolding here
-member-here p ts t m h = any-count (λ u. named (t .name) u && p (u .state)) ts (member-any (λ u. named (t .name) u && p (u .state)) ts t m (eq-eqb (t .name) (t .name) refl & h))
-
-here-member : (p : State → Bool) (ts : List Thread) (n : ℕ) → 1 ≤ here p n ts → (t : Thread) × List·Memᴰ t ts × (named n t ≡ true) × (p (t .state) ≡ true)
-unfolding here
-here-member p ts n h =
-    let r = any-member (λ u. named n u && p (u .state)) ts (count-any (λ u. named n u && p (u .state)) ts h) in
-    (r .0, r .1, and-left (named n (r .0)) _ (r .2), and-right (named n (r .0)) _ (r .2))
-
-member-times : (q : List ℕ) (n : ℕ) → List·Memᴰ n q → 1 ≤ times-in q n
-member-times q n m = any-count (λ k. n == k) q (member-any (λ k. n == k) q n m (eq-eqb n n refl))
-
-times-member : (q : List ℕ) (n : ℕ) → 1 ≤ times-in q n → List·Memᴰ n q
-times-member q n h = let r = any-member (λ k. n == k) q (count-any (λ k. n == k) q h) in rw (eqb-true n (r .0) (r .2)) (r .1)
-
-times-none : (n : ℕ) → times-in [] n ≡ 0
-unfolding count
-times-none n = refl
+use Rattle.laws.proofs.Outside.{from-outside, outside, some-ready, some-waits, waking-series, Still, clock-wakes, outside-still, Resting, series-wakes, bytes-of, series-accepted}
 
 -- ---- what the table rules say of tables in which nobody runs
 
@@ -77,7 +58,7 @@ stilled {L} {T} R r w = record { runner = r; ready = R .steady .quiet r; clock =
     go [] e = e
     go (n ∷ q) e =
         let t = clock-named T (R .inv .agree) n (rw e (List·Memᴰ·head refl)) in
-        absurd (true≢false (sym (t .3) ∙ clock-wakes (t .0 .state) (not-any (λ u. wakes-from-outside (u .state)) (T .threads) (t .0) w (t .1))))
+        absurd (clash (t .3) (clock-wakes (t .0 .state) (not-any (λ u. wakes-from-outside (u .state)) (T .threads) (t .0) w (t .1))))
 
 -- nobody runs: nobody is ready or running
 none-ready : {L : Limits} {T : Tables} → Ruled L T → T .runner ≡ NoRunner → some-ready T ≡ false
@@ -147,14 +128,6 @@ idle-says T s = go (T .runner) refl s
     go NoRunner r e = (r, waits (T .threads) e)
     go (Runs n k) r e = let z : _≡_ {A = ℕ} 0 1 = cc in absurd (omega arith)
 
-nobody-here : (n : ℕ) → here is-running n [] ≡ 0
-unfolding here count
-nobody-here n = refl
-
-runner-there : {L : Limits} {T : Tables} → Ruled L T → (n k : ℕ) → T .runner ≡ Runs n k → here is-running n (T .threads) ≡ 1
-unfolding runs-as
-runner-there R n k r = R .inv .agree .run n ∙ ap (λ (x : Runner). one-if (runs-as n x)) r ∙ ap one-if (eq-eqb n n refl)
-
 -- ---- the laws
 
 -- An idle node: the waking series is one of ticks and interrupts, and after it some thread runs. It is the ticks up to the next beat,
@@ -178,7 +151,7 @@ panicked-exactly L T h r some =
     (λ s. never-ready (tested-ruled L T h) r (told-panicked _ (sym (told T r some _ refl) ∙ s)), λ f. go (some-waits (T .threads)) refl f)
   where
     go : (b : Bool) → some-waits (T .threads) ≡ b → ((es : List Event) → all from-outside es ≡ true → some-ready (outside T es) ≡ false) → status T ≡ Panicked
-    go true e f = let w = idle-wakes L T h (told T r some true e) in absurd (true≢false (sym (w .1) ∙ f (waking-series T) (w .0)))
+    go true e f = let w = idle-wakes L T h (told T r some true e) in absurd (clash (w .1) (f (waking-series T) (w .0)))
     go false e f = told T r some false e
 
 -- Nobody runs and threads remain: the node idles exactly if some series of ticks and interrupts makes a thread ready.
@@ -189,7 +162,7 @@ idle-exactly L T h r some =
   where
     go : (b : Bool) → some-waits (T .threads) ≡ b → (es : List Event) × (all from-outside es ≡ true) × (some-ready (outside T es) ≡ true) → status T ≡ Idle
     go true e x = told T r some true e
-    go false e x = absurd (true≢false (sym (x .2) ∙ never-ready (tested-ruled L T h) r e (x .0) (x .1)))
+    go false e x = absurd (clash (x .2) (never-ready (tested-ruled L T h) r e (x .0) (x .1)))
 
 -- The node is running exactly if somebody runs.
 pub running-exactly : (T : Tables) → (status T ≡ Working) ↔ (runs (T .runner) ≡ true)
@@ -211,7 +184,7 @@ halted-exactly L T h = (λ s. go (T .runner) s, λ e. to (T .runner) refl e)
 
     to : (r : Runner) → T .runner ≡ r → T .threads ≡ [] → by-runner (status-without (T .threads)) (λ n s. Working) (T .runner) ≡ Halted
     to NoRunner r e = rw (r, e) (unfold status-without in refl)
-    to (Runs n k) r e = absurd (omega (arith, runner-there (tested-ruled L T h) n k r, ap (λ (ts : List Thread). here is-running n ts) e, nobody-here n))
+    to (Runs n k) r e = absurd (false≢true (unfold any in rw e at (runner-live (tested-ruled L T h .inv) n k r)))
 
 -- A decision reports the status of the tables that the step leaves.
 pub reported : (L : Limits) (T : Tables) (bytes : List ℕ) → step L T bytes .decision .status ≡ status-code (status (step L T bytes .tables))

@@ -1,26 +1,27 @@
 -- The table rules hold at the start, and every step keeps them: so they hold in every run.
 -- Assumes nothing.
-use Prim.Native.Nat.{ℕ, _+_, _≤_, _<_}
+use Prim.Native.Nat.{ℕ, _≤_, _<_}
 use mathlib.Core.Path.{_≡_, refl, ap}
 use mathlib.Core.Logic.{_⊎_, inl, inr}
-use mathlib.Core.Bool.{Bool, true, false, _&&_, false≢true}
+use mathlib.Core.Bool.{true, false, false≢true}
 use mathlib.Core.List.{List, [], _∷_, List·Memᴰ, List·Memᴰ·head, List·Memᴰ·tail}
 use native.Mathlib.Omega.{arith}
 use borrow.Author.Tests.{eqb-true}
-use Rattle.rules.specs.Lists.{_==_, one-if, any, count, chain}
+use Rattle.rules.specs.Lists.{_==_, any, count, chain}
 use Rattle.rules.specs.Numbers.{Limits, names, full-slice}
-use Rattle.laws.proofs.Words.{TrapKind, Program, Tlb, SysBp, Running, NoParent, Thread}
-use Rattle.rules.specs.Tables.{Tables, new-thread, manager, runs-as, start}
+use Rattle.laws.proofs.Words.{Running, NoParent, Thread}
+use Rattle.rules.specs.Tables.{Tables, new-thread, runs-as, start}
 use Rattle.rules.specs.States.{is-running, is-ready, on-clock, at-device}
 use Rattle.rules.specs.Step.{step}
 use Rattle.rules.specs.Runs.{Input, run}
-use Rattle.rules.specs.TableRules.{answer-in-range, table-rules}
-use Rattle.laws.proofs.Tests.{or-cases}
-use Rattle.laws.proofs.Types.{here, Agree, Inv, Steady, Entry, Detail, Right, Fits, Ruled}
-use Rattle.laws.proofs.Sound.{tested-ruled, ruled-tested}
+use Rattle.rules.specs.TableRules.{table-rules}
+use Rattle.laws.proofs.Tests.{and-true, and-false, or-cases, one-at-most}
+use Rattle.laws.proofs.Types.{here, Agree, Inv, Steady, Detail, Fits, Ruled}
 use Rattle.laws.proofs.PlacesKept.{step-inv}
-use Rattle.laws.proofs.Steady.{step-steady}
+use Rattle.laws.proofs.Right.{new-right}
 use Rattle.laws.proofs.Good.{step-good}
+use Rattle.laws.proofs.Steady.{step-steady}
+use Rattle.laws.proofs.Sound.{tested-ruled, ruled-tested}
 
 -- ---- the start
 
@@ -34,23 +35,11 @@ is-first t (List·Memᴰ·tail m) = elim m [ ]
 start-agree : Agree start
 unfolding here count runs-as is-running is-ready on-clock
 start-agree = record {
-  once = λ n. once (n == 0);
-  run = λ n. run (n == 0);
-  wait = λ n. other (n == 0);
-  beat = λ n. other (n == 0);
+  once = λ n. omega (arith, one-at-most (n == 0));
+  run = λ n. rw (and-true (n == 0)) (omega arith);
+  wait = λ n. rw (and-false (n == 0));
+  beat = λ n. rw (and-false (n == 0));
 }
-  where
-    once : (b : Bool) → one-if b + 0 ≤ 1
-    once true = omega arith
-    once false = omega arith
-
-    run : (b : Bool) → one-if (b && true) + 0 ≡ one-if b
-    run true = omega arith
-    run false = omega arith
-
-    other : (b : Bool) → one-if (b && false) + 0 ≡ 0
-    other true = omega arith
-    other false = omega arith
 
 start-inv : (L : Limits) → 1 ≤ L .threads → Inv L start
 unfolding any
@@ -68,20 +57,11 @@ start-steady = record {
   beats = omega arith;
 }
 
-first-right : Right (first ∷ []) [] first
-unfolding Detail Entry manager answer-in-range
-first-right = record { entries = each; detail = tt; answer = λ _. refl; form = refl; ticks = omega arith }
-  where
-    each : (k : TrapKind) → Entry (first ∷ []) 0 (manager k (first .managers))
-    each Program = tt
-    each Tlb = tt
-    each SysBp = tt
-
 start-fits : (L : Limits) → Fits L start
 unfolding count chain at-device
 start-fits L = record {
   family = record { depth = λ n. 0; root = λ t m e. ap (λ (x : Thread). x .parent) (is-first t m); under = λ t m d. absurd (d (ap (λ (x : Thread). x .name) (is-first t m))) };
-  threads = λ t m. rw (is-first t m) first-right;
+  threads = λ t m. rw (is-first t m) (new-right (first ∷ []) [] 0 NoParent Running (unfold Detail in tt));
   waiters = λ d. omega arith;
   messages = λ m i. elim i [ ];
   notices = λ n. omega arith;

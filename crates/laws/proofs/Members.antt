@@ -1,13 +1,15 @@
--- Members of lists that were kept, pulled from, put into or mapped.
+-- Members of lists that were kept, put into or mapped; and which numbers a list has.
 -- Assumes nothing.
-use Prim.Native.Nat.{ℕ, _+_, _≤_}
-use mathlib.Core.Path.{_≡_, refl, sym, ap, _∙_}
+use Prim.Native.Nat.{ℕ, zero, suc, _+_, _≤_, _<_}
+use mathlib.Core.Path.{_≡_, refl, sym, ap, ap₂, _∙_}
 use mathlib.Core.Logic.{_⊎_, inl, inr, ⊎-elim}
-use mathlib.Core.Bool.{Bool, true, false}
-use mathlib.Core.List.{List, [], _∷_, map, List·Memᴰ, List·Memᴰ·head, List·Memᴰ·tail}
+use mathlib.Core.Bool.{Bool, true, false, false≢true}
+use mathlib.Core.List.{List, [], _∷_, _++_, map, List·Memᴰ, List·Memᴰ·head, List·Memᴰ·tail}
 use native.Mathlib.Omega.{arith}
-use Rattle.rules.specs.Lists.{if_then_else_, one-if, any, keep, count, insert, Pulled, missing, pulled, behind, pull}
-use Rattle.laws.proofs.Tests.{by-if}
+use borrow.Author.Tests.{eqb-true, eq-eqb}
+use Rattle.rules.specs.Lists.{if_then_else_, _==_, any, keep, insert, has, times-in, from-on, same}
+use Rattle.laws.proofs.Tests.{by-if, same?, and-left, and-right, _&_, or-cases, or-left, or-right}
+use Rattle.laws.proofs.Counting.{any-count, count-any, any-append, any-member, member-any}
 
 module _ {A : Type 0} where
   pub mem-keep : (p : A → Bool) (xs : List A) {x : A} → List·Memᴰ x (keep p xs) → List·Memᴰ x xs × (p x ≡ true)
@@ -46,3 +48,65 @@ module _ {A : Type 0} where
   pub map-mem : {B : Type 0} (f : A → B) (xs : List A) {x : A} → List·Memᴰ x xs → List·Memᴰ (f x) (map f xs)
   map-mem f (y ∷ xs) (List·Memᴰ·head e) = List·Memᴰ·head (ap f e)
   map-mem f (y ∷ xs) (List·Memᴰ·tail m) = List·Memᴰ·tail (map-mem f xs m)
+
+-- what was coded and read comes back
+pub map-back : {A B : Type 0} (code : A → B) (read : B → A) (xs : List A) → ((x : A) → List·Memᴰ x xs → read (code x) ≡ x) → map read (map code xs) ≡ xs
+map-back code read [] h = refl
+map-back code read (x ∷ xs) h = ap₂ (λ (y : _) (ys : List _). y ∷ ys) (h x (List·Memᴰ·head refl)) (map-back code read xs (λ y m. h y (List·Memᴰ·tail m)))
+
+-- ---- numbers in a list
+
+pub member-has : {x : ℕ} (l : List ℕ) → List·Memᴰ x l → has x l ≡ true
+member-has {x} l m = member-any (λ k. x == k) l x m (eq-eqb x x refl)
+
+pub has-member : {x : ℕ} (l : List ℕ) → has x l ≡ true → List·Memᴰ x l
+has-member {x} l h = let r = any-member (λ k. x == k) l h in rw (eqb-true x (r .0) (r .2)) (r .1)
+
+pub member-times : (l : List ℕ) (n : ℕ) → List·Memᴰ n l → 1 ≤ times-in l n
+member-times l n m = any-count (λ k. n == k) l (member-has l m)
+
+pub times-member : (l : List ℕ) (n : ℕ) → 1 ≤ times-in l n → List·Memᴰ n l
+times-member l n h = has-member l (count-any (λ k. n == k) l h)
+
+-- is n among the numbers that f gives for those that pass?
+module _ {A : Type 0} (f : A → ℕ) (j : A → Bool) (xs : List A) where
+  pub kept-has : {x : A} → List·Memᴰ x xs → j x ≡ true → has (f x) (map f (keep j xs)) ≡ true
+  kept-has {x} m h = member-has (map f (keep j xs)) (map-mem f (keep j xs) (keep-mem j xs m h))
+
+  pub has-kept : (n : ℕ) → has n (map f (keep j xs)) ≡ true → (x : A) × List·Memᴰ x xs × (j x ≡ true) × (n ≡ f x)
+  has-kept n h =
+      let s = mem-map f (keep j xs) (has-member (map f (keep j xs)) h) in
+      let k = mem-keep j xs (s .1) in
+      (s .0, k .0, k .1, s .2)
+
+pub has-left : (x : ℕ) (s t : List ℕ) → has x s ≡ true → has x (s ++ t) ≡ true
+has-left x s t h = any-append (λ k. x == k) s t ∙ or-left _ _ h
+
+pub has-right : (x : ℕ) (s t : List ℕ) → has x t ≡ true → has x (s ++ t) ≡ true
+has-right x s t h = any-append (λ k. x == k) s t ∙ or-right (has x s) _ h
+
+pub has-split : (x : ℕ) (s t : List ℕ) → has x (s ++ t) ≡ true → (has x s ≡ true) ⊎ (has x t ≡ true)
+has-split x s t h = or-cases (has x s) (has x t) (sym (any-append (λ k. x == k) s t) ∙ h)
+
+pub has-any : (x : ℕ) (p : ℕ → Bool) (l : List ℕ) → has x l ≡ true → p x ≡ true → any p l ≡ true
+has-any x p l h e = member-any p l x (has-member l h) e
+
+pub from-on-mem : (a n d : ℕ) → a ≤ d → d < a + n → List·Memᴰ d (from-on a n)
+unfolding from-on
+from-on-mem a zero d l h = absurd (omega arith)
+from-on-mem a (suc n) d l h = ⊎-elim (λ e. List·Memᴰ·head (sym (e .0))) (λ e. List·Memᴰ·tail (from-on-mem (suc a) n d (omega (arith, e .0)) (omega arith))) (same? a d)
+
+-- ---- the same numbers
+
+pub same-refl : (xs : List ℕ) → same xs xs ≡ true
+unfolding same
+same-refl [] = refl
+same-refl (x ∷ xs) = eq-eqb x x refl & same-refl xs
+
+pub same-true : (xs ys : List ℕ) → same xs ys ≡ true → xs ≡ ys
+unfolding same
+same-true [] [] h = refl
+same-true [] (y ∷ ys) h = absurd (false≢true h)
+same-true (x ∷ xs) [] h = absurd (false≢true h)
+same-true (x ∷ xs) (y ∷ ys) h =
+    ap₂ (λ (z : ℕ) (zs : List ℕ). z ∷ zs) (eqb-true x y (and-left (x == y) _ h)) (same-true xs ys (and-right (x == y) _ h))

@@ -1,20 +1,20 @@
 -- The name given to a new thread: the first successor, modulo 254, of the name given last that no live thread has.
 -- Assumes nothing.
 use Prim.Native.Nat.{ℕ, zero, suc, _+_, _%_, _≤_, _<_}
-use mathlib.Core.Path.{_≡_, refl, sym, ap, _∙_}
-use mathlib.Core.Logic.{_≢_, ⊎-elim}
-use mathlib.Core.Bool.{Bool, true, false, _||_, not}
-use mathlib.Core.List.{List, [], _∷_}
+use mathlib.Core.Path.{_≡_, refl, sym, _∙_}
+use mathlib.Core.Logic.{_≢_}
+use mathlib.Core.Bool.{Bool, true, false, not}
+use mathlib.Core.List.{List}
 use native.Mathlib.Omega.{arith}
 use native.Mathlib.Nat.{mod-lt}
 use lib.ListN.{length}
-use borrow.Author.Tests.{ne-eqb}
-use Rattle.rules.specs.Lists.{one-if, any, keep}
+use borrow.Author.Tests.{eqb-true, ne-eqb}
+use Rattle.rules.specs.Lists.{_==_, any, keep}
 use Rattle.rules.specs.Numbers.{Limits, names}
 use Rattle.laws.proofs.Words.{Thread}
 use Rattle.rules.specs.Tables.{Tables, with-threads, named, live}
 use Rattle.rules.specs.Requests.{free-name, next-name}
-use Rattle.laws.proofs.Tests.{same?}
+use Rattle.laws.proofs.Counting.{count-length, count-not, length-keep, any-count, zero-any, any-counts, all-left}
 
 -- the name i steps behind n
 abbrev after : ℕ → ℕ → ℕ
@@ -62,33 +62,17 @@ same-tries (suc k) n T U e =
     go true l later = rw (l, sym (e 1 (omega arith) (omega arith)) ∙ l, free-name) later
     go false l later = rw (l, sym (e 1 (omega arith) (omega arith)) ∙ l, free-name)
 
--- without the threads of a name: the other names are as live, and the list is shorter
+-- without the threads of a name: the other names are as live
 abbrev others : ℕ → Tables → Tables
 others c T = with-threads (keep (λ t. not (named c t)) (T .threads)) T
 
 live-others : (m c : ℕ) → m ≢ c → (ts : List Thread) → any (named m) (keep (λ t. not (named c t)) ts) ≡ any (named m) ts
-unfolding any keep
-live-others m c d [] = refl
-live-others m c d (t ∷ ts) =
-    ⊎-elim
-    (λ e. rw (e .1, ne-eqb m (t .name) (λ q. d (q ∙ sym (e .0)))) (live-others m c d ts))
-    (λ e. rw (e .1) (ap (λ (b : Bool). named m t || b) (live-others m c d ts)))
-    (same? c (t .name))
-
-shorter : (c : ℕ) (ts : List Thread) → one-if (any (named c) ts) + length (keep (λ t. not (named c t)) ts) ≤ length ts
-unfolding any keep
-shorter c [] = omega arith
-shorter c (t ∷ ts) = ⊎-elim (λ e. rw (e .1) (omega (arith, shorter c ts))) (λ e. rw (e .1) (omega (arith, shorter c ts))) (same? c (t .name))
-
-empty : (x : ℕ) (ts : List Thread) → length ts ≤ 0 → any (named x) ts ≡ false
-unfolding any
-empty x [] l = refl
-empty x (t ∷ ts) l = absurd (omega arith)
+live-others m c d ts = any-counts (named m) (named m) _ ts (all-left (λ t. t .name) (λ x. c == x) (named m) m (λ t e. eqb-true m (t .name) e) (ne-eqb c m (λ e. d (sym e))) ts)
 
 -- with at most k threads, k at most 253, the name given is no thread's: of the k + 1 names behind n, which differ, k can be taken
 fresh : (k n : ℕ) (T : Tables) → k < names → length (T .threads) ≤ k → live (free-name k n T) T ≡ false
 unfolding free-name
-fresh zero n T b l = empty (after n 1) (T .threads) l
+fresh zero n T b l = zero-any (named (after n 1)) (T .threads) (omega (arith, count-length (named (after n 1)) (T .threads)))
 fresh (suc k) n T b l = go (live (after n 1) T) refl (λ le. fresh k (after n 1) (others (after n 1) T) (omega arith) le)
   where
     c : ℕ
@@ -103,7 +87,7 @@ fresh (suc k) n T b l = go (live (after n 1) T) refl (λ le. fresh k (after n 1)
         same-tries k c (others c T) T (λ i one most. live-others (after c i) c (omega arith) (T .threads)) in
         rw (e, free-name)
         (sym (live-others (free-name k c T) c (omega (arith, p .given)) (T .threads))
-        ∙ rw (sym q) (later (omega (arith, shorter c (T .threads), ap one-if e))))
+        ∙ rw (sym q) (later (omega (arith, length-keep (λ t. not (named c t)) (T .threads), count-not (named c) (T .threads), any-count (named c) (T .threads) e))))
 
 -- ---- the laws
 

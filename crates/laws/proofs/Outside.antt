@@ -1,75 +1,38 @@
 -- Ticks and interrupts, were they accepted whatever the status: when they leave the threads as they are, and which series of them wakes one.
 -- Assumes nothing.
-use Prim.Native.Nat.{ℕ, zero, suc, _+_, _*_, _-_, _/_, _%_, _^_, _≤_, _<_}
+use Prim.Native.Nat.{ℕ, zero, suc, _+_, _-_, _/_, _^_, _≤_, _<_}
 use mathlib.Core.Path.{_≡_, refl, sym, ap, ap₂, _∙_}
-use mathlib.Core.Logic.{⊎-elim, _≢_}
+use mathlib.Core.Logic.{_≢_}
 use mathlib.Core.Bool.{Bool, true, false, _&&_, _||_, true≢false, false≢true}
 use mathlib.Core.List.{List, [], _∷_, _++_, map, List·Memᴰ, List·Memᴰ·head, List·Memᴰ·tail}
 use native.Mathlib.Omega.{arith}
 use lib.Dec.{ltb}
-use lib.ListN.{length, replicate, drop, getD, length-drop}
+use lib.ListN.{replicate}
 use lib.Pow.{pow-mono}
 use borrow.Author.Tests.{eqb-true, eq-eqb, ne-eqb, ltb-true, lt-ltb}
 use Rattle.rules.specs.Lists.{if_then_else_, _==_, all, any, keep, from-on, is-byte, number-from, four-bytes}
-use Rattle.rules.specs.Numbers.{Limits, beat-ticks, devices, pending-bits, wrap}
+use Rattle.rules.specs.Numbers.{Limits, beat-ticks, devices, wrap}
 use Rattle.rules.specs.Words.{by-state}
-use Rattle.laws.proofs.Words.{State, Running, Ready, Receiving, Clock, Device, Trapped, Answer, Nothing, Result, Thread, NoRunner, Event, Malformed, ByRunner, Tick, Interrupt, Picked, TagFacts}
+use Rattle.laws.proofs.Words.{State, Running, Ready, Receiving, Clock, Device, Trapped, Answer, Nothing, Result, Thread, NoRunner, Event, Malformed, ByRunner, Tick, Interrupt}
 use Rattle.rules.specs.Tables.{Tables, with-time, with-clock, in-state, named, live, change}
 use Rattle.rules.specs.States.{is-running, is-ready, on-clock, at-device, waits-for, wakes-from-outside}
 use Rattle.rules.specs.Waking.{Outcome, _handing_, wake-those, wake-by-name}
 use Rattle.rules.specs.Tick.{one-more, charge, beat, rotate, tick}
 use Rattle.rules.specs.Interrupt.{interrupt}
 use Rattle.rules.specs.Dispatch.{run-next, dispatch, status}
-use Rattle.rules.specs.Pick.{pending, first-pending, pick}
-use Rattle.rules.specs.Tags.{facts-in, tag-facts, argument-rule, meets}
-use Rattle.rules.specs.Events.{trap-of, interrupt-of, meaning, field-of, decode}
+use Rattle.rules.specs.Pick.{first-pending, pick}
+use Rattle.rules.specs.Tags.{facts-in, tag-facts}
+use Rattle.rules.specs.Events.{interrupt-of, meaning, field-of, decode}
 use Rattle.rules.specs.Refusals.{first-of, over, is-malformed, needs-runner, own-rules, refusal}
 use Rattle.rules.specs.Step.{act, settle, step}
 use Rattle.rules.specs.Runs.{run}
-use Rattle.laws.proofs.Tests.{by-if, same?, and-left, and-right, _&_}
-use Rattle.laws.proofs.Counting.{any-member, member-any, not-any, none-any, all-at, map-same}
-use Rattle.laws.proofs.Members.{mem-keep, keep-mem, mem-map, map-mem}
-
--- ---- general
-
-small-byte : (n : ℕ) → is-byte (n % 256) ≡ true
-small-byte n = lt-ltb (n % 256) 256 (omega arith)
-
-four-are : (n : ℕ) (bs : List ℕ) → all is-byte bs ≡ true → all is-byte (four-bytes n ++ bs) ≡ true
-unfolding all
-four-are n bs h = rw (small-byte (n / 256 / 256 / 256), small-byte (n / 256 / 256), small-byte (n / 256), small-byte n) h
-
-four-number : (a n : ℕ) (bs : List ℕ) → number-from a (four-bytes n ++ bs) ≡ number-from (a * wrap + n % wrap) bs
-unfolding number-from
-four-number a n bs = ap (λ (x : ℕ). number-from x bs) (omega arith)
-
-from-on-mem : (a n d : ℕ) → a ≤ d → d < a + n → List·Memᴰ d (from-on a n)
-unfolding from-on
-from-on-mem a zero d l h = absurd (omega arith)
-from-on-mem a (suc n) d l h = ⊎-elim (λ e. List·Memᴰ·head (sym (e .0))) (λ e. List·Memᴰ·tail (from-on-mem (suc a) n d (omega (arith, e .0)) (omega arith))) (same? a d)
-
-all-drop : (k : ℕ) (p : ℕ → Bool) (xs : List ℕ) → all p xs ≡ true → all p (drop k xs) ≡ true
-unfolding all
-all-drop zero p xs h = h
-all-drop (suc k) p [] h = h
-all-drop (suc k) p (x ∷ xs) h = all-drop k p xs (and-right (p x) _ h)
-
--- four bytes or fewer say a number below 2 ^ 32
-number-below : (bs : List ℕ) → all is-byte bs ≡ true → length bs ≤ 4 → number-from 0 bs < wrap
-unfolding all number-from
-number-below [] h l = omega arith
-number-below (a ∷ []) h l = omega (arith, ltb-true a 256 (and-left (is-byte a) _ h))
-number-below (a ∷ b ∷ []) h l = let i = and-right (is-byte a) _ h in omega (arith, ltb-true a 256 (and-left (is-byte a) _ h), ltb-true b 256 (and-left (is-byte b) _ i))
-number-below (a ∷ b ∷ c ∷ []) h l =
-    let i = and-right (is-byte a) _ h in
-    let j = and-right (is-byte b) _ i in
-    omega (arith, ltb-true a 256 (and-left (is-byte a) _ h), ltb-true b 256 (and-left (is-byte b) _ i), ltb-true c 256 (and-left (is-byte c) _ j))
-number-below (a ∷ b ∷ c ∷ d ∷ []) h l =
-    let i = and-right (is-byte a) _ h in
-    let j = and-right (is-byte b) _ i in
-    let k = and-right (is-byte c) _ j in
-    omega (arith, ltb-true a 256 (and-left (is-byte a) _ h), ltb-true b 256 (and-left (is-byte b) _ i), ltb-true c 256 (and-left (is-byte c) _ j), ltb-true d 256 (and-left (is-byte d) _ k))
-number-below (a ∷ b ∷ c ∷ d ∷ e ∷ bs) h l = absurd (omega arith)
+use Rattle.laws.proofs.Tests.{by-if, and-left, and-right, _&_}
+use Rattle.laws.proofs.Counting.{any-member, member-any, not-any, none-any, all-at, all-both, map-same}
+use Rattle.laws.proofs.Members.{mem-keep, keep-mem, mem-map, map-mem, from-on-mem}
+use Rattle.laws.proofs.Bytes.{four-are-bytes, four-back, four-number}
+use Rattle.laws.proofs.Threads.{names-mapped, put-name}
+use Rattle.laws.proofs.Decoded.{Proper, decode-proper}
+use Rattle.laws.proofs.Calm.{beat-runner}
 
 -- ---- what the laws speak of
 
@@ -118,10 +81,6 @@ rest-charge T r = rw r
 rest-rotate : (T : Tables) → T .runner ≡ NoRunner → rotate T ≡ T
 unfolding rotate
 rest-rotate T r = rw r
-
-beat-runner : (T : Tables) → beat T .runner ≡ T .runner
-unfolding beat wake-those
-beat-runner T = by-if (λ (U : Tables). U .runner ≡ T .runner) (T .since + 1 == beat-ticks) (λ e. refl) (λ e. refl)
 
 -- a tick is the beat alone
 pub rest-tick : (T : Tables) → T .runner ≡ NoRunner → tick T ≡ beat T
@@ -203,17 +162,12 @@ front-runs n ns o h =
     let m = any-member (named n) (o .tables .threads) h in
     member-any (λ t. is-ready (t .state) || is-running (t .state)) _ _ (map-mem (λ t. if named n t then in-state Running Nothing t else t) _ (m .1)) (rw (m .2) (unfold is-ready is-running in refl))
 
-still-named : (p : Thread → Bool) (a : Thread → Answer) (n : ℕ) (ts : List Thread) → any (named n) ts ≡ true → any (named n) (map (λ t. if p t then in-state Ready (a t) t else t) ts) ≡ true
-still-named p a n ts h =
-    let m = any-member (named n) ts h in
-    member-any (named n) _ _ (map-mem (λ t. if p t then in-state Ready (a t) t else t) ts (m .1)) (by-if (λ (u : Thread). named n u ≡ true) (p (m .0)) (λ e. m .2) (λ e. m .2))
-
 -- names of threads join an empty ready queue, at least one: somebody runs
 pub woken-runs : (p : Thread → Bool) (a : Thread → Answer) (ns : List ℕ) (T : Tables) → T .runner ≡ NoRunner → T .ready ≡ []
     → ((n : ℕ) → List·Memᴰ n ns → live n T ≡ true) → (k : ℕ) → List·Memᴰ k ns → some-ready (dispatch (wake-those p a ns T handing Nothing) .tables) ≡ true
 unfolding dispatch wake-those
 woken-runs p a [] T r q l k m = elim m [ ]
-woken-runs p a (n ∷ ns) T r q l k m = rw (r, q) (front-runs n ns _ (still-named p a n (T .threads) (l n (List·Memᴰ·head refl))))
+woken-runs p a (n ∷ ns) T r q l k m = rw (r, q) (front-runs n ns _ (names-mapped _ (put-name p Ready a) n (T .threads) ∙ l n (List·Memᴰ·head refl)))
 
 -- ---- which series wakes somebody
 
@@ -330,10 +284,10 @@ bytes-of (Interrupt d w) = 21 ∷ 0 ∷ 12 ∷ (four-bytes (2 ^ d / wrap) ++ (fo
 word-said : (p w : ℕ) → p / wrap < wrap → w < wrap → decode (21 ∷ 0 ∷ 12 ∷ (four-bytes (p / wrap) ++ (four-bytes p ++ four-bytes w))) ≡ interrupt-of (pick p) w
 unfolding decode field-of tag-facts facts-in meaning
 word-said p w a b =
-    rw bytes (ap₂ (λ (x y : ℕ). interrupt-of (pick x) y) devices-said (four-number 0 w [] ∙ unfold number-from in omega arith))
+    rw bytes (ap₂ (λ (x y : ℕ). interrupt-of (pick x) y) devices-said (four-back w b))
   where
     bytes : all is-byte (21 ∷ 0 ∷ 12 ∷ (four-bytes (p / wrap) ++ (four-bytes p ++ four-bytes w))) ≡ true
-    bytes = unfold all in four-are (p / wrap) (four-bytes p ++ four-bytes w) (four-are p (four-bytes w) (four-are w [] refl))
+    bytes = unfold all in all-both is-byte (four-bytes (p / wrap)) (four-bytes p ++ four-bytes w) (four-are-bytes (p / wrap)) (all-both is-byte (four-bytes p) (four-bytes w) (four-are-bytes p) (four-are-bytes w))
 
     devices-said : number-from 0 (four-bytes (p / wrap) ++ (four-bytes p ++ [])) ≡ p
     devices-said = four-number 0 (p / wrap) (four-bytes p ++ []) ∙ four-number _ p [] ∙ unfold number-from in omega arith
@@ -359,69 +313,10 @@ said (Interrupt d w) h =
     let l = ltb-true d devices (and-left (ltb d devices) _ h) in
     word-said (2 ^ d) w (omega (arith, pow-mono {i = d} {j = 47} (omega arith))) (ltb-true w wrap (and-right (ltb d devices) _ h)) ∙ picked d w l
 
--- an event of bytes has its device and word in their ranges
-in-range : Event → Bool
-in-range Malformed = true
-in-range (ByRunner c) = true
-in-range Tick = true
-in-range (Interrupt d w) = ltb d devices && ltb w wrap
-
-first-in-range : (word : ℕ) (ds : List ℕ) → all (λ d. ltb d devices) ds ≡ true → (first-pending word ds .refusal == 0) ≡ true → ltb (first-pending word ds .device) devices ≡ true
-unfolding first-pending all
-first-in-range word [] h = λ e. absurd (false≢true e)
-first-in-range word (d ∷ ds) h =
-    by-if (λ (r : Picked). (r .refusal == 0) ≡ true → ltb (r .device) devices ≡ true) (pending word d) (λ _ e. and-left (ltb d devices) _ h) (λ _. first-in-range word ds (and-right (ltb d devices) _ h))
-
-pick-in-range : (word : ℕ) → (pick word .refusal == 0) ≡ true → ltb (pick word .device) devices ≡ true
-unfolding pick
-pick-in-range word =
-    by-if (λ (r : Picked). (r .refusal == 0) ≡ true → ltb (r .device) devices ≡ true) (any (pending word) (from-on devices (pending-bits - devices)))
-    (λ _ e. absurd (false≢true e)) (λ _. first-in-range word (from-on 0 devices) (unfold all from-on in refl))
-
-interrupt-in-range : (word w : ℕ) → w < wrap → in-range (interrupt-of (pick word) w) ≡ true
-unfolding interrupt-of in-range
-interrupt-in-range word w l = by-if (λ (e : Event). in-range e ≡ true) (pick word .refusal == 0) (λ e. pick-in-range word e & lt-ltb w wrap l) (λ e. refl)
-
-trap-in-range : (k c : ℕ) → in-range (trap-of k c) ≡ true
-unfolding trap-of in-range
-trap-in-range k c =
-    by-if (λ (e : Event). in-range e ≡ true) (k == 0) (λ _. refl) (λ _.
-    by-if (λ (e : Event). in-range e ≡ true) (k == 1) (λ _. refl) (λ _.
-    by-if (λ (e : Event). in-range e ≡ true) (k == 2) (λ _. refl) (λ _. refl)))
-
-meaning-in-range : (tag : ℕ) (v : List ℕ) → all is-byte v ≡ true → length v ≡ tag-facts tag .length → in-range (meaning tag v) ≡ true
-unfolding meaning in-range
-meaning-in-range tag v h l =
-    by-if P (tag == 16) (λ _. refl) (λ a.
-    by-if P (tag == 17) (λ _. refl) (λ b.
-    by-if P (tag == 18) (λ _. by-if P (meets (argument-rule (getD v 0 0)) (number-from 0 (drop 1 v))) (λ _. refl) (λ _. refl)) (λ c.
-    by-if P (tag == 19) (λ _. trap-in-range (getD v 0 0) _) (λ d.
-    by-if P (tag == 20) (λ _. refl) (λ e.
-    interrupt-in-range _ _ (number-below (drop 8 v) (all-drop 8 is-byte v h) (simp length-drop (omega (arith, short a b c d e)))))))))
-  where
-    P : Event → Type 0
-    P e = in-range e ≡ true
-
-    short : (tag == 16) ≡ false → (tag == 17) ≡ false → (tag == 18) ≡ false → (tag == 19) ≡ false → (tag == 20) ≡ false → length v ≤ 12
-    short a b c d e = rw l (unfold tag-facts facts-in in rw (a, b, c, d, e) (by-if (λ (f : TagFacts). f .length ≤ 12) (tag == 21) (λ _. omega arith) (λ _. omega arith)))
-
-field-in-range : (bytes : List ℕ) → all is-byte bytes ≡ true → in-range (field-of bytes) ≡ true
-unfolding field-of in-range all
-field-in-range [] h = refl
-field-in-range (tag ∷ []) h = refl
-field-in-range (tag ∷ high ∷ []) h = refl
-field-in-range (tag ∷ high ∷ low ∷ v) h =
-    by-if (λ (e : Event). in-range e ≡ true) (tag-facts tag .known && high * 256 + low == tag-facts tag .length && length v == high * 256 + low)
-    (λ t.
-    let n = eqb-true _ _ (and-right (tag-facts tag .known) _ (and-left _ (length v == high * 256 + low) t)) in
-    let k = eqb-true (length v) (high * 256 + low) (and-right (tag-facts tag .known && high * 256 + low == tag-facts tag .length) _ t) in
-    meaning-in-range tag v (and-right (is-byte low) _ (and-right (is-byte high) _ (and-right (is-byte tag) _ h))) (k ∙ n))
-    (λ t. refl)
-
 -- And no bytes say another interrupt: those of `from-outside` are all that there are.
 pub heard : (bytes : List ℕ) (d w : ℕ) → decode bytes ≡ Interrupt d w → from-outside (Interrupt d w) ≡ true
-unfolding decode from-outside
-heard bytes d w e = unfold in-range in sym (ap in-range e) ∙ by-if (λ (x : Event). in-range x ≡ true) (all is-byte bytes) (λ h. field-in-range bytes h) (λ h. refl)
+unfolding from-outside Proper
+heard bytes d w e = let p : Proper (Interrupt d w) = rw e at (decode-proper bytes) in lt-ltb d devices (p .0) & lt-ltb w wrap (p .1)
 
 unrefused : (L : Limits) (T : Tables) (e : Event) → from-outside e ≡ true → over (status T) ≡ false → refusal L T e ≡ 0
 unfolding from-outside refusal first-of is-malformed needs-runner own-rules
@@ -436,15 +331,15 @@ unfolding step were-accepted
 step-accepts L T e h o =
     ap (λ (x : Event). settle (refusal L T x) T x .tables) (said e h) ∙ ap (λ (k : ℕ). settle k T e .tables) (unrefused L T e h o) ∙ unfold settle in refl
 
-ticks-accepted : (L : Limits) (k : ℕ) (T : Tables) → Resting T → over (status T) ≡ false → T .since + k ≤ beat-ticks
+ticks-run : (L : Limits) (k : ℕ) (T : Tables) → Resting T → over (status T) ≡ false → T .since + k ≤ beat-ticks
     → run L T (map bytes-of (replicate k Tick)) ≡ outside T (replicate k Tick)
 unfolding run outside
-ticks-accepted L zero T R o l = refl
-ticks-accepted L (suc zero) T R o l = step-accepts L T Tick (unfold from-outside in refl) o
-ticks-accepted L (suc (suc k)) T R o l =
+ticks-run L zero T R o l = refl
+ticks-run L (suc zero) T R o l = step-accepts L T Tick (unfold from-outside in refl) o
+ticks-run L (suc (suc k)) T R o l =
     let U = with-time (T .since + 1) (T .beats) T in
     let e : were-accepted T Tick ≡ U = early-tick T R (omega arith) in
-    let rest = ticks-accepted L (suc k) U (later T R (omega arith)) (unfold status in o) (omega arith) in
+    let rest = ticks-run L (suc k) U (later T R (omega arith)) (unfold status in o) (omega arith) in
     ap (λ (X : Tables). run L X (map bytes-of (replicate (suc k) Tick))) (step-accepts L T Tick (unfold from-outside in refl) o ∙ e)
     ∙ rest ∙ sym (ap (λ (X : Tables). outside X (replicate (suc k) Tick)) e)
 
@@ -457,6 +352,6 @@ series-accepted L T R h o = let f = first-is (T .since) (T .threads) h in rw (f 
     go t m Running e i = unfold wakes-from-outside on-clock in absurd (false≢true i)
     go t m Ready e i = unfold wakes-from-outside on-clock in absurd (false≢true i)
     go t m (Receiving w) e i = unfold wakes-from-outside on-clock in absurd (false≢true i)
-    go t m Clock e i = unfold woken-by in ticks-accepted L (beat-ticks - T .since) T R o (omega (arith, R .since))
+    go t m Clock e i = unfold woken-by in ticks-run L (beat-ticks - T .since) T R o (omega (arith, R .since))
     go t m (Device d) e i = unfold woken-by run outside in step-accepts L T (Interrupt d 0) (unfold from-outside in rw (lt-ltb d devices (R .device t d m e))) o
     go t m (Trapped x) e i = unfold wakes-from-outside on-clock in absurd (false≢true i)

@@ -7,51 +7,17 @@ use mathlib.Core.Bool.{Bool, true, false, _&&_, not, false≢true}
 use mathlib.Core.List.{List, [], _∷_, _++_, map}
 use native.Mathlib.Omega.{arith}
 use borrow.Author.Tests.{eqb-true, eq-eqb, ne-eqb}
-use Rattle.rules.specs.Lists.{if_then_else_, _==_, one-if, count, keep, insert, has, times-in}
+use Rattle.rules.specs.Lists.{if_then_else_, _==_, one-if, keep, count, insert, has, times-in}
 use Rattle.rules.specs.Words.{by-state, by-runner}
 use Rattle.laws.proofs.Words.{Wanted, TrapKind, State, Running, Ready, Receiving, Clock, Device, Trapped, Answer, Thread, Runner, NoRunner, Runs}
 use Rattle.rules.specs.Tables.{in-state, named, runs-as}
 use Rattle.rules.specs.States.{is-running, is-ready, on-clock}
 use Rattle.rules.specs.Ending.{without-managers}
-use Rattle.laws.proofs.Tests.{by-if, same?, and-left, and-true, and-false, never}
-use Rattle.laws.proofs.Counting.{count-cons, count-append, count-map, count-same, count-zero, count-insert, count-keep-le, none-left, all-left}
+use Rattle.laws.proofs.Tests.{by-if, same?, and-left, and-true, and-false, and-twice, and-self, never}
+use Rattle.laws.proofs.Counting.{count-append, count-map, count-same, count-zero, count-insert, count-keep-le, none-left, all-left}
 use Rattle.laws.proofs.Types.{here, Places}
-
--- ---- general
-
-and-twice : (a b : Bool) → (a && (a && b)) ≡ (a && b)
-and-twice true b = refl
-and-twice false b = refl
-
-and-self : (a b : Bool) → (a && (b && b)) ≡ (a && b)
-and-self false b = refl
-and-self true true = refl
-and-self true false = refl
-
-pub times-none : (n : ℕ) → times-in [] n ≡ 0
-unfolding count
-times-none n = refl
-
-pub times-self : (n : ℕ) (q : List ℕ) → times-in (n ∷ q) n ≡ 1 + times-in q n
-times-self n q = count-cons (λ m. n == m) n q ∙ rw (eq-eqb n n refl)
-
-pub times-other : (n m : ℕ) (q : List ℕ) → n ≢ m → times-in (m ∷ q) n ≡ times-in q n
-times-other n m q d = count-cons (λ k. n == k) m q ∙ rw (ne-eqb n m d) (omega arith)
-
-pub tail-self : (q : List ℕ) (m : ℕ) → times-in (q ++ (m ∷ [])) m ≡ times-in q m + 1
-tail-self q m = omega (arith, count-append (λ k. m == k) q (m ∷ []), times-self m [], times-none m)
-
-pub tail-other : (q : List ℕ) (n m : ℕ) → n ≢ m → times-in (q ++ (m ∷ [])) n ≡ times-in q n
-tail-other q n m d = omega (arith, count-append (λ k. n == k) q (m ∷ []), times-other n m [] d, times-none n)
-
--- the names of those that pass, as a queue
-pub times-kept : (p : Thread → Bool) (n : ℕ) (ts : List Thread) → times-in (map (λ t. t .name) (keep p ts)) n ≡ count (λ t. named n t && p t) ts
-unfolding count keep
-times-kept p n [] = refl
-times-kept p n (t ∷ ts) =
-    by-if (λ (l : List Thread). times-in (map (λ u. u .name) l) n ≡ count (λ u. named n u && p u) (t ∷ ts)) (p t)
-    (λ e. rw (e, and-true (named n t)) (ap (λ (k : ℕ). one-if (named n t) + k) (times-kept p n ts)))
-    (λ e. rw (e, and-false (named n t)) (times-kept p n ts ∙ omega arith))
+use Rattle.laws.proofs.Queues.{times-none, times-self, times-other, tail-self, tail-other}
+use Rattle.laws.proofs.Threads.{names-kept, left, put-name, times-kept, apart}
 
 -- ---- a thread is in one kind of state
 
@@ -77,21 +43,6 @@ clock-apart (Receiving w) e = (refl, refl)
 clock-apart Clock e = (refl, refl)
 clock-apart (Device d) e = (refl, refl)
 clock-apart (Trapped k) e = (refl, refl)
-
-apart-one : (b : Bool) (s : State) → one-if (b && is-running s) + one-if (b && is-ready s) + one-if (b && on-clock s) ≤ one-if b
-unfolding is-running is-ready on-clock
-apart-one false s = omega arith
-apart-one true Running = omega arith
-apart-one true Ready = omega arith
-apart-one true (Receiving w) = omega arith
-apart-one true Clock = omega arith
-apart-one true (Device d) = omega arith
-apart-one true (Trapped k) = omega arith
-
-pub apart : (n : ℕ) (ts : List Thread) → here is-running n ts + here is-ready n ts + here on-clock n ts ≤ count (named n) ts
-unfolding here count
-apart n [] = omega arith
-apart n (t ∷ ts) = omega (arith, apart n ts, apart-one (named n t) (t .state))
 
 -- ---- where a name stands
 
@@ -123,9 +74,6 @@ module _ (p : Thread → Bool) (s : State) (a : Thread → Answer) where
   abbrev join : (State → Bool) → ℕ → List Thread → ℕ
   join k n ts = count (λ t. named n t && (p t && k s)) ts
 
-  pub put-name : (t : Thread) → put t .name ≡ t .name
-  put-name t = by-if (λ (u : Thread). u .name ≡ t .name) (p t) (λ e. refl) (λ e. refl)
-
   put-one : (k : State → Bool) (n : ℕ) (t : Thread) → one-if (named n (put t) && k (put t .state)) + one-if (named n t && (p t && k (t .state))) ≡ one-if (named n t && k (t .state)) + one-if (named n t && (p t && k s))
   put-one k n t =
       by-if (λ (u : Thread). one-if (named n u && k (u .state)) + one-if (named n t && (p t && k (t .state))) ≡ one-if (named n t && k (t .state)) + one-if (named n t && (p t && k s))) (p t)
@@ -137,9 +85,6 @@ module _ (p : Thread → Bool) (s : State) (a : Thread → Answer) where
   put-here k n [] = refl
   put-here k n (t ∷ ts) = omega (arith, put-one k n t, put-here k n ts)
 
-  put-names : (n : ℕ) (ts : List Thread) → count (named n) (map put ts) ≡ count (named n) ts
-  put-names n ts = count-map (named n) put ts ∙ count-same _ _ ts (λ t. ap (λ (x : ℕ). n == x) (put-name t))
-
   -- places after agree if each took in who joined it and let go who left it
   put-keeps : {ts : List Thread} {r : Runner} {q c : List ℕ} (r′ : Runner) (q′ c′ : List ℕ) → Places ts r q c →
       ((n : ℕ) → one-if (runs-as n r′) + leave is-running n ts ≡ one-if (runs-as n r) + join is-running n ts) →
@@ -147,7 +92,7 @@ module _ (p : Thread → Bool) (s : State) (a : Thread → Answer) where
       ((n : ℕ) → times-in c′ n + leave on-clock n ts ≡ times-in c n + join on-clock n ts) →
       Places (map put ts) r′ q′ c′
   put-keeps {ts} r′ q′ c′ P run wait beat = record {
-    once = λ n. rw (put-names n ts) (P .once n);
+    once = λ n. rw (names-kept put (put-name p s a) n ts) (P .once n);
     run = λ n. omega (arith, P .run n, put-here is-running n ts, run n);
     wait = λ n. omega (arith, P .wait n, put-here is-ready n ts, wait n);
     beat = λ n. omega (arith, P .beat n, put-here on-clock n ts, beat n);
@@ -258,7 +203,7 @@ run-keeps m s a {q = q} {c = c} P =
 pub same-keeps : (f : Thread → Thread) → ((t : Thread) → f t .name ≡ t .name) → ((t : Thread) → f t .state ≡ t .state) →
     {ts : List Thread} {r : Runner} {q c : List ℕ} → Places ts r q c → Places (map f ts) r q c
 same-keeps f names states {ts} P = record {
-  once = λ n. rw (count-map (named n) f ts ∙ count-same _ _ ts (λ t. ap (λ (x : ℕ). n == x) (names t))) (P .once n);
+  once = λ n. rw (names-kept f names n ts) (P .once n);
   run = λ n. same is-running n ∙ P .run n;
   wait = λ n. same is-ready n ∙ P .wait n;
   beat = λ n. same on-clock n ∙ P .beat n;
@@ -306,11 +251,8 @@ new-keeps n t p {ts} {q = q} e s z P = record {
 -- ---- without the names of a set
 
 module _ (set : List ℕ) where
-  abbrev left : List ℕ → List ℕ
-  left q = keep (λ n. not (has n set)) q
-
-  abbrev left-threads : List Thread → List Thread
-  left-threads ts = keep (λ t. not (has (t .name) set)) ts
+  abbrev left-queue : List ℕ → List ℕ
+  left-queue q = keep (λ n. not (has n set)) q
 
   abbrev left-runner : Runner → Runner
   left-runner r = by-runner NoRunner (λ n s. if has n set then NoRunner else Runs n s) r
@@ -329,35 +271,36 @@ module _ (set : List ℕ) where
       other true e = refl
       other false e = e
 
-  here-left : (k : State → Bool) (n : ℕ) (ts : List Thread) → here k n (map (without-managers set) (left-threads ts)) ≡ count (λ t. named n t && k (t .state)) (left-threads ts)
+  here-left : (k : State → Bool) (n : ℕ) (ts : List Thread) → here k n (map (without-managers set) (left set ts)) ≡ count (λ t. named n t && k (t .state)) (left set ts)
   unfolding here without-managers
-  here-left k n ts = count-map (λ t. named n t && k (t .state)) (without-managers set) (left-threads ts)
+  here-left k n ts = count-map (λ t. named n t && k (t .state)) (without-managers set) (left set ts)
 
-  none-here : (k : State → Bool) (n : ℕ) (ts : List Thread) → has n set ≡ true → here k n (map (without-managers set) (left-threads ts)) ≡ 0
+  none-here : (k : State → Bool) (n : ℕ) (ts : List Thread) → has n set ≡ true → here k n (map (without-managers set) (left set ts)) ≡ 0
   none-here k n ts o = here-left k n ts ∙ none-left (λ t. t .name) (λ m. has m set) _ n (λ t e. eqb-true n (t .name) (and-left _ _ e)) o ts
 
-  all-here : (k : State → Bool) (n : ℕ) (ts : List Thread) → has n set ≡ false → here k n (map (without-managers set) (left-threads ts)) ≡ here k n ts
+  all-here : (k : State → Bool) (n : ℕ) (ts : List Thread) → has n set ≡ false → here k n (map (without-managers set) (left set ts)) ≡ here k n ts
   all-here k n ts o = here-left k n ts ∙ all-left (λ t. t .name) (λ m. has m set) _ n (λ t e. eqb-true n (t .name) (and-left _ _ e)) o ts ∙ (unfold here in refl)
 
-  queue-left : (k : State → Bool) (q : List ℕ) (ts : List Thread) → ((n : ℕ) → here k n ts ≡ times-in q n) → (n : ℕ) → here k n (map (without-managers set) (left-threads ts)) ≡ times-in (left q) n
+  queue-left : (k : State → Bool) (q : List ℕ) (ts : List Thread) → ((n : ℕ) → here k n ts ≡ times-in q n) → (n : ℕ) → here k n (map (without-managers set) (left set ts)) ≡ times-in (left-queue q) n
   queue-left k q ts h n = go (has n set) refl
     where
-      go : (b : Bool) → has n set ≡ b → here k n (map (without-managers set) (left-threads ts)) ≡ times-in (left q) n
+      go : (b : Bool) → has n set ≡ b → here k n (map (without-managers set) (left set ts)) ≡ times-in (left-queue q) n
       go true o = none-here k n ts o ∙ sym (none-left (λ m. m) (λ m. has m set) _ n (λ m e. eqb-true n m e) o q)
       go false o = all-here k n ts o ∙ h n ∙ sym (all-left (λ m. m) (λ m. has m set) _ n (λ m e. eqb-true n m e) o q)
 
-  run-left : (r : Runner) (ts : List Thread) → ((n : ℕ) → here is-running n ts ≡ one-if (runs-as n r)) → (n : ℕ) → here is-running n (map (without-managers set) (left-threads ts)) ≡ one-if (runs-as n (left-runner r))
+  run-left : (r : Runner) (ts : List Thread) → ((n : ℕ) → here is-running n ts ≡ one-if (runs-as n r)) → (n : ℕ) → here is-running n (map (without-managers set) (left set ts)) ≡ one-if (runs-as n (left-runner r))
   run-left r ts h n = go (has n set) refl
     where
-      go : (b : Bool) → has n set ≡ b → here is-running n (map (without-managers set) (left-threads ts)) ≡ one-if (runs-as n (left-runner r))
+      go : (b : Bool) → has n set ≡ b → here is-running n (map (without-managers set) (left set ts)) ≡ one-if (runs-as n (left-runner r))
       go true o = rw (runs-left n r, o) (none-here is-running n ts o)
       go false o = rw (runs-left n r, o) (all-here is-running n ts o ∙ h n)
 
-  once-left : (ts : List Thread) → ((n : ℕ) → count (named n) ts ≤ 1) → (n : ℕ) → count (named n) (map (without-managers set) (left-threads ts)) ≤ 1
+  once-left : (ts : List Thread) → ((n : ℕ) → count (named n) ts ≤ 1) → (n : ℕ) → count (named n) (map (without-managers set) (left set ts)) ≤ 1
   unfolding without-managers
-  once-left ts h n = omega (arith, h n, count-map (named n) (without-managers set) (left-threads ts), count-keep-le (named n) (λ t. not (has (t .name) set)) ts)
+  once-left ts h n = omega (arith, h n, names-kept (without-managers set) (λ t. refl) n (left set ts), count-keep-le (named n) (λ t. not (has (t .name) set)) ts)
 
-  pub left-keeps : {ts : List Thread} {r : Runner} {q c : List ℕ} → Places ts r q c → Places (map (without-managers set) (left-threads ts)) (left-runner r) (left q) (left c)
+  -- Threads, runner and queues without the names of a set agree as before.
+  pub left-keeps : {ts : List Thread} {r : Runner} {q c : List ℕ} → Places ts r q c → Places (map (without-managers set) (left set ts)) (left-runner r) (left-queue q) (left-queue c)
   left-keeps {ts} {r} {q} {c} P = record {
     once = once-left ts (P .once);
     run = run-left r ts (P .run);

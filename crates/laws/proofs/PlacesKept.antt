@@ -2,19 +2,19 @@
 -- Assumes nothing.
 use Prim.Native.Nat.{ℕ, zero, suc, _+_, _-_, _<_}
 use mathlib.Core.Path.{_≡_, refl, sym, ap, _∙_}
-use mathlib.Core.Bool.{Bool, true, false, _||_, not, true≢false}
-use mathlib.Core.List.{List, [], _∷_, map}
+use mathlib.Core.Bool.{Bool, true, false, not}
+use mathlib.Core.List.{List, map}
 use native.Mathlib.Omega.{arith}
 use lib.Dec.{ltb}
 use lib.ListN.{length, length-map}
 use borrow.Author.Tests.{eqb-true, leb-false}
-use Rattle.rules.specs.Lists.{if_then_else_, _==_, one-if, any, count, keep, insert, has, Pulled, missing, pulled}
+use Rattle.rules.specs.Lists.{if_then_else_, _==_, one-if, Pulled, missing, pulled, any, insert, has}
 use Rattle.rules.specs.Numbers.{Limits, names, full-slice, beat-ticks}
-use Rattle.rules.specs.Words.{by-manager, by-runner, by-wanted}
-use Rattle.laws.proofs.Words.{Wanted, TrapKind, State, Running, Ready, Receiving, Clock, Device, Trapped, Answer, Nothing, Result, Manager, Unset, Set, Gone, Parent, Thread, Message, Held, Runner, NoRunner, Runs, Target, Oneself, Named, Call, Send, Receive, CreateBrother, CreateSon, Terminate, SetManager, GetCpuTime, WaitForClock, WaitForIo, Trap, Event, Malformed, ByRunner, Tick, Interrupt}
-use Rattle.rules.specs.Tables.{Tables, with-runner, in-state, with-ticks, with-managers, named, live, of-thread, change, manager, set-entry, new-thread, runs, me}
+use Rattle.rules.specs.Words.{by-wanted, by-manager}
+use Rattle.laws.proofs.Words.{Wanted, TrapKind, State, Running, Ready, Receiving, Clock, Device, Trapped, Answer, Nothing, Result, Manager, Unset, Set, Gone, Parent, Thread, Message, Held, Runs, Target, Oneself, Named, Call, Send, Receive, CreateBrother, CreateSon, Terminate, SetManager, GetCpuTime, WaitForClock, WaitForIo, Trap, Event, Malformed, ByRunner, Tick, Interrupt}
+use Rattle.rules.specs.Tables.{Tables, in-state, with-managers, with-ticks, named, live, of-thread, change, manager, set-entry, new-thread, me}
 use Rattle.rules.specs.States.{is-running, is-ready, on-clock, matches, receives, at-device, waits-for, trapped-on}
-use Rattle.rules.specs.Waking.{Outcome, wake-those, wake-by-name, wake, handed, accepts, queue, deliver, stop}
+use Rattle.rules.specs.Waking.{Outcome, wake-those, wake-by-name, handed, accepts, queue, deliver, stop}
 use Rattle.rules.specs.Ending.{ended-set, without-managers, remove, misses, release, end}
 use Rattle.rules.specs.Send.{decides, decide, send}
 use Rattle.rules.specs.Receive.{received, receive}
@@ -22,29 +22,17 @@ use Rattle.rules.specs.Trap.{notice, trap}
 use Rattle.rules.specs.Tick.{one-more, charge, beat, rotate, tick}
 use Rattle.rules.specs.Interrupt.{interrupt}
 use Rattle.rules.specs.Requests.{next-name, create, terminate, set-over, wait-for-clock, take-held}
-use Rattle.rules.specs.Dispatch.{run-next, dispatch}
+use Rattle.rules.specs.Dispatch.{dispatch}
 use Rattle.rules.specs.Events.{decode}
-use Rattle.rules.specs.Refusals.{Rule, _refuses_, first-of, is-malformed, needs-runner, call-rules, own-rules, refusal}
-use Rattle.rules.specs.Step.{serve, act, settle, step}
-use Rattle.laws.proofs.Tests.{by-if, and-right}
-use Rattle.laws.proofs.Counting.{any-count, count-any, none-count, count-map, count-keep-le, count-insert, length-count}
+use Rattle.rules.specs.Refusals.{first-of, call-rules, refusal}
+use Rattle.rules.specs.Step.{serve, act, step}
+use Rattle.laws.proofs.Tests.{by-if, by-runs, and-right}
+use Rattle.laws.proofs.Counting.{count-length, length-count, count-insert, count-keep-le, length-keep, any-count, count-any, none-count}
 use Rattle.laws.proofs.Types.{Places, Agree, Inv}
-use Rattle.laws.proofs.Places.{Asleep, asleep, at-run, put-name, rouse-keeps, beat-keeps, rotate-keeps, stop-keeps, clock-keeps, run-keeps, same-keeps, slice-keeps, new-keeps, left-keeps}
+use Rattle.laws.proofs.Threads.{names-kept, names-mapped, left, turned, turned-name, put-name}
+use Rattle.laws.proofs.Steps.{passed, called, by-step, by-dispatch}
 use Rattle.laws.proofs.Names.{name-low, name-free}
-
--- ---- general
-
--- names under a change that keeps each name
-pub names-mapped : (f : Thread → Thread) → ((t : Thread) → f t .name ≡ t .name) → (n : ℕ) (ts : List Thread) → any (named n) (map f ts) ≡ any (named n) ts
-unfolding any
-names-mapped f h n [] = refl
-names-mapped f h n (t ∷ ts) = rw (h t) (ap (λ (b : Bool). n == t .name || b) (names-mapped f h n ts))
-
--- the test of the first rule is false, and the others are passed too
-pub passed : (b : Bool) (n : ℕ) (rs : List Rule) → first-of ((b refuses suc n) ∷ rs) ≡ 0 → (b ≡ false) × (first-of rs ≡ 0)
-unfolding first-of
-passed true n rs e = absurd (omega arith)
-passed false n rs e = (refl, e)
+use Rattle.laws.proofs.Places.{Asleep, asleep, at-run, rouse-keeps, beat-keeps, rotate-keeps, stop-keeps, clock-keeps, run-keeps, same-keeps, slice-keeps, new-keeps, left-keeps}
 
 -- ---- threads changed, with their names as they were
 
@@ -88,18 +76,9 @@ stop-inv n s e to z I = mapped (λ t. if named n t then in-state to Nothing t el
 -- a thread is changed, and keeps its name and state
 pub change-inv : {L : Limits} {T : Tables} (n : ℕ) (f : Thread → Thread) → ((t : Thread) → f t .name ≡ t .name) → ((t : Thread) → f t .state ≡ t .state) → Inv L T → Inv L (change n f T)
 unfolding change
-change-inv {L} {T} n f names states I = mapped g (λ t. kept-name (named n t) t) refl refl (same-keeps g (λ t. kept-name (named n t) t) (λ t. kept-state (named n t) t) (I .agree)) I
-  where
-    g : Thread → Thread
-    g t = if named n t then f t else t
-
-    kept-name : (b : Bool) (t : Thread) → (if b then f t else t) .name ≡ t .name
-    kept-name true t = names t
-    kept-name false t = refl
-
-    kept-state : (b : Bool) (t : Thread) → (if b then f t else t) .state ≡ t .state
-    kept-state true t = states t
-    kept-state false t = refl
+change-inv {L} {T} n f names states I =
+    let k = turned-name (named n) f names in
+    mapped (turned (named n) f) k refl refl (same-keeps (turned (named n) f) k (λ t. by-if (λ (u : Thread). u .state ≡ t .state) (named n t) (λ _. states t) (λ _. refl)) (I .agree)) I
 
 -- ---- ending
 
@@ -107,16 +86,10 @@ remove-inv : {L : Limits} {T : Tables} (set : List ℕ) → Inv L T → Inv L (r
 unfolding remove
 remove-inv {L} {T} set I = record {
   agree = left-keeps set (I .agree);
-  low = λ n e. I .low n (count-any (named n) (T .threads) (omega (arith, any-count (named n) _ e, kept n, count-keep-le (named n) (λ t. not (has (t .name) set)) (T .threads))));
-  few = omega (arith, I .few, length-map (left (T .threads)) (without-managers set), length-count (left (T .threads)), length-count (T .threads), count-keep-le (λ t. true) (λ t. not (has (t .name) set)) (T .threads));
+  low = λ n e. I .low n (count-any (named n) (T .threads) (omega (arith, any-count (named n) _ e, names-kept (without-managers set) (λ t. unfold without-managers in refl) n (left set (T .threads)), count-keep-le (named n) (λ t. not (has (t .name) set)) (T .threads))));
+  few = omega (arith, I .few, length-map (left set (T .threads)) (without-managers set), length-keep (λ t. not (has (t .name) set)) (T .threads), count-length (λ t. not (has (t .name) set)) (T .threads));
   last = I .last;
 }
-  where
-    left : List Thread → List Thread
-    left ts = keep (λ t. not (has (t .name) set)) ts
-
-    kept : (n : ℕ) → count (named n) (map (without-managers set) (left (T .threads))) ≡ count (named n) (left (T .threads))
-    kept n = unfold without-managers in count-map (named n) (without-managers set) (left (T .threads))
 
 release-inv : {L : Limits} {T : Tables} (set : List ℕ) → Inv L T → Inv L (release set T)
 unfolding release misses
@@ -131,14 +104,11 @@ end-inv {L} {T} n I = release-inv (ended-set (T .threads) n) (remove-inv (ended-
 
 charge-inv : {L : Limits} {T : Tables} → Inv L T → Inv L (charge T)
 unfolding charge
-charge-inv {L} {T} I = go (T .runner) refl
-  where
-    go : (r : Runner) → T .runner ≡ r → Inv L (by-runner T (λ n s. with-runner (Runs n (s - 1)) (change n (λ t. with-ticks (one-more (t .ticks)) t) T)) r)
-    go NoRunner e = I
-    go (Runs n s) e =
-        unfold change in
-        let J = change-inv n (λ t. with-ticks (one-more (t .ticks)) t) (λ t. refl) (λ t. refl) I in
-        same-threads refl refl (slice-keeps n s (s - 1) (rw e at (J .agree))) J
+charge-inv {L} {T} I =
+    by-runs (Inv L) (T .runner) (λ _. I) λ n s e.
+    unfold change in
+    let J = change-inv n (λ t. with-ticks (one-more (t .ticks)) t) (λ t. refl) (λ t. refl) I in
+    same-threads refl refl (slice-keeps n s (s - 1) (rw e at (J .agree))) J
 
 beat-inv : {L : Limits} {T : Tables} → Inv L T → Inv L (beat T)
 unfolding beat wake-those
@@ -149,14 +119,11 @@ beat-inv {L} {T} I =
 
 rotate-inv : {L : Limits} {T : Tables} → Inv L T → Inv L (rotate T)
 unfolding rotate wake-those
-rotate-inv {L} {T} I = go (T .runner) refl
-  where
-    go : (r : Runner) → T .runner ≡ r → Inv L (by-runner T (λ n s. if s == 0 then with-runner NoRunner (wake n Nothing T) else T) r)
-    go NoRunner e = I
-    go (Runs n s) e =
-        by-if (Inv L) (s == 0)
-        (λ _. mapped (λ t. if named n t then in-state Ready Nothing t else t) (put-name (named n) Ready (λ t. Nothing)) refl refl (rotate-keeps n s Nothing (rw e at (I .agree))) I)
-        (λ _. I)
+rotate-inv {L} {T} I =
+    by-runs (Inv L) (T .runner) (λ _. I) λ n s e.
+    by-if (Inv L) (s == 0)
+    (λ _. mapped (λ t. if named n t then in-state Ready Nothing t else t) (put-name (named n) Ready (λ t. Nothing)) refl refl (rotate-keeps n s Nothing (rw e at (I .agree))) I)
+    (λ _. I)
 
 pub tick-inv : {L : Limits} {T : Tables} → Inv L T → Inv L (tick T)
 unfolding tick
@@ -254,22 +221,6 @@ module _ {L : Limits} {T : Tables} (n s : ℕ) (runs-now : T .runner ≡ Runs n 
 
 -- ---- the step
 
--- a call that is not refused: there is a runner, and the call's own rules are passed
-pub record Called (L : Limits) (T : Tables) (c : Call) : Type 0 where
-  pub name : ℕ
-  pub slice : ℕ
-  pub runner : T .runner ≡ Runs name slice
-  pub caller : me (T .runner) ≡ name
-  pub passes : first-of (call-rules L T name c) ≡ 0
-
-pub called : (L : Limits) (T : Tables) (c : Call) → refusal L T (ByRunner c) ≡ 0 → Called L T c
-unfolding refusal is-malformed needs-runner own-rules
-called L T c f = let g = passed _ 2 _ (passed false 1 _ (passed _ 0 _ f .1) .1) in go (T .runner) refl (g .0) (g .1)
-  where
-    go : (r : Runner) → T .runner ≡ r → not (runs r) ≡ false → first-of (call-rules L T (me r) c) ≡ 0 → Called L T c
-    go NoRunner e h g = unfold runs in absurd (true≢false h)
-    go (Runs n s) e h g = unfold me in record { name = n; slice = s; runner = e; caller = ap me e; passes = g }
-
 -- An event that is not refused keeps the agreement.
 pub act-inv : {L : Limits} {T : Tables} (e : Event) → L .threads < names → refusal L T e ≡ 0 → Inv L T → Inv L (act T e .tables)
 unfolding act
@@ -282,24 +233,11 @@ act-inv (Interrupt d w) l f I = interrupt-inv d w I
 
 -- So does a dispatch.
 pub dispatch-inv : {L : Limits} (o : Outcome) → Inv L (o .tables) → Inv L (dispatch o .tables)
-unfolding dispatch
-dispatch-inv {L} o I = go (o .tables .runner) refl
-  where
-    next : (q : List ℕ) → o .tables .ready ≡ q → o .tables .runner ≡ NoRunner → Kept L (run-next q o)
-    next [] e r = unfold run-next in I
-    next (n ∷ q) e r =
-        unfold run-next change in
-        mapped (λ t. if named n t then in-state Running Nothing t else t) (put-name (named n) Running (λ t. Nothing)) refl refl (run-keeps n full-slice Nothing (rw (r, e) at (I .agree))) I
-
-    go : (r : Runner) → o .tables .runner ≡ r → Kept L (by-runner (run-next (o .tables .ready) o) (λ n s. o) r)
-    go NoRunner e = next (o .tables .ready) refl e
-    go (Runs n s) e = I
+dispatch-inv {L} o I =
+    by-dispatch (Inv L) o (λ n s r. I) (λ r e. I) λ n q r e.
+    unfold change in
+    mapped (λ t. if named n t then in-state Running Nothing t else t) (put-name (named n) Running (λ t. Nothing)) refl refl (run-keeps n full-slice Nothing (rw (r, e) at (I .agree))) I
 
 -- Every step, accepted or refused, keeps the agreement of state, runner and queues, names below 254, and the number of threads.
 pub step-inv : {L : Limits} {T : Tables} (bytes : List ℕ) → L .threads < names → Inv L T → Inv L (step L T bytes .tables)
-unfolding step
-step-inv {L} {T} bytes l I = go (refusal L T (decode bytes)) refl
-  where
-    go : (r : ℕ) → refusal L T (decode bytes) ≡ r → Inv L (settle r T (decode bytes) .tables)
-    go zero f = unfold settle in dispatch-inv (act T (decode bytes)) (act-inv (decode bytes) l f I)
-    go (suc r) f = unfold settle in I
+step-inv {L} {T} bytes l I = by-step (λ U b. Inv L U) L T bytes I (λ f. dispatch-inv (act T (decode bytes)) (act-inv (decode bytes) l f I))

@@ -1,115 +1,30 @@
 -- Fewer messages, other threads around a thread, and some threads changed: the moves that keep the rules of threads and messages.
 -- Assumes nothing.
 use Prim.Native.Nat.{ℕ, _+_, _≤_}
-use mathlib.Core.Path.{_≡_, refl, sym, ap, ap₂, _∙_}
+use mathlib.Core.Path.{_≡_, refl, sym, ap, _∙_}
 use mathlib.Core.Logic.{_⊎_, ⊎-elim}
-use mathlib.Core.Bool.{Bool, true, false, _||_}
-use mathlib.Core.List.{List, [], _∷_, map, List·Memᴰ, List·Memᴰ·head, List·Memᴰ·tail}
+use mathlib.Core.Bool.{Bool, true, false}
+use mathlib.Core.List.{List, map, List·Memᴰ}
 use native.Mathlib.Omega.{arith}
-use lib.Dec.{leb, ltb}
-use borrow.Author.Tests.{eq-eqb, leb-true, leb-false, le-leb, ltb-true, lt-ltb}
-use Rattle.rules.specs.Lists.{if_then_else_, _==_, one-if, any, keep, count, insert, chain, Pulled, missing, pulled, behind, pull}
+use lib.Dec.{leb}
+use borrow.Author.Tests.{eq-eqb, leb-true, leb-false, le-leb}
+use Rattle.rules.specs.Lists.{any, count, insert, chain}
 use Rattle.rules.specs.Words.{by-wanted}
-use Rattle.laws.proofs.Words.{Wanted, Anybody, Only, State, Running, Ready, Receiving, Clock, Device, Trapped, Manager, Unset, Set, Gone, Managers, Thread, Message, Held}
-use Rattle.rules.specs.Tables.{named, manager}
+use Rattle.laws.proofs.Words.{Wanted, Anybody, Only, TrapKind, Program, Tlb, SysBp, State, Running, Ready, Receiving, Clock, Device, Trapped, Nothing, Manager, Unset, Set, Gone, Managers, Parent, Thread, Message, Held}
+use Rattle.rules.specs.Tables.{named, manager, new-thread}
 use Rattle.rules.specs.States.{waits-for, awaits}
 use Rattle.rules.specs.Waking.{is-ordinary, notice-of}
 use Rattle.rules.specs.Receive.{wanted-by}
 use Rattle.rules.specs.Interrupt.{held-for}
-use Rattle.laws.proofs.Tests.{by-if, and-left, and-right, _&_}
-use Rattle.laws.proofs.Counting.{count-cons, count-keep-le, any-count, member-any, any-fewer}
-use Rattle.laws.proofs.Members.{mem-keep, mem-insert, mem-map}
-use Rattle.laws.proofs.Ordered.{up-map}
+use Rattle.rules.specs.TableRules.{answer-in-range}
+use Rattle.laws.proofs.Tests.{by-if}
+use Rattle.laws.proofs.Counting.{any-count, member-any, any-fewer}
+use Rattle.laws.proofs.Members.{mem-map}
+use Rattle.laws.proofs.Ordered.{Transitive, chain-insert, Less, up-map}
 use Rattle.laws.proofs.Types.{Entry, Detail, Right, Family, Good}
+use Rattle.laws.proofs.Threads.{turned, turned-name, turned-live}
 
--- ---- general: fewer elements, in the same order
-
-module _ {A : Type 0} where
-  abbrev pub Transitive : (A → A → Bool) → Type 0
-  Transitive r = (x y z : A) → r x y ≡ true → r y z ≡ true → r x z ≡ true
-
-  pub record Less (xs ys : List A) : Type 0 where
-    pub member : (x : A) → List·Memᴰ x ys → List·Memᴰ x xs
-    pub counts : (p : A → Bool) → count p ys ≤ count p xs
-    pub ordered : (r : A → A → Bool) → Transitive r → chain r xs ≡ true → chain r ys ≡ true
-
-  pub less-refl : (xs : List A) → Less xs xs
-  less-refl xs = record { member = λ x m. m; counts = λ p. omega arith; ordered = λ r t c. c }
-
-  pub chain-tail : (r : A → A → Bool) (x : A) (xs : List A) → chain r (x ∷ xs) ≡ true → chain r xs ≡ true
-  unfolding chain
-  chain-tail r x [] c = refl
-  chain-tail r x (y ∷ xs) c = and-right (r x y) _ c
-
-  pub chain-before : (r : A → A → Bool) → Transitive r → (x : A) (xs : List A) → chain r (x ∷ xs) ≡ true → (y : A) → List·Memᴰ y xs → r x y ≡ true
-  unfolding chain
-  chain-before r t x (z ∷ xs) c y (List·Memᴰ·head e) = ap (r x) e ∙ and-left (r x z) _ c
-  chain-before r t x (z ∷ xs) c y (List·Memᴰ·tail m) = t x z y (and-left (r x z) _ c) (chain-before r t z xs (and-right (r x z) _ c) y m)
-
-  pub chain-cons : (r : A → A → Bool) (x : A) (xs : List A) → ((y : A) → List·Memᴰ y xs → r x y ≡ true) → chain r xs ≡ true → chain r (x ∷ xs) ≡ true
-  unfolding chain
-  chain-cons r x [] h c = refl
-  chain-cons r x (y ∷ xs) h c = h y (List·Memᴰ·head refl) & c
-
-  chain-keep : (q : A → Bool) (r : A → A → Bool) → Transitive r → (xs : List A) → chain r xs ≡ true → chain r (keep q xs) ≡ true
-  unfolding keep
-  chain-keep q r t [] c = c
-  chain-keep q r t (x ∷ xs) c =
-      let later = chain-keep q r t xs (chain-tail r x xs c) in
-      by-if (λ (l : List A). chain r l ≡ true) (q x)
-      (λ e. chain-cons r x (keep q xs) (λ y m. chain-before r t x xs c y (mem-keep q xs m .0)) later)
-      (λ e. later)
-
-  pub keep-less : (q : A → Bool) (xs : List A) → Less xs (keep q xs)
-  keep-less q xs = record { member = λ x m. mem-keep q xs m .0; counts = λ p. count-keep-le p q xs; ordered = λ r t c. chain-keep q r t xs c }
-
-  -- what a search took out, and what it left
-  pub record Took (p : A → Bool) (xs : List A) (x : A) (ys : List A) : Type 0 where
-    pub passes : p x ≡ true
-    pub from : List·Memᴰ x xs
-    pub each : (q : A → Bool) → count q xs ≡ one-if (q x) + count q ys
-    pub less : Less xs ys
-
-  unfoldable pub Pulls : (A → Bool) → List A → Pulled A → Type 0
-  Pulls p xs missing = any p xs ≡ false
-  Pulls p xs (pulled x ys) = Took p xs x ys
-
-  behind-pulls : (p : A → Bool) (x : A) (xs : List A) → p x ≡ false → (r : Pulled A) → Pulls p xs r → Pulls p (x ∷ xs) (behind x r)
-  unfolding Pulls behind any
-  behind-pulls p x xs e missing h = rw e h
-  behind-pulls p x xs e (pulled y ys) h = record {
-    passes = h .passes;
-    from = List·Memᴰ·tail (h .from);
-    each = λ q. omega (arith, h .each q, count-cons q x xs, count-cons q x ys);
-    less = record {
-      member = λ z m. there z m;
-      counts = λ q. omega (arith, h .less .counts q, count-cons q x xs, count-cons q x ys);
-      ordered = λ r t c. chain-cons r x ys (λ z m. chain-before r t x xs c z (h .less .member z m)) (h .less .ordered r t (chain-tail r x xs c));
-    };
-  }
-    where
-      there : (z : A) → List·Memᴰ z (x ∷ ys) → List·Memᴰ z (x ∷ xs)
-      there z (List·Memᴰ·head i) = List·Memᴰ·head i
-      there z (List·Memᴰ·tail m) = List·Memᴰ·tail (h .less .member z m)
-
-  pub pull-pulls : (p : A → Bool) (xs : List A) → Pulls p xs (pull p xs)
-  unfolding pull
-  pull-pulls p [] = unfold Pulls any in refl
-  pull-pulls p (x ∷ xs) =
-      by-if (Pulls p (x ∷ xs)) (p x)
-      (λ e. unfold Pulls in record { passes = e; from = List·Memᴰ·head refl; each = λ q. count-cons q x xs; less = record { member = λ z m. List·Memᴰ·tail m; counts = λ q. omega (arith, count-cons q x xs); ordered = λ r t c. chain-tail r x xs c } })
-      (λ e. behind-pulls p x xs e (pull p xs) (pull-pulls p xs))
-
-  pub pull-none : (p : A → Bool) (xs : List A) → pull p xs ≡ missing → any p xs ≡ false
-  pull-none p xs e = unfold Pulls in rw e at (pull-pulls p xs)
-
-  pub pull-took : (p : A → Bool) (xs : List A) {x : A} {ys : List A} → pull p xs ≡ pulled x ys → Took p xs x ys
-  pull-took p xs e = unfold Pulls in rw e at (pull-pulls p xs)
-
-  pub pull-less : (p : A → Bool) (xs : List A) {x : A} {ys : List A} → pull p xs ≡ pulled x ys → Less xs ys
-  pull-less p xs e = pull-took p xs e .less
-
--- ---- messages by rising receiver, held words by rising device
+-- ---- messages by rising receiver
 
 abbrev pub by-receiver : Message → Message → Bool
 by-receiver m n = leb (m .to) (n .to)
@@ -120,22 +35,8 @@ receivers x y z e f = le-leb (x .to) (z .to) (omega (arith, leb-true (x .to) (y 
 pub less-order : {ms ns : List Message} → Less ms ns → chain by-receiver ms ≡ true → chain by-receiver ns ≡ true
 less-order l c = l .ordered by-receiver receivers c
 
-abbrev by-device : Held → Held → Bool
-by-device h k = ltb (h .device) (k .device)
-
-devices-rise : Transitive by-device
-devices-rise x y z e f = lt-ltb (x .device) (z .device) (omega (arith, ltb-true (x .device) (y .device) e, ltb-true (y .device) (z .device) f))
-
-pub less-held : {hs ks : List Held} → Less hs ks → chain by-device hs ≡ true → chain by-device ks ≡ true
-less-held l c = l .ordered by-device devices-rise c
-
-pub chain-insert : (a : Message) (ms : List Message) → chain by-receiver ms ≡ true → chain by-receiver (insert (λ x. leb (x .to) (a .to)) a ms) ≡ true
-unfolding insert
-chain-insert a [] c = unfold chain in refl
-chain-insert a (m ∷ ms) c =
-    by-if (λ (l : List Message). chain by-receiver l ≡ true) (leb (m .to) (a .to))
-    (λ e. chain-cons by-receiver m _ (λ n h. ⊎-elim (λ i. ap (by-receiver m) i ∙ e) (λ i. chain-before by-receiver receivers m ms c n i) (mem-insert (λ x. leb (x .to) (a .to)) a ms h)) (chain-insert a ms (chain-tail by-receiver m ms c)))
-    (λ e. unfold chain in rw (le-leb (a .to) (m .to) (omega (arith, leb-false (m .to) (a .to) e))) c)
+pub order-insert : (a : Message) (ms : List Message) → chain by-receiver ms ≡ true → chain by-receiver (insert (λ x. leb (x .to) (a .to)) a ms) ≡ true
+order-insert a ms c = chain-insert by-receiver receivers a ms (λ x m e. le-leb (a .to) (x .to) (omega (arith, leb-false (x .to) (a .to) e))) c
 
 -- ---- a thread that is as it was, among others of which all that lived live, with fewer messages
 
@@ -166,12 +67,22 @@ module _ {ts us : List Thread} {ms ns : List Message} (w : Around ts us ms ns) w
   pub right-around : {t : Thread} → Right ts ms t → Right us ns t
   right-around {t} r = record { entries = λ k. entry-around (t .name) (manager k (t .managers)) (r .entries k); detail = detail-around (t .name) (t .managers) (t .state) (r .detail); answer = r .answer; form = r .form; ticks = r .ticks }
 
--- ---- notices
+-- ---- a new thread
 
--- of a notice, the sender is trapped on its receiver
-pub sender-trapped : {b : ℕ} {ts : List Thread} {ms : List Message} {hs : List Held} → Good b ts ms hs →
-    (m : Message) → List·Memᴰ m ms → is-ordinary (m .kind) ≡ false → (t : Thread) → List·Memᴰ t ts → t .name ≡ m .from → awaits (m .to) t ≡ true
-sender-trapped G m i k t j e = G .messages m i .notice k t j e
+pub nothing-form : answer-in-range Nothing ≡ true
+unfolding answer-in-range
+nothing-form = refl
+
+no-entry : (ts : List Thread) (n : ℕ) (k : TrapKind) → Entry ts n (manager k (record { program = Unset; tlb = Unset; sysbp = Unset }))
+unfolding Entry manager
+no-entry ts n Program = tt
+no-entry ts n Tlb = tt
+no-entry ts n SysBp = tt
+
+pub new-right : (ts : List Thread) (ms : List Message) (n : ℕ) (p : Parent) (s : State) → Detail ts ms n (new-thread n p s .managers) s → Right ts ms (new-thread n p s)
+new-right ts ms n p s d = record { entries = no-entry ts n; detail = d; answer = λ e. refl; form = nothing-form; ticks = omega arith }
+
+-- ---- notices
 
 -- a notice counts among those of its sender
 pub notice-counts : (m : Message) (ms : List Message) → List·Memᴰ m ms → is-ordinary (m .kind) ≡ false → (n : ℕ) → n ≡ m .from → 1 ≤ count (notice-of n) ms
@@ -180,67 +91,56 @@ notice-counts m ms i k n e = any-count (notice-of n) ms (member-any (notice-of n
 -- ---- some threads change
 
 module _ (p : Thread → Bool) (g : Thread → Thread) (name : (t : Thread) → g t .name ≡ t .name) (parent : (t : Thread) → g t .parent ≡ t .parent) where
-  abbrev pub turned : Thread → Thread
-  turned t = if p t then g t else t
-
-  pub turned-name : (t : Thread) → turned t .name ≡ t .name
-  turned-name t = by-if (λ (u : Thread). u .name ≡ t .name) (p t) (λ _. name t) (λ _. refl)
-
-  pub turned-parent : (t : Thread) → turned t .parent ≡ t .parent
+  pub turned-parent : (t : Thread) → turned p g t .parent ≡ t .parent
   turned-parent t = by-if (λ (u : Thread). u .parent ≡ t .parent) (p t) (λ _. parent t) (λ _. refl)
 
-  pub turned-live : (n : ℕ) (ts : List Thread) → any (named n) (map turned ts) ≡ any (named n) ts
-  unfolding any
-  turned-live n [] = refl
-  turned-live n (t ∷ ts) = ap₂ (λ (a : ℕ) (b : Bool). (n == a) || b) (turned-name t) (turned-live n ts)
+  pub turned-around : (ts : List Thread) {ms ns : List Message} → Less ms ns → Around ts (map (turned p g) ts) ms ns
+  turned-around ts l = record { lives = λ n h. turned-live p g name n ts ∙ h; less = l .member }
 
-  pub turned-around : (ts : List Thread) {ms ns : List Message} → Less ms ns → Around ts (map turned ts) ms ns
-  turned-around ts l = record { lives = λ n h. turned-live n ts ∙ h; less = l .member }
-
-  turned-family : {ts : List Thread} → Family ts → Family (map turned ts)
+  turned-family : {ts : List Thread} → Family ts → Family (map (turned p g) ts)
   turned-family {ts} F = record {
     depth = F .depth;
-    root = λ u m z. let r = mem-map turned ts m in ap (λ (x : Thread). x .parent) (r .2) ∙ turned-parent (r .0) ∙ F .root (r .0) (r .1) (sym (ap (λ (x : Thread). x .name) (r .2) ∙ turned-name (r .0)) ∙ z);
+    root = λ u m z. let r = mem-map (turned p g) ts m in ap (λ (x : Thread). x .parent) (r .2) ∙ turned-parent (r .0) ∙ F .root (r .0) (r .1) (sym (ap (λ (x : Thread). x .name) (r .2) ∙ turned-name p g name (r .0)) ∙ z);
     under = λ u m z.
-        let r = mem-map turned ts m in
-        let n : u .name ≡ r .0 .name = ap (λ (x : Thread). x .name) (r .2) ∙ turned-name (r .0) in
+        let r = mem-map (turned p g) ts m in
+        let n : u .name ≡ r .0 .name = ap (λ (x : Thread). x .name) (r .2) ∙ turned-name p g name (r .0) in
         let k = F .under (r .0) (r .1) (λ y. z (n ∙ y)) in
-        (k .0, ap (λ (x : Thread). x .parent) (r .2) ∙ turned-parent (r .0) ∙ k .1, turned-live (k .0) ts ∙ k .2, omega (arith, k .3, ap (F .depth) n));
+        (k .0, ap (λ (x : Thread). x .parent) (r .2) ∙ turned-parent (r .0) ∙ k .1, turned-live p g name (k .0) ts ∙ k .2, omega (arith, k .3, ap (F .depth) n));
   }
 
   -- Those that pass p become what g says. Each of them is right, or is what it was; where one was trapped on somebody,
   -- no notice of it is left or it is trapped on the same one; devices have no second waiter.
   pub some-good : {b : ℕ} {ts : List Thread} {ms ns : List Message} {hs : List Held} →
-      ((t : Thread) → List·Memᴰ t ts → p t ≡ true → Right (map turned ts) ns (g t)) →
+      ((t : Thread) → List·Memᴰ t ts → p t ≡ true → Right (map (turned p g) ts) ns (g t)) →
       ((t : Thread) → List·Memᴰ t ts → p t ≡ true → (n : ℕ) → awaits n t ≡ true → (count (notice-of (t .name)) ns ≡ 0) ⊎ (awaits n (g t) ≡ true)) →
-      ((d : ℕ) → count (waits-for d) (map turned ts) + count (held-for d) hs ≤ 1) →
-      Less ms ns → Good b ts ms hs → Good b (map turned ts) ns hs
+      ((d : ℕ) → count (waits-for d) (map (turned p g) ts) + count (held-for d) hs ≤ 1) →
+      Less ms ns → Good b ts ms hs → Good b (map (turned p g) ts) ns hs
   some-good {b} {ts} {ms} {ns} {hs} new silent one l G = record {
     family = turned-family (G .family);
-    threads = λ u m. let r = mem-map turned ts m in rw (r .2) (by-member (r .0) (r .1));
+    threads = λ u m. let r = mem-map (turned p g) ts m in rw (r .2) (by-member (r .0) (r .1));
     waiters = one;
     messages = λ m i.
         let P = G .messages m (l .member m i) in
         record {
-          to-live = turned-live (m .to) ts ∙ P .to-live;
-          from-live = turned-live (m .from) ts ∙ P .from-live;
+          to-live = turned-live p g name (m .to) ts ∙ P .to-live;
+          from-live = turned-live p g name (m .from) ts ∙ P .from-live;
           word = P .word;
-          notice = λ k u j e. let r = mem-map turned ts j in rw (r .2) (still m i k (r .0) (r .1) (sym (ap (λ (x : Thread). x .name) (r .2) ∙ turned-name (r .0)) ∙ e));
+          notice = λ k u j e. let r = mem-map (turned p g) ts j in rw (r .2) (still m i k (r .0) (r .1) (sym (ap (λ (x : Thread). x .name) (r .2) ∙ turned-name p g name (r .0)) ∙ e));
         };
     notices = λ n. omega (arith, l .counts (notice-of n), G .notices n);
     blocks = omega (arith, l .counts (λ m. is-ordinary (m .kind)), G .blocks);
-    rising = up-map (λ t. t .name) turned turned-name ts (G .rising);
+    rising = up-map (λ t. t .name) (turned p g) (turned-name p g name) ts (G .rising);
     order = less-order l (G .order);
     held = G .held;
     held-order = G .held-order;
   }
     where
-      by-member : (t : Thread) → List·Memᴰ t ts → Right (map turned ts) ns (turned t)
-      by-member t m = by-if (Right (map turned ts) ns) (p t) (new t m) (λ _. right-around (turned-around ts l) (G .threads t m))
+      by-member : (t : Thread) → List·Memᴰ t ts → Right (map (turned p g) ts) ns (turned p g t)
+      by-member t m = by-if (Right (map (turned p g) ts) ns) (p t) (new t m) (λ _. right-around (turned-around ts l) (G .threads t m))
 
-      still : (m : Message) → List·Memᴰ m ns → is-ordinary (m .kind) ≡ false → (t : Thread) → List·Memᴰ t ts → t .name ≡ m .from → awaits (m .to) (turned t) ≡ true
+      still : (m : Message) → List·Memᴰ m ns → is-ordinary (m .kind) ≡ false → (t : Thread) → List·Memᴰ t ts → t .name ≡ m .from → awaits (m .to) (turned p g t) ≡ true
       still m i k t j e =
-          let s = sender-trapped G m (l .member m i) k t j e in
+          let s = G .messages m (l .member m i) .notice k t j e in
           by-if (λ (u : Thread). awaits (m .to) u ≡ true) (p t)
           (λ x. ⊎-elim (λ z. absurd (omega (arith, notice-counts m ns i k (t .name) e))) (λ q. q) (silent t j x (m .to) s))
           (λ x. s)

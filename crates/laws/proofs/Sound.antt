@@ -3,7 +3,7 @@
 use Prim.Native.Nat.{ℕ, _≤_, _<_}
 use mathlib.Core.Path.{_≡_, refl, sym, ap, _∙_}
 use mathlib.Core.Logic.{⊎-elim}
-use mathlib.Core.Bool.{Bool, true, false, _&&_, _||_, not, true≢false, false≢true}
+use mathlib.Core.Bool.{Bool, true, false, _&&_, _||_, not, false≢true}
 use mathlib.Core.List.{List, [], _∷_, List·Memᴰ, List·Memᴰ·head as head, List·Memᴰ·tail as tail}
 use native.Mathlib.Omega.{arith}
 use lib.Dec.{leb, ltb}
@@ -16,11 +16,13 @@ use Rattle.rules.specs.Tables.{Tables, named, live, manager}
 use Rattle.rules.specs.States.{is-ready, awaits}
 use Rattle.rules.specs.Waking.{is-ordinary, blocks-used, notice-of}
 use Rattle.rules.specs.TableRules.{state-in-range, ranges, names-right, parents-right, places-agree, devices-right, wanted-live, entry-right, entries-right, names-live, manager-set, trapped-right, no-match, inboxes-right, messages-right, notices-right, runner-right, answer-in-range, is-nothing, answers-right, orders-right, table-tests, table-rules}
-use Rattle.laws.proofs.Tests.{and-left, and-right, _&_, or-cases, not-true}
-use Rattle.laws.proofs.Counting.{none-count, any-member, member-any, none-any, all-of, all-at}
+use Rattle.laws.proofs.Tests.{clash, and-left, and-right, _&_, three, six, or-cases, not-true}
+use Rattle.laws.proofs.Counting.{none-count, any-member, member-any, none-any, all-of, all-at, any-only}
+use Rattle.laws.proofs.Ordered.{up-once}
 use Rattle.laws.proofs.Types.{Inv, Steady, Entry, Detail, Right, Post, Good, Fits, Ruled}
-use Rattle.laws.proofs.Descent.{any-only, member-live, family-tested, tested-family}
-use Rattle.laws.proofs.Tested.{three, six, up-once, tested-places, places-tested, tested-devices, devices-tested}
+use Rattle.laws.proofs.Threads.{member-live, live-member}
+use Rattle.laws.proofs.Descent.{family-tested, tested-family}
+use Rattle.laws.proofs.Tested.{tested-places, places-tested, tested-devices, devices-tested}
 
 -- ---- from the test to the types, a value at a time
 
@@ -126,7 +128,7 @@ module _ (L : Limits) (T : Tables) (pass : table-rules L T ≡ true) where
   tested-inv : Inv L T
   tested-inv = record {
     agree = tested-places T once (test (places-agree T) (tail (tail (tail (head refl)))));
-    low = λ n h. let r = any-member (named n) (T .threads) h in omega (arith, ltb-true (r .0 .name) names (all-at (λ t. ltb (t .name) names) (T .threads) (naming .1) (r .0) (r .1)), eqb-true n (r .0 .name) (r .2));
+    low = λ n h. let r = live-member (T .threads) n h in omega (arith, ltb-true (r .0 .name) names (all-at (λ t. ltb (t .name) names) (T .threads) (naming .1) (r .0) (r .1)), r .2);
     few = leb-true (length (T .threads)) (L .threads) (naming .2);
     last = ltb-true (T .last) names (ranged .0);
   }
@@ -143,7 +145,7 @@ module _ (L : Limits) (T : Tables) (pass : table-rules L T ≡ true) where
   tested-right t m = record {
     entries = tested-entries T t (living t m .1);
     detail = tested-detail T (t .name) (t .managers) (t .state) (state-ranged t m .1) (living t m .0) (trapped t m) (inbox t m);
-    answer = λ f. ⊎-elim (λ e. absurd (true≢false (sym e ∙ f))) (nothing-is (t .answer)) (or-cases (is-ready (t .state)) (is-nothing (t .answer)) (answered t m .1));
+    answer = λ f. ⊎-elim (λ e. absurd (clash e f)) (nothing-is (t .answer)) (or-cases (is-ready (t .state)) (is-nothing (t .answer)) (answered t m .1));
     form = answered t m .0;
     ticks = ltb-true (t .ticks) wrap (state-ranged t m .0);
   }
@@ -160,7 +162,7 @@ module _ (L : Limits) (T : Tables) (pass : table-rules L T ≡ true) where
   }
     where
       waited : is-ordinary (m .kind) ≡ false → any (λ t. named (m .from) t && awaits (m .to) t) (T .threads) ≡ true
-      waited f = ⊎-elim (λ e. absurd (true≢false (sym e ∙ f))) (λ e. e) (or-cases (is-ordinary (m .kind)) _ (all-at (λ x. is-ordinary (x .kind) || any (λ t. named (x .from) t && awaits (x .to) t) (T .threads)) (T .messages) (noticed .0) m i))
+      waited f = ⊎-elim (λ e. absurd (clash e f)) (λ e. e) (or-cases (is-ordinary (m .kind)) _ (all-at (λ x. is-ordinary (x .kind) || any (λ t. named (x .from) t && awaits (x .to) t) (T .threads)) (T .messages) (noticed .0) m i))
 
   -- of a name that nobody has there is no notice, since senders live
   tested-notices : (n : ℕ) → count (notice-of n) (T .messages) ≤ 1
@@ -168,12 +170,12 @@ module _ (L : Limits) (T : Tables) (pass : table-rules L T ≡ true) where
     where
       none : live n T ≡ false → (m : Message) → List·Memᴰ m (T .messages) → (b : Bool) → notice-of n m ≡ b → b ≡ false
       none f m i false e = refl
-      none f m i true e = absurd (true≢false (sym (senders m i .1) ∙ ap (λ (x : ℕ). live x T) (eqb-true (m .from) n (and-right (not (is-ordinary (m .kind))) _ e)) ∙ f))
+      none f m i true e = absurd (clash (senders m i .1) (ap (λ (x : ℕ). live x T) (eqb-true (m .from) n (and-right (not (is-ordinary (m .kind))) _ e)) ∙ f))
 
       go : (b : Bool) → live n T ≡ b → count (notice-of n) (T .messages) ≤ 1
       go true e =
-          let r = any-member (named n) (T .threads) e in
-          omega (arith, leb-true (count (notice-of (r .0 .name)) (T .messages)) 1 (all-at (λ t. leb (count (notice-of (t .name)) (T .messages)) 1) (T .threads) (noticed .1) (r .0) (r .1)), ap (λ (x : ℕ). count (notice-of x) (T .messages)) (eqb-true n (r .0 .name) (r .2)))
+          let r = live-member (T .threads) n e in
+          omega (arith, leb-true (count (notice-of (r .0 .name)) (T .messages)) 1 (all-at (λ t. leb (count (notice-of (t .name)) (T .messages)) 1) (T .threads) (noticed .1) (r .0) (r .1)), ap (λ (x : ℕ). count (notice-of x) (T .messages)) (r .2))
       go false e = omega (arith, none-count (notice-of n) (T .messages) (none-any (notice-of n) (T .messages) (λ m i. none e m i (notice-of n m) refl)))
 
   tested-fits : Fits L T
@@ -192,14 +194,11 @@ module _ (L : Limits) (T : Tables) (pass : table-rules L T ≡ true) where
 
 -- ---- from the types to the test
 
-not-yes : (b : Bool) → b ≡ false → not b ≡ true
-not-yes b e = rw e
-
 module _ (T : Tables) where
   entry-tested : (own : ℕ) (m : Manager) → Entry (T .threads) own m → entry-right T own m ≡ true
   unfolding Entry
   entry-tested own Unset h = refl
-  entry-tested own (Set n) h = h .0 & not-yes _ (ne-eqb n own (h .1))
+  entry-tested own (Set n) h = h .0 & ap not (ne-eqb n own (h .1))
   entry-tested own Gone h = refl
 
   entries-tested : (t : Thread) → ((k : TrapKind) → Entry (T .threads) (t .name) (manager k (t .managers))) → entries-right T t ≡ true
@@ -210,7 +209,7 @@ module _ (T : Tables) where
   unfolding state-in-range wanted-live manager-set no-match Detail
   detail-tested n g Running d = (refl, refl, refl, refl)
   detail-tested n g Ready d = (refl, refl, refl, refl)
-  detail-tested n g (Receiving w) d = (refl, d .0, refl, not-yes _ (d .1))
+  detail-tested n g (Receiving w) d = (refl, d .0, refl, ap not (d .1))
   detail-tested n g Clock d = (refl, refl, refl, refl)
   detail-tested n g (Device e) d = (lt-ltb e devices d, refl, refl, refl)
   detail-tested n g (Trapped k) d = (refl, refl, d, refl)

@@ -1,14 +1,13 @@
 -- The tests of the table rules that speak of counts, against the counts: names, places, devices.
 -- Assumes nothing.
-use Prim.Native.Nat.{ℕ, zero, suc, _+_, _≤_, _<_}
+use Prim.Native.Nat.{ℕ, _+_, _≤_, _<_}
 use mathlib.Core.Path.{_≡_, refl, sym, ap, _∙_}
-use mathlib.Core.Logic.{⊎-elim}
-use mathlib.Core.Bool.{Bool, true, false, _&&_, true≢false}
-use mathlib.Core.List.{List, [], _∷_, List·Memᴰ, List·Memᴰ·head, List·Memᴰ·tail}
+use mathlib.Core.Bool.{Bool, true, false, _&&_}
+use mathlib.Core.List.{List, List·Memᴰ}
 use native.Mathlib.Omega.{arith}
 use lib.Dec.{ltb}
 use borrow.Author.Tests.{eqb-true, eq-eqb, ne-eqb, leb-true, le-leb, ltb-true, ltb-false}
-use Rattle.rules.specs.Lists.{_==_, one-if, all, any, count, chain, times-in, from-on}
+use Rattle.rules.specs.Lists.{_==_, one-if, all, any, count, times-in, from-on}
 use Rattle.rules.specs.Numbers.{devices}
 use Rattle.rules.specs.Words.{by-runner}
 use Rattle.laws.proofs.Words.{State, Running, Ready, Receiving, Clock, Device, Trapped, Thread, Held, Runner, NoRunner, Runs}
@@ -16,56 +15,13 @@ use Rattle.rules.specs.Tables.{Tables, named, live, runs-as}
 use Rattle.rules.specs.States.{is-running, is-ready, on-clock, at-device, waits-for}
 use Rattle.rules.specs.Interrupt.{held-for}
 use Rattle.rules.specs.TableRules.{state-in-range, places-agree, devices-right}
-use Rattle.laws.proofs.Tests.{same?, and-left, and-right, _&_}
-use Rattle.laws.proofs.Counting.{count-less, any-count, count-any, none-count, any-member, member-any, none-any, all-of, all-at}
-use Rattle.laws.proofs.Ordered.{up-tail, up-below}
+use Rattle.laws.proofs.Tests.{clash, _&_, three, four}
+use Rattle.laws.proofs.Counting.{none-count, none-any, all-of, all-at}
+use Rattle.laws.proofs.Members.{member-times, from-on-mem}
 use Rattle.laws.proofs.Types.{here, Agree}
-use Rattle.laws.proofs.Descent.{any-only}
-
--- ---- general
-
-pub three : (a b c : Bool) → (a && b && c) ≡ true → (a ≡ true) × (b ≡ true) × (c ≡ true)
-three a b c h = let g = and-left (a && b) c h in (and-left a b g, and-right a b g, and-right (a && b) c h)
-
-pub four : (a b c d : Bool) → (a && b && c && d) ≡ true → (a ≡ true) × (b ≡ true) × (c ≡ true) × (d ≡ true)
-four a b c d h = let g = three a b c (and-left (a && b && c) d h) in (g .0, g .1, g .2, and-right (a && b && c) d h)
-
-pub six : (a b c d e f : Bool) → (a && b && c && d && e && f) ≡ true → (a ≡ true) × (b ≡ true) × (c ≡ true) × (d ≡ true) × (e ≡ true) × (f ≡ true)
-six a b c d e f h = let g = three (a && b && c && d) e f h in let k = four a b c d (g .0) in (k .0, k .1, k .2, k .3, g .1, g .2)
-
-module _ {A : Type 0} where
-  -- of the one that passes p, as many as f says of it
-  pub count-only : (p f : A → Bool) (xs : List A) → count p xs ≤ 1 → (x : A) → List·Memᴰ x xs → p x ≡ true → count (λ y. p y && f y) xs ≡ one-if (f x)
-  count-only p f xs h x m a = go (f x) refl
-    where
-      go : (b : Bool) → f x ≡ b → count (λ y. p y && f y) xs ≡ one-if b
-      go true e = omega (arith, any-count (λ y. p y && f y) xs (any-only p f xs h x m a ∙ e), count-less (λ y. p y && f y) p xs (λ y k. and-left (p y) _ k))
-      go false e = none-count (λ y. p y && f y) xs (any-only p f xs h x m a ∙ e)
-
-  -- keys that rise are distinct
-  pub up-once : (key : A → ℕ) (n : ℕ) (xs : List A) → chain (λ x y. ltb (key x) (key y)) xs ≡ true → count (λ x. n == key x) xs ≤ 1
-  unfolding count
-  up-once key n [] c = omega arith
-  up-once key n (x ∷ xs) c =
-      ⊎-elim
-      (λ e. rw (e .1) (omega (arith, none-count (λ y. n == key y) xs (none-any (λ y. n == key y) xs (λ y m. ne-eqb n (key y) (λ k. omega (arith, up-below key x xs c y m, e .0)))))))
-      (λ e. rw (e .1) (omega (arith, up-once key n xs (up-tail key x xs c))))
-      (same? n (key x))
-
-pub from-on-mem : (a n d : ℕ) → a ≤ d → d < a + n → List·Memᴰ d (from-on a n)
-unfolding from-on
-from-on-mem a zero d l h = absurd (omega arith)
-from-on-mem a (suc n) d l h = ⊎-elim (λ e. List·Memᴰ·head (sym (e .0))) (λ e. List·Memᴰ·tail (from-on-mem (suc a) n d (omega (arith, e .0)) (omega arith))) (same? a d)
+use Rattle.laws.proofs.Threads.{live-member, here-le, here-live, here-is}
 
 -- ---- "state, runner, ready queue and clock queue agree, each name once"
-
-pub here-le : (q : State → Bool) (n : ℕ) (ts : List Thread) → here q n ts ≤ count (named n) ts
-unfolding here
-here-le q n ts = count-less (λ t. named n t && q (t .state)) (named n) ts (λ t e. and-left (named n t) _ e)
-
-pub here-is : (q : State → Bool) (ts : List Thread) → ((n : ℕ) → count (named n) ts ≤ 1) → (t : Thread) → List·Memᴰ t ts → here q (t .name) ts ≡ one-if (q (t .state))
-unfolding here
-here-is q ts once t m = count-only (named (t .name)) (λ u. q (u .state)) ts (once (t .name)) t m (eq-eqb (t .name) (t .name) refl)
 
 -- one kind of state, and how often w says that each name has it: right at each thread, and of no other name
 counted : (q : State → Bool) (w : ℕ → ℕ) (ts : List Thread) → ((n : ℕ) → count (named n) ts ≤ 1) → ((t : Thread) → List·Memᴰ t ts → one-if (q (t .state)) ≡ w (t .name)) → ((n : ℕ) → any (named n) ts ≡ false → w n ≡ 0) → (n : ℕ) → here q n ts ≡ w n
@@ -73,19 +29,18 @@ counted q w ts once h z n = go (any (named n) ts) refl
   where
     go : (b : Bool) → any (named n) ts ≡ b → here q n ts ≡ w n
     go true e =
-        let r = any-member (named n) ts e in
-        let k : n ≡ r .0 .name = eqb-true n (r .0 .name) (r .2) in
-        ap (λ (x : ℕ). here q x ts) k ∙ here-is q ts once (r .0) (r .1) ∙ h (r .0) (r .1) ∙ ap w (sym k)
+        let r = live-member ts n e in
+        ap (λ (x : ℕ). here q x ts) (r .2) ∙ here-is q ts once (r .0) (r .1) ∙ h (r .0) (r .1) ∙ ap w (sym (r .2))
     go false e = omega (arith, here-le q n ts, none-count (named n) ts e, z n e)
 
 -- a queue of live names has no other name
 queue-absent : (T : Tables) (Q : List ℕ) → all (λ n. live n T) Q ≡ true → (n : ℕ) → live n T ≡ false → times-in Q n ≡ 0
-queue-absent T Q h n f = none-count (λ m. n == m) Q (none-any (λ m. n == m) Q (λ m i. ne-eqb n m (λ e. true≢false (sym (all-at (λ x. live x T) Q h m i) ∙ ap (λ (x : ℕ). live x T) (sym e) ∙ f))))
+queue-absent T Q h n f = none-count (λ m. n == m) Q (none-any (λ m. n == m) Q (λ m i. ne-eqb n m (λ e. clash (all-at (λ x. live x T) Q h m i) (ap (λ (x : ℕ). live x T) (sym e) ∙ f))))
 
 runner-absent : (T : Tables) (r : Runner) → by-runner true (λ n s. live n T) r ≡ true → (n : ℕ) → live n T ≡ false → one-if (runs-as n r) ≡ 0
 unfolding runs-as
 runner-absent T NoRunner h n f = refl
-runner-absent T (Runs m s) h n f = rw (ne-eqb n m (λ e. true≢false (sym h ∙ ap (λ (x : ℕ). live x T) (sym e) ∙ f)))
+runner-absent T (Runs m s) h n f = rw (ne-eqb n m (λ e. clash h (ap (λ (x : ℕ). live x T) (sym e) ∙ f)))
 
 -- what the test asks of each thread
 abbrev placed : Tables → Thread → Bool
@@ -94,6 +49,7 @@ placed T t =
     && one-if (is-ready (t .state)) == times-in (T .ready) (t .name)
     && one-if (on-clock (t .state)) == times-in (T .clock) (t .name)
 
+-- Where names are distinct and the test passes, state, runner and queues agree.
 pub tested-places : (T : Tables) → ((n : ℕ) → count (named n) (T .threads) ≤ 1) → places-agree T ≡ true → Agree T
 tested-places T once pass = record {
   once = once;
@@ -111,25 +67,22 @@ tested-places T once pass = record {
         × ((one-if (on-clock (t .state)) == times-in (T .clock) (t .name)) ≡ true)
     agrees t m = three _ _ _ (all-at (placed T) (T .threads) (parts .0) t m)
 
--- a name of a thread in a kind of state is live
-here-live : (q : State → Bool) (n : ℕ) (ts : List Thread) → 1 ≤ here q n ts → any (named n) ts ≡ true
-here-live q n ts h = count-any (named n) ts (omega (arith, here-le q n ts))
-
 queue-live : (q : State → Bool) (T : Tables) (Q : List ℕ) → ((n : ℕ) → here q n (T .threads) ≡ times-in Q n) → all (λ n. live n T) Q ≡ true
-queue-live q T Q h = all-of (λ n. live n T) Q (λ n m. here-live q n (T .threads) (omega (arith, h n, any-count (λ x. n == x) Q (member-any (λ x. n == x) Q n m (eq-eqb n n refl)))))
+queue-live q T Q h = all-of (λ n. live n T) Q (λ n m. here-live q n (T .threads) (omega (arith, h n, member-times Q n m)))
 
-runner-live : (T : Tables) (r : Runner) → ((n : ℕ) → here is-running n (T .threads) ≡ one-if (runs-as n r)) → by-runner true (λ n s. live n T) r ≡ true
+runner-lives : (T : Tables) (r : Runner) → ((n : ℕ) → here is-running n (T .threads) ≡ one-if (runs-as n r)) → by-runner true (λ n s. live n T) r ≡ true
 unfolding runs-as
-runner-live T NoRunner h = refl
-runner-live T (Runs n s) h = here-live is-running n (T .threads) (omega (arith, h n, ap one-if (eq-eqb n n refl)))
+runner-lives T NoRunner h = refl
+runner-lives T (Runs n s) h = here-live is-running n (T .threads) (omega (arith, h n, ap one-if (eq-eqb n n refl)))
 
+-- Where they agree, the test passes.
 pub places-tested : (T : Tables) → Agree T → places-agree T ≡ true
 places-tested T A =
     all-of (placed T) (T .threads) (λ t m.
     eq-eqb _ _ (sym (here-is is-running (T .threads) (A .once) t m) ∙ A .run (t .name))
     & eq-eqb _ _ (sym (here-is is-ready (T .threads) (A .once) t m) ∙ A .wait (t .name))
     & eq-eqb _ _ (sym (here-is on-clock (T .threads) (A .once) t m) ∙ A .beat (t .name)))
-    & runner-live T (T .runner) (A .run)
+    & runner-lives T (T .runner) (A .run)
     & queue-live is-ready T (T .ready) (A .wait)
     & queue-live on-clock T (T .clock) (A .beat)
 
@@ -144,6 +97,7 @@ at-other d Clock l h = refl
 at-other d (Device e) l h = ne-eqb d e (λ k. omega (arith, ltb-true e devices h))
 at-other d (Trapped k) l h = refl
 
+-- Where the test passes, and states and held words are in range, no device has more than one of waiter and held word.
 pub tested-devices : (T : Tables) → ((t : Thread) → List·Memᴰ t (T .threads) → state-in-range (t .state) ≡ true) → ((h : Held) → List·Memᴰ h (T .held) → h .device < devices) → devices-right T ≡ true → (d : ℕ) → count (waits-for d) (T .threads) + count (held-for d) (T .held) ≤ 1
 tested-devices T s h pass d = go (ltb d devices) refl
   where
@@ -157,5 +111,6 @@ tested-devices T s h pass d = go (ltb d devices) refl
           none-count (held-for d) (T .held) (none-any (held-for d) (T .held) (λ x m. ne-eqb (x .device) d (λ k. omega (arith, h x m)))),
         )
 
+-- Where no device has more, the test passes.
 pub devices-tested : (T : Tables) → ((d : ℕ) → count (waits-for d) (T .threads) + count (held-for d) (T .held) ≤ 1) → devices-right T ≡ true
 devices-tested T h = all-of _ (from-on 0 devices) (λ d m. le-leb _ 1 (h d))

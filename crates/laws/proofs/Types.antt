@@ -10,8 +10,8 @@ use lib.ListN.{length}
 use Rattle.rules.specs.Lists.{one-if, any, count, chain, times-in}
 use Rattle.rules.specs.Numbers.{Limits, names, full-slice, beat-ticks, devices, wrap}
 use Rattle.rules.specs.Words.{by-wanted, by-manager}
-use Rattle.laws.proofs.Words.{Wanted, TrapKind, State, Running, Ready, Receiving, Clock, Device, Trapped, Nothing, Manager, Unset, Set, Gone, Managers, NoParent, ParentIs, Thread, Message, Held, Runner, NoRunner, Runs}
-use Rattle.rules.specs.Tables.{Tables, named, runs-as, manager}
+use Rattle.laws.proofs.Words.{TrapKind, State, Running, Ready, Receiving, Clock, Device, Trapped, Nothing, Manager, Unset, Set, Gone, Managers, NoParent, ParentIs, Thread, Message, Held, Runner, NoRunner, Runs}
+use Rattle.rules.specs.Tables.{Tables, named, manager, runs-as}
 use Rattle.rules.specs.States.{is-running, is-ready, on-clock, waits-for, awaits}
 use Rattle.rules.specs.Waking.{is-ordinary, notice-of}
 use Rattle.rules.specs.Receive.{wanted-by}

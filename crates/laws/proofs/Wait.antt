@@ -1,19 +1,18 @@
 -- The wait of a ready thread: it has been given the processor, or has ended, by the tick number 5 × (threads − 1) accepted after it became ready.
 -- Assumes nothing.
 use Prim.Native.Nat.{ℕ, zero, suc, _+_, _-_, _*_, _≤_, _<_}
-use mathlib.Core.Path.{_≡_, refl, sym, ap, _∙_}
-use mathlib.Core.Logic.{⊎-elim}
-use mathlib.Core.Bool.{Bool, true, false, _&&_, _||_, not, true≢false, false≢true}
+use mathlib.Core.Path.{_≡_, refl, ap}
+use mathlib.Core.Bool.{Bool, true, false, _&&_, _||_, not, false≢true}
 use mathlib.Core.List.{List, [], _∷_, map}
 use native.Mathlib.Omega.{arith}
 use lib.Dec.{leb}
 use lib.ListN.{length, replicate, length-map}
-use borrow.Author.Tests.{eq-eqb, le-leb, ne-eqb}
-use Rattle.rules.specs.Lists.{if_then_else_, _==_, one-if, any, has, count, times-in}
+use borrow.Author.Tests.{le-leb, ne-eqb}
+use Rattle.rules.specs.Lists.{_==_, one-if, any, has, times-in}
 use Rattle.rules.specs.Numbers.{Limits, small, names, full-slice}
-use Rattle.laws.proofs.Words.{State, Running, Ready, Receiving, Clock, Device, Trapped, Nothing, Thread, Runner, NoRunner, Runs, Event, Malformed, ByRunner, Tick, Interrupt}
-use Rattle.rules.specs.Tables.{Tables, start, named, live, runs-as}
-use Rattle.rules.specs.States.{is-running, is-ready}
+use Rattle.laws.proofs.Words.{Nothing, Thread, Runner, NoRunner, Runs, Event, Malformed, ByRunner, Tick, Interrupt}
+use Rattle.rules.specs.Tables.{Tables, live, runs-as, start}
+use Rattle.rules.specs.States.{is-running}
 use Rattle.rules.specs.Events.{decode}
 use Rattle.rules.specs.Refusals.{refusal}
 use Rattle.rules.specs.Dispatch.{dispatch}
@@ -21,47 +20,17 @@ use Rattle.rules.specs.Step.{act, settle, step}
 use Rattle.rules.specs.Runs.{Input, run}
 use Rattle.rules.specs.TableRules.{table-rules}
 use Rattle.rules.specs.Opened.{opened}
-use Rattle.rules.specs.Benches.{ask, sons, ticks}
-use Rattle.laws.proofs.Tests.{same?, and-right, _&_, or-left, or-right}
-use Rattle.laws.proofs.Counting.{count-cons, count-map, count-add-le, count-any}
+use Rattle.rules.specs.Benches.{ask, ticks, sons}
+use Rattle.laws.proofs.Tests.{and-right, _&_, or-left, or-right, one-at-most}
+use Rattle.laws.proofs.Counting.{count-cons, count-map}
 use Rattle.laws.proofs.Types.{here, Ruled}
-use Rattle.laws.proofs.Calm.{ahead, ahead-less, slice-left, rank, Nearer, now, over, soon, act-nearer, tick-nearer}
-use Rattle.laws.proofs.Kept.{run-ruled, step-ruled, start-ruled}
+use Rattle.laws.proofs.Queues.{no-longer, ahead, ahead-less}
+use Rattle.laws.proofs.Threads.{apart}
+use Rattle.laws.proofs.Calm.{is-tick, slice-left, rank, Nearer, now, over, soon, act-nearer, tick-nearer}
 use Rattle.laws.proofs.Sound.{tested-ruled}
-
--- ---- general
-
--- a list without the first x
-without : ℕ → List ℕ → List ℕ
-without x [] = []
-without x (y ∷ r) = if x == y then r else y ∷ without x r
-
-without-times : (x : ℕ) (r : List ℕ) → has x r ≡ true → (n : ℕ) → times-in r n ≡ one-if (n == x) + times-in (without x r) n
-unfolding any count without
-without-times x [] h n = absurd (false≢true h)
-without-times x (y ∷ r) h n =
-    ⊎-elim (λ e. rw (e .1) (ap (λ (m : ℕ). one-if (n == m) + times-in r n) (sym (e .0)))) (λ e. rw (e .1) (omega (arith, without-times x r (rw (e .1) at h) n))) (same? x y)
-
-without-length : (x : ℕ) (r : List ℕ) → has x r ≡ true → length r ≡ 1 + length (without x r)
-unfolding any without
-without-length x [] h = absurd (false≢true h)
-without-length x (y ∷ r) h = ⊎-elim (λ e. rw (e .1) (omega arith)) (λ e. rw (e .1) (omega (arith, without-length x r (rw (e .1) at h)))) (same? x y)
-
--- a list in which each number stands at most as often as in another is at most as long
-pub fewer-shorter : (q r : List ℕ) → ((n : ℕ) → times-in q n ≤ times-in r n) → length q ≤ length r
-unfolding count
-fewer-shorter [] r h = omega arith
-fewer-shorter (x ∷ q) r h =
-    let i : has x r ≡ true = count-any (λ m. x == m) r (omega (arith, h x, ap one-if (eq-eqb x x refl))) in
-    omega (arith, without-length x r i, fewer-shorter q (without x r) (λ n. omega (arith, h n, without-times x r i n)))
+use Rattle.laws.proofs.Kept.{start-ruled, step-ruled, run-ruled}
 
 -- ---- what the law speaks of
-
-unfoldable pub is-tick : Event → Bool
-is-tick Malformed = false
-is-tick (ByRunner c) = false
-is-tick Tick = true
-is-tick (Interrupt d w) = false
 
 -- the step is accepted, and its event is a tick
 unfoldable pub tick-accepted : Limits → Tables → List ℕ → Bool
@@ -98,26 +67,14 @@ slice-right {L} {T} n R h = go (T .runner) refl
 
 -- the runner and the ready are threads, each one once
 ready-few : {L : Limits} {T : Tables} (m s : ℕ) → Ruled L T → T .runner ≡ Runs m s → suc (length (T .ready)) ≤ length (T .threads)
-unfolding here runs-as is-running is-ready
+unfolding runs-as
 ready-few {L} {T} m s R e =
-    omega (arith, fewer-shorter (m ∷ T .ready) (map (λ t. t .name) (T .threads)) each, length-map (T .threads) (λ t. t .name))
+    omega (arith, no-longer (m ∷ T .ready) (map (λ t. t .name) (T .threads)) each, length-map (T .threads) (λ t. t .name))
   where
-    one : (b : Bool) (s : State) → one-if (b && is-running s) + one-if (b && is-ready s) ≤ one-if b
-    one false s = omega arith
-    one true Running = omega arith
-    one true Ready = omega arith
-    one true (Receiving w) = omega arith
-    one true Clock = omega arith
-    one true (Device d) = omega arith
-    one true (Trapped k) = omega arith
-
-    kinds : (n : ℕ) → here is-running n (T .threads) + here is-ready n (T .threads) ≤ count (named n) (T .threads)
-    kinds n = count-add-le _ _ (named n) (T .threads) (λ t _. one (named n t) (t .state))
-
     each : (n : ℕ) → times-in (m ∷ T .ready) n ≤ times-in (map (λ t. t .name) (T .threads)) n
     each n =
         let r : here is-running n (T .threads) ≡ one-if (n == m) = rw e at (R .inv .agree .run n) in
-        omega (arith, count-cons (λ x. n == x) m (T .ready), R .inv .agree .wait n, kinds n, count-map (λ x. n == x) (λ (t : Thread). t .name) (T .threads))
+        omega (arith, count-cons (λ x. n == x) m (T .ready), R .inv .agree .wait n, apart n (T .threads), count-map (λ x. n == x) (λ (t : Thread). t .name) (T .threads))
 
 pub rank-most : {L : Limits} {T : Tables} (n : ℕ) → Ruled L T → has n (T .ready) ≡ true → rank n T ≤ full-slice * (L .threads - 1)
 unfolding rank
@@ -137,7 +94,7 @@ step-nearer {L} {T} n bytes R h = go (refusal L T (decode bytes)) (decode bytes)
     other : (e : Event) → is-tick e ≡ false → Nearer n (rank n T - one-if (is-tick e)) (dispatch (act T e) .tables)
     other e i =
         let z : rank n T - 0 ≡ rank n T = omega arith in
-        rw (i, z) (act-nearer n e T (λ q. unfold is-tick in true≢false (sym (ap is-tick q) ∙ i)) h)
+        rw (i, z) (act-nearer n e T i h)
 
     each : (e : Event) → Nearer n (rank n T - one-if (is-tick e)) (dispatch (act T e) .tables)
     each Malformed = other Malformed (unfold is-tick in refl)
@@ -163,10 +120,6 @@ at-once : (L : Limits) (k n : ℕ) (T : Tables) (es : Input) → served n T ≡ 
 unfolding served-by
 at-once L k n T [] s = s
 at-once L k n T (e ∷ es) s = or-left (served n T) _ s
-
-one-at-most : (b : Bool) → one-if b ≤ 1
-one-at-most true = omega arith
-one-at-most false = omega arith
 
 rank-least : {L : Limits} {T : Tables} (n : ℕ) → Ruled L T → has n (T .ready) ≡ true → 1 ≤ rank n T
 unfolding rank
