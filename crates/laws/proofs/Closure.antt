@@ -36,15 +36,15 @@ bits false true j a b c = absurd (false≢true (a refl))
 bits false false true a b c = absurd (false≢true (b refl))
 bits false false false a b c = omega arith
 
-abbrev joins : List ℕ → Thread → Bool
+abbrev pub joins : List ℕ → Thread → Bool
 joins set t = depends set t && not (has (t .name) set)
 
 module _ (ts : List Thread) where
-  abbrev outside : List ℕ → ℕ
+  abbrev pub outside : List ℕ → ℕ
   outside set = count (λ t. not (has (t .name) set)) ts
 
   -- those that join are outside no more
-  falls : (set : List ℕ) → outside (grow ts set) + count (joins set) ts ≤ outside set
+  pub falls : (set : List ℕ) → outside (grow ts set) + count (joins set) ts ≤ outside set
   unfolding grow
   falls set =
       count-add-le _ _ _ ts
@@ -53,7 +53,7 @@ module _ (ts : List Thread) where
       (λ e. not-true _ (and-right (depends set t) _ e)))
 
   -- a set that nobody joins does not grow
-  rests : (set : List ℕ) → count (joins set) ts ≡ 0 → grow ts set ≡ set
+  pub rests : (set : List ℕ) → count (joins set) ts ≡ 0 → grow ts set ≡ set
   unfolding grow
   rests set e = ap (λ (l : List Thread). set ++ map (λ t. t .name) l) (keep-none (joins set) ts e) ∙ append-nil set
 
@@ -62,7 +62,7 @@ module _ (ts : List Thread) where
   stays zero set e = refl
   stays (suc k) set e = ap (times k (grow ts)) (rests set e) ∙ stays k set e
 
-  closes : (k : ℕ) (set : List ℕ) → outside set ≤ k → count (joins (times k (grow ts) set)) ts ≡ 0
+  pub closes : (k : ℕ) (set : List ℕ) → outside set ≤ k → count (joins (times k (grow ts) set)) ts ≡ 0
   unfolding times
   closes zero set h = omega (arith, falls set)
   closes (suc k) set h = go (count (joins set) ts) refl (closes k (grow ts set))

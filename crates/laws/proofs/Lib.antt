@@ -36,3 +36,7 @@ pub mod Counts
 pub mod Blocks
 pub mod Passing
 pub mod Late
+pub mod Rounds
+pub mod Naming
+pub mod Single
+pub mod Room
