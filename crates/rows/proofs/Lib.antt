@@ -1,0 +1,4 @@
+pub mod Found
+pub mod Joining
+pub mod Loops
+pub mod Sizes
