@@ -3,13 +3,13 @@
 -- Assumes nothing.
 use Prim.Native.Nat.{ℕ, suc, _+_, _-_, _≤_, _<_}
 use mathlib.Core.Path.{_≡_, refl, sym, _∙_, ap, subst}
-use mathlib.Core.Bool.{Bool, true, false, not, _&&_, _||_}
-use mathlib.Core.List.{List, [], _∷_, _++_, map, append-assoc, append-nil}
+use mathlib.Core.Bool.{Bool, true, false, _&&_, _||_}
+use mathlib.Core.List.{List, [], _∷_, _++_, map, append-nil}
 use native.Mathlib.Numerals.{add-one}
 use native.Mathlib.Omega.{arith}
-use lib.ListN.{length, take, drop, getD, set, length-set, length-take, drop-of-length-le}
+use lib.ListN.{length, take, drop, getD, set, length-set, drop-of-length-le}
 use lib.Seq.{drop-cons, getD-take, getD-drop, take-suc-set, drop-set-lt, length-take-le, append-snoc, take-take, drop-drop, set-getD}
-use Rattle.rules.specs.Lists.{if_then_else_, keep, count, any, insert, one-if, all}
+use Rattle.rules.specs.Lists.{if_then_else_, keep, count, any, one-if, all}
 use Rattle.rows.specs.Rows.{place}
 
 module _ {A : Type 0} where

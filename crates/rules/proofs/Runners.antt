@@ -1,15 +1,14 @@
 -- The column "runner needed" of the table of tags, and the events that need one.
 -- Assumes nothing.
 use Prim.Native.Nat.{ℕ, _+_, _*_}
-use mathlib.Core.Path.{_≡_, refl, sym, _∙_}
+use mathlib.Core.Path.{_≡_, refl}
 use mathlib.Core.Bool.{Bool, true, false, _&&_, true≢false, false≢true}
 use mathlib.Core.List.{List, [], _∷_}
-use lib.ListN.{length, getD, drop, take}
+use lib.ListN.{length, getD, drop}
 use Rattle.rules.specs.Lists.{if_then_else_, _==_, all, is-byte, number}
-use Rattle.rules.specs.Words.{Event, Malformed, ByRunner, Tick, Interrupt, Picked, TagFacts}
+use Rattle.rules.specs.Words.{Event, Malformed, ByRunner, Picked, TagFacts}
 use Rattle.rules.specs.Tags.{facts-in, tag-facts, argument-rule, meets}
-use Rattle.rules.specs.Pick.{pick}
-use Rattle.rules.specs.Events.{request, trap-of, interrupt-of, meaning, field-of, decode, wanted}
+use Rattle.rules.specs.Events.{trap-of, interrupt-of, meaning, field-of, decode}
 use Rattle.rules.specs.Refusals.{is-malformed, needs-runner}
 
 -- what is to be shown of an event under a tag

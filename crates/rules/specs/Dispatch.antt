@@ -1,11 +1,10 @@
 -- Dispatch, and the status that it leaves.
 -- Assumes nothing.
 use Prim.Native.Nat.{ℕ}
-use mathlib.Core.Bool.{Bool}
 use mathlib.Core.List.{List, [], _∷_}
 use Rattle.rules.specs.Lists.{if_then_else_, any}
 use Rattle.rules.specs.Numbers.{full-slice}
-use Rattle.rules.specs.Words.{Running, Answer, Nothing, Thread, Runs, Status, Working, Idle, Halted, Panicked, by-runner}
+use Rattle.rules.specs.Words.{Running, Nothing, Thread, Runs, Status, Working, Idle, Halted, Panicked, by-runner}
 use Rattle.rules.specs.Tables.{Tables, with-runner, with-ready, in-state, of-thread, change}
 use Rattle.rules.specs.States.{wakes-from-outside}
 use Rattle.rules.specs.Waking.{Outcome, _handing_}

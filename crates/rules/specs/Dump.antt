@@ -1,13 +1,13 @@
 -- The dump: the tables as bytes.
 -- Assumes nothing.
 use Prim.Native.Nat.{ℕ}
-use mathlib.Core.List.{List, [], _∷_, _++_}
+use mathlib.Core.List.{List, _∷_, _++_}
 use lib.ListN.{length}
 use Rattle.rules.specs.Lists.{each, two-bytes, four-bytes}
 use Rattle.rules.specs.Words.{Answer, Thread, Message, Held}
 use Rattle.rules.specs.Tables.{Tables, me}
 use Rattle.rules.specs.Dispatch.{status}
-use Rattle.rules.specs.Codes.{Numbers, StateNumbers, status-code, slice-code, answer-numbers, state-numbers, manager-code, parent-code, message-code}
+use Rattle.rules.specs.Codes.{status-code, slice-code, answer-numbers, state-numbers, manager-code, parent-code, message-code}
 
 -- "A field is a tag byte, a two-byte length, then the value"
 abbrev pub field : ℕ → List ℕ → List ℕ

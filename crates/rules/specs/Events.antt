@@ -1,12 +1,12 @@
 -- Events as bytes: what one field means.
 -- Assumes nothing.
 use Prim.Native.Nat.{ℕ, _+_, _*_}
-use mathlib.Core.Bool.{Bool, true, false, _&&_}
+use mathlib.Core.Bool.{_&&_}
 use mathlib.Core.List.{List, [], _∷_}
 use lib.ListN.{length, take, drop, getD}
 use Rattle.rules.specs.Lists.{if_then_else_, _==_, all, is-byte, number}
 use Rattle.rules.specs.Numbers.{nobody}
-use Rattle.rules.specs.Words.{Wanted, Anybody, Only, TrapKind, Program, Tlb, SysBp, Target, Oneself, Named, Call, Send, Receive, CreateBrother, CreateSon, Terminate, SetManager, GetCpuTime, WaitForClock, WaitForIo, Trap, Event, Malformed, ByRunner, Tick, Interrupt, Picked}
+use Rattle.rules.specs.Words.{Wanted, Anybody, Only, Program, Tlb, SysBp, Target, Oneself, Named, Call, Send, Receive, CreateBrother, CreateSon, Terminate, SetManager, GetCpuTime, WaitForClock, WaitForIo, Trap, Event, Malformed, ByRunner, Tick, Interrupt, Picked}
 use Rattle.rules.specs.Tags.{tag-facts, argument-rule, meets}
 use Rattle.rules.specs.Pick.{pick}
 

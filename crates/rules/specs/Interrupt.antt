@@ -5,7 +5,7 @@ use mathlib.Core.Bool.{Bool, not}
 use mathlib.Core.List.{List}
 use lib.Dec.{ltb}
 use Rattle.rules.specs.Lists.{if_then_else_, _==_, any, keep, insert}
-use Rattle.rules.specs.Words.{Answer, Result, Thread, Held}
+use Rattle.rules.specs.Words.{Result, Held}
 use Rattle.rules.specs.Tables.{Tables, with-held}
 use Rattle.rules.specs.States.{waits-for}
 use Rattle.rules.specs.Waking.{wake-by-name}

@@ -1,7 +1,7 @@
 -- Reading a dump: the fields are cut, the tables built from them, the table rules tested, the dump written again and compared.
 -- Assumes nothing.
 use Prim.Native.Nat.{ℕ, zero, suc, _+_, _*_}
-use mathlib.Core.Bool.{Bool, _&&_}
+use mathlib.Core.Bool.{_&&_}
 use mathlib.Core.List.{List, [], _∷_, map}
 use lib.ListN.{length, take, drop, getD}
 use Rattle.rules.specs.Lists.{if_then_else_, _==_, keep, each, same, number}

@@ -1,7 +1,7 @@
 -- The pick: which of the pending devices is served.
 -- Assumes nothing.
 use Prim.Native.Nat.{ℕ, _-_, _/_, _%_, _^_}
-use mathlib.Core.Bool.{Bool, true, false}
+use mathlib.Core.Bool.{Bool}
 use mathlib.Core.List.{List, [], _∷_}
 use Rattle.rules.specs.Lists.{if_then_else_, _==_, any, from-on}
 use Rattle.rules.specs.Numbers.{nobody, devices, pending-bits}

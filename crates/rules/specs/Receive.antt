@@ -2,7 +2,6 @@
 -- Assumes nothing.
 use Prim.Native.Nat.{ℕ}
 use mathlib.Core.Bool.{Bool, _&&_}
-use mathlib.Core.List.{List}
 use Rattle.rules.specs.Lists.{_==_, Pulled, missing, pulled, pull}
 use Rattle.rules.specs.Words.{Wanted, Receiving, Nothing, Message}
 use Rattle.rules.specs.Tables.{Tables, with-messages}

@@ -1,13 +1,13 @@
 -- The nine requests to the service interface.
 -- Assumes nothing.
 use Prim.Native.Nat.{ℕ, zero, suc, _+_, _%_}
-use mathlib.Core.Bool.{Bool, true, false}
-use mathlib.Core.List.{List, [], _∷_, _++_}
+use mathlib.Core.Bool.{true, false}
+use mathlib.Core.List.{[], _∷_, _++_}
 use lib.Dec.{ltb}
 use lib.ListN.{length}
 use Rattle.rules.specs.Lists.{Pulled, missing, pulled, pull, insert}
 use Rattle.rules.specs.Numbers.{names}
-use Rattle.rules.specs.Words.{TrapKind, Ready, Clock, Device, Nothing, Result, Manager, Unset, Set, Gone, Parent, NoParent, ParentIs, Thread, Held, Target, Oneself, Named}
+use Rattle.rules.specs.Words.{TrapKind, Ready, Clock, Device, Nothing, Result, Manager, Unset, Set, Gone, Parent, NoParent, ParentIs, Held, Target, Oneself, Named}
 use Rattle.rules.specs.Tables.{Tables, with-last, with-threads, with-ready, with-clock, with-held, with-managers, live, of-thread, change, manager, set-entry, new-thread}
 use Rattle.rules.specs.Waking.{Outcome, _handing_, stop}
 use Rattle.rules.specs.Interrupt.{held-for}

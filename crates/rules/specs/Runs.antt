@@ -3,10 +3,10 @@
 use Prim.Native.Nat.{ℕ}
 use mathlib.Core.List.{List, [], _∷_}
 use Rattle.rules.specs.Numbers.{Limits}
-use Rattle.rules.specs.Words.{Answer, Decision}
+use Rattle.rules.specs.Words.{Decision}
 use Rattle.rules.specs.Tables.{Tables}
-use Rattle.rules.specs.Step.{Stepped, step}
-use Rattle.rules.specs.Codes.{Numbers, answer-numbers}
+use Rattle.rules.specs.Step.{step}
+use Rattle.rules.specs.Codes.{answer-numbers}
 
 -- events, each the bytes of a field
 abbrev pub Input : Type 0

@@ -1,10 +1,9 @@
 -- Send, and the decision of a trap's manager.
 -- Assumes nothing.
 use Prim.Native.Nat.{ℕ, zero, suc}
-use mathlib.Core.Bool.{Bool, true, false, _&&_, not}
-use mathlib.Core.List.{List}
+use mathlib.Core.Bool.{Bool, _&&_, not}
 use Rattle.rules.specs.Lists.{if_then_else_, any, keep}
-use Rattle.rules.specs.Words.{Answer, Nothing, Thread, Ordinary, Message}
+use Rattle.rules.specs.Words.{Nothing, Thread, Ordinary, Message}
 use Rattle.rules.specs.Tables.{Tables, with-messages, named}
 use Rattle.rules.specs.States.{awaits}
 use Rattle.rules.specs.Waking.{wake-by-name, notice-of, deliver}

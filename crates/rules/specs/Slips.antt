@@ -1,11 +1,9 @@
 -- "Slips to keep out", told apart: each by a run whose last lines the wrong rule would change. One list under one claim.
 -- Assumes nothing.
-use Prim.Native.Nat.{ℕ}
 use mathlib.Core.Path.{_≡_, refl}
 use mathlib.Core.List.{List, [], _∷_, _++_, map}
 use lib.ListN.{replicate}
 use Rattle.rules.specs.Lists.{each, from-on}
-use Rattle.rules.specs.Runs.{Input}
 use Rattle.rules.specs.Benches.{Bench, given, to, from, ask, trapping, ticks, on, idle, panicked, refused, made, sons, P9}
 use Rattle.rules.specs.Opened.{opened}
 

@@ -3,7 +3,7 @@
 use Prim.Native.Nat.{ℕ}
 use mathlib.Core.Bool.{Bool, true, false, _||_}
 use Rattle.rules.specs.Lists.{_==_}
-use Rattle.rules.specs.Words.{Wanted, State, Running, Ready, Receiving, Clock, Device, Trapped, Manager, Managers, Thread, by-state, by-wanted, by-manager}
+use Rattle.rules.specs.Words.{Wanted, State, Running, Ready, Receiving, Clock, Device, Trapped, Managers, Thread, by-state, by-wanted, by-manager}
 use Rattle.rules.specs.Tables.{manager}
 
 unfoldable pub is-running : State → Bool

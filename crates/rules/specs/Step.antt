@@ -1,9 +1,9 @@
 -- The step: what each event does, and the decision.
 -- Assumes nothing.
 use Prim.Native.Nat.{ℕ, zero, suc}
-use mathlib.Core.List.{List, []}
+use mathlib.Core.List.{List}
 use Rattle.rules.specs.Numbers.{Limits}
-use Rattle.rules.specs.Words.{Answer, Nothing, Call, Send, Receive, CreateBrother, CreateSon, Terminate, SetManager, GetCpuTime, WaitForClock, WaitForIo, Trap, Event, Malformed, ByRunner, Tick, Interrupt, Decision}
+use Rattle.rules.specs.Words.{Nothing, Call, Send, Receive, CreateBrother, CreateSon, Terminate, SetManager, GetCpuTime, WaitForClock, WaitForIo, Trap, Event, Malformed, ByRunner, Tick, Interrupt, Decision}
 use Rattle.rules.specs.Tables.{Tables, me}
 use Rattle.rules.specs.Waking.{Outcome, _handing_}
 use Rattle.rules.specs.Events.{decode}

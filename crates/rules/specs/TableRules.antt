@@ -8,7 +8,7 @@ use lib.Dec.{leb, ltb}
 use lib.ListN.{length}
 use Rattle.rules.specs.Lists.{if_then_else_, _==_, one-if, all, any, count, chain, times-in, from-on}
 use Rattle.rules.specs.Numbers.{Limits, names, full-slice, beat-ticks, devices, wrap}
-use Rattle.rules.specs.Words.{State, Answer, Nothing, FromMessage, FromNotice, SenderGone, Result, Manager, Managers, Parent, Thread, Message, Held, Runner, by-state, by-wanted, by-manager, by-parent, by-runner}
+use Rattle.rules.specs.Words.{State, Answer, Nothing, FromMessage, FromNotice, SenderGone, Result, Manager, Managers, Parent, Thread, Message, Runner, by-state, by-wanted, by-manager, by-parent, by-runner}
 use Rattle.rules.specs.Tables.{Tables, named, live, runs-as, manager}
 use Rattle.rules.specs.States.{is-running, is-ready, on-clock, waits-for, awaits}
 use Rattle.rules.specs.Waking.{is-ordinary, blocks-used, notice-of}

@@ -1,6 +1,6 @@
 -- The tables, in the order in which the dump shows them, and the start.
 -- Assumes nothing.
-use Prim.Native.Nat.{ℕ, zero}
+use Prim.Native.Nat.{ℕ}
 use mathlib.Core.Bool.{Bool, true, false}
 use mathlib.Core.List.{List, [], _∷_, map}
 use Rattle.rules.specs.Lists.{if_then_else_, _==_, any}

@@ -1,11 +1,10 @@
 -- Tick.
 -- Assumes nothing.
 use Prim.Native.Nat.{ℕ, _+_, _-_, _%_}
-use mathlib.Core.Bool.{Bool}
-use mathlib.Core.List.{List, []}
+use mathlib.Core.List.{[]}
 use Rattle.rules.specs.Lists.{if_then_else_, _==_}
 use Rattle.rules.specs.Numbers.{beat-ticks, wrap}
-use Rattle.rules.specs.Words.{Answer, Nothing, Result, Thread, NoRunner, Runs, by-runner}
+use Rattle.rules.specs.Words.{Nothing, Result, NoRunner, Runs, by-runner}
 use Rattle.rules.specs.Tables.{Tables, with-runner, with-time, with-clock, with-ticks, change}
 use Rattle.rules.specs.States.{on-clock}
 use Rattle.rules.specs.Waking.{wake-those, wake}

@@ -1,7 +1,6 @@
 -- Trap.
 -- Assumes nothing.
 use Prim.Native.Nat.{ℕ}
-use mathlib.Core.List.{List}
 use Rattle.rules.specs.Words.{TrapKind, Trapped, Unset, Notice, Message, by-manager}
 use Rattle.rules.specs.Tables.{Tables, of-thread, manager}
 use Rattle.rules.specs.Waking.{deliver, stop}
