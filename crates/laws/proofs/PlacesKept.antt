@@ -82,7 +82,7 @@ change-inv {L} {T} n f names states I =
 
 -- ---- ending
 
-remove-inv : {L : Limits} {T : Tables} (set : List ℕ) → Inv L T → Inv L (remove set T)
+pub remove-inv : {L : Limits} {T : Tables} (set : List ℕ) → Inv L T → Inv L (remove set T)
 unfolding remove
 remove-inv {L} {T} set I = record {
   agree = left-keeps set (I .agree);
@@ -102,7 +102,7 @@ end-inv {L} {T} n I = release-inv (ended-set (T .threads) n) (remove-inv (ended-
 
 -- ---- tick
 
-charge-inv : {L : Limits} {T : Tables} → Inv L T → Inv L (charge T)
+pub charge-inv : {L : Limits} {T : Tables} → Inv L T → Inv L (charge T)
 unfolding charge
 charge-inv {L} {T} I =
     by-runs (Inv L) (T .runner) (λ _. I) λ n s e.
@@ -110,7 +110,7 @@ charge-inv {L} {T} I =
     let J = change-inv n (λ t. with-ticks (one-more (t .ticks)) t) (λ t. refl) (λ t. refl) I in
     same-threads refl refl (slice-keeps n s (s - 1) (rw e at (J .agree))) J
 
-beat-inv : {L : Limits} {T : Tables} → Inv L T → Inv L (beat T)
+pub beat-inv : {L : Limits} {T : Tables} → Inv L T → Inv L (beat T)
 unfolding beat wake-those
 beat-inv {L} {T} I =
     by-if (Inv L) (T .since + 1 == beat-ticks)
