@@ -8,7 +8,7 @@ use mathlib.Core.List.{List, [], _∷_, List·Memᴰ·head, List·Memᴰ·tail}
 use native.Mathlib.Omega.{arith}
 use lib.Dec.{leb}
 use borrow.Author.Tests.{ne-eqb, leb-true, leb-false, le-leb}
-use Rattle.rules.specs.Lists.{if_then_else_, _==_, one-if, any, has, count, Pulled, missing, pulled, behind, pull}
+use Rattle.rules.specs.Lists.{if_then_else_, _==_, one-if, any, has, count, Pulled, missing, pulled, pull}
 use Rattle.rules.specs.Numbers.{Limits, beat-ticks}
 use Rattle.rules.specs.Words.{by-manager}
 use Rattle.rules.specs.Tables.{Tables, of-thread, change, manager, me, start}
@@ -26,31 +26,12 @@ use Rattle.rules.specs.Refusals.{_refuses_, needs-block, no-block-free, refusal
 use Rattle.rules.specs.Step.{serve, act, step}
 use Rattle.rules.specs.Runs.{Input, run}
 use Rattle.laws.proofs.Words.{Wanted, TrapKind, Trapped, Manager, Unset, Set, Gone, MessageKind, Ordinary, Notice, Message, Held, Oneself, Named, Send, Receive, CreateBrother, CreateSon, Terminate, SetManager, GetCpuTime, WaitForClock, WaitForIo, Trap, Event, Malformed, ByRunner, Tick, Interrupt}
-use Rattle.laws.proofs.Tests.{by-if, and-true, and-false}
+use Rattle.laws.proofs.Tests.{by-if, by-runs, and-true, and-false}
 use Rattle.laws.proofs.Counting.{count-add, count-same, count-zero, count-keep, count-insert, not-any}
+use Rattle.laws.proofs.Ordered.{pull-took}
+use Rattle.laws.proofs.Steps.{by-step, by-dispatch}
 use Rattle.laws.proofs.Refusals.{call-is, is-send, block-needed, lacks-block, the-ten, accepted-exactly}
-use Rattle.laws.proofs.Counts.{for-runner, if-accepted, over-run, by-step, by-dispatch}
-
--- ---- general
-
--- what is pulled out is missing from the list
-unfoldable pub pulled-out : {A : Type 0} → (A → Bool) → Pulled A → ℕ
-pulled-out p missing = 0
-pulled-out p (pulled x xs) = one-if (p x)
-
-unfoldable pub left-in : {A : Type 0} → List A → Pulled A → List A
-left-in xs missing = xs
-left-in xs (pulled y ys) = ys
-
-pub count-pull : {A : Type 0} (p q : A → Bool) (xs : List A) → count p (left-in xs (pull q xs)) + pulled-out p (pull q xs) ≡ count p xs
-unfolding count pull behind pulled-out left-in
-count-pull p q [] = refl
-count-pull p q (x ∷ xs) = go (q x) (pull q xs) (count-pull p q xs)
-  where
-    go : (b : Bool) (r : Pulled _) → count p (left-in xs r) + pulled-out p r ≡ count p xs → count p (left-in (x ∷ xs) (if b then pulled x xs else behind x r)) + pulled-out p (if b then pulled x xs else behind x r) ≡ one-if (p x) + count p xs
-    go true r later = omega arith
-    go false missing later = omega arith
-    go false (pulled y ys) later = omega arith
+use Rattle.laws.proofs.Counts.{if-accepted, over-run}
 
 -- ---- what an accepted event does to ordinary messages
 
@@ -159,11 +140,11 @@ send-balance m to w T = go (decides m to T) refl w
 
 receive-balance : (m : ℕ) (w : Wanted) (T : Tables) → Balance T 0 (one-if (is-message (pull (wanted-by m w) (T .messages)))) [] (receive m w T .tables)
 unfolding receive
-receive-balance m w T = go (pull (wanted-by m w) (T .messages)) (count-pull (λ x. is-ordinary (x .kind)) (wanted-by m w) (T .messages))
+receive-balance m w T = go (pull (wanted-by m w) (T .messages)) refl
   where
-    go : (x : Pulled Message) → count (λ y. is-ordinary (y .kind)) (left-in (T .messages) x) + pulled-out (λ y. is-ordinary (y .kind)) x ≡ blocks-used T → Balance T 0 (one-if (is-message x)) [] (received m w T x .tables)
+    go : (x : Pulled Message) → pull (wanted-by m w) (T .messages) ≡ x → Balance T 0 (one-if (is-message x)) [] (received m w T x .tables)
     go missing e = unfold received is-message stop change in even T refl
-    go (pulled y ys) e = unfold received is-message left-in pulled-out in omega (arith, no-set T, e)
+    go (pulled y ys) e = unfold received is-message in omega (arith, no-set T, pull-took (wanted-by m w) (T .messages) e .each (λ x. is-ordinary (x .kind)))
 
 trap-balance : (m : ℕ) (k : TrapKind) (c : ℕ) (T : Tables) → Balance T 0 0 (by-manager (ended-set (T .threads) m) (λ n. []) (entry-of k m T)) (trap m k c T)
 unfolding trap is-ordinary
@@ -182,13 +163,13 @@ unfolding tick
 tick-messages T = turned (beat (charge T)) ∙ beaten (charge T) ∙ charged T
   where
     charged : (U : Tables) → charge U .messages ≡ U .messages
-    charged U = unfold charge change in for-runner (λ (W : Tables). W .messages ≡ U .messages) (U .runner) refl (λ n s. refl)
+    charged U = unfold charge change in by-runs (λ (W : Tables). W .messages ≡ U .messages) (U .runner) (λ _. refl) (λ n s _. refl)
 
     beaten : (U : Tables) → beat U .messages ≡ U .messages
     beaten U = unfold beat wake-those in by-if (λ (W : Tables). W .messages ≡ U .messages) (U .since + 1 == beat-ticks) (λ _. refl) (λ _. refl)
 
     turned : (U : Tables) → rotate U .messages ≡ U .messages
-    turned U = unfold rotate wake-those in for-runner (λ (W : Tables). W .messages ≡ U .messages) (U .runner) refl (λ n s. by-if (λ (W : Tables). W .messages ≡ U .messages) (s == 0) (λ _. refl) (λ _. refl))
+    turned U = unfold rotate wake-those in by-runs (λ (W : Tables). W .messages ≡ U .messages) (U .runner) (λ _. refl) (λ n s _. by-if (λ (W : Tables). W .messages ≡ U .messages) (s == 0) (λ _. refl) (λ _. refl))
 
 act-balance : (T : Tables) (e : Event) → Balance T (queued-by T e) (received-by T e) (ends T e) (act T e .tables)
 unfolding act serve queued-by received-by ends block-needed call-is is-send is-receive
@@ -237,7 +218,7 @@ stepped : (L : Limits) (T : Tables) (bytes : List ℕ) → Accounted L T (step L
 stepped L T bytes =
     by-step (λ (U : Tables) (b : Bool). Accounted L T U (if b then queued-by T e else 0) (if b then received-by T e else 0) (if b then discarded-by T e else 0)) L T bytes
     (record { balance = omega arith; suffice = λ h. h })
-    (λ a. by-dispatch (λ (U : Tables). Accounted L T U (queued-by T e) (received-by T e) (discarded-by T e)) (act T e) (acted a) (λ n ns. unfold change in record { balance = acted a .balance; suffice = acted a .suffice }))
+    (λ a. by-dispatch (λ (U : Tables). Accounted L T U (queued-by T e) (received-by T e) (discarded-by T e)) (act T e) (λ _ _ _. acted a) (λ _ _. acted a) (λ n q _ _. unfold change in record { balance = acted a .balance; suffice = acted a .suffice }))
   where
     e : Event
     e = decode bytes

@@ -7,13 +7,13 @@ use mathlib.Core.Bool.{Bool, true, false, _&&_, _||_, not, false≢true}
 use mathlib.Core.List.{List, [], _∷_, map, List·Memᴰ, List·Memᴰ·head, List·Memᴰ·tail}
 use native.Mathlib.Omega.{arith}
 use lib.Dec.{ltb}
-use borrow.Author.Tests.{eqb-true, eqb-false, eq-eqb, ne-eqb}
+use borrow.Author.Tests.{eqb-true, eqb-false, eq-eqb}
 use Rattle.rules.specs.Lists.{if_then_else_, _==_, one-if, any, has, keep, count, insert, Pulled, missing, pulled, pull}
-use Rattle.rules.specs.Numbers.{Limits, names, full-slice, beat-ticks, wrap}
-use Rattle.rules.specs.Words.{by-runner, by-manager}
-use Rattle.rules.specs.Tables.{Tables, with-runner, with-ready, in-state, with-managers, with-ticks, named, live, of-thread, change, manager, set-entry, new-thread, runs-as, me, start}
+use Rattle.rules.specs.Numbers.{Limits, names, beat-ticks, wrap}
+use Rattle.rules.specs.Words.{by-manager}
+use Rattle.rules.specs.Tables.{Tables, in-state, with-managers, with-ticks, named, live, of-thread, change, manager, set-entry, new-thread, runs-as, me, start}
 use Rattle.rules.specs.States.{waits-for, on-clock}
-use Rattle.rules.specs.Waking.{Outcome, wake-those, accepts, queue, deliver, stop}
+use Rattle.rules.specs.Waking.{wake-those, accepts, queue, deliver, stop}
 use Rattle.rules.specs.Ending.{ended-set, without-managers, remove, misses, told-gone, release, end}
 use Rattle.rules.specs.Send.{message, waits-for-decision, decides, decide, send}
 use Rattle.rules.specs.Receive.{wanted-by, received, receive}
@@ -21,24 +21,19 @@ use Rattle.rules.specs.Trap.{notice, trap}
 use Rattle.rules.specs.Tick.{one-more, charge, beat, rotate, tick}
 use Rattle.rules.specs.Interrupt.{held-for, interrupt}
 use Rattle.rules.specs.Requests.{next-name, create, terminate, set-over, wait-for-clock, take-held}
-use Rattle.rules.specs.Dispatch.{run-next, dispatch}
+use Rattle.rules.specs.Dispatch.{dispatch}
 use Rattle.rules.specs.Events.{decode}
 use Rattle.rules.specs.Refusals.{refusal}
-use Rattle.rules.specs.Step.{serve, act, settle, step}
+use Rattle.rules.specs.Step.{serve, act, step}
 use Rattle.rules.specs.Runs.{Input, run}
 use Rattle.rules.specs.TableRules.{table-rules}
 use Rattle.laws.proofs.Words.{TrapKind, State, Running, Ready, Receiving, Clock, Device, Trapped, Answer, Nothing, Result, Manager, Unset, Set, Gone, Parent, Thread, Message, Held, Runner, NoRunner, Runs, Oneself, Named, Call, Send, Receive, CreateBrother, CreateSon, Terminate, SetManager, GetCpuTime, WaitForClock, WaitForIo, Trap, Event, Malformed, ByRunner, Tick, Interrupt}
-use Rattle.laws.proofs.Tests.{by-if, same?, and-left, and-right, _&_}
-use Rattle.laws.proofs.Counting.{count-map, count-same, count-insert, none-left, count-any, any-count}
+use Rattle.laws.proofs.Tests.{by-if, by-runs, same?, and-left, and-right, _&_}
+use Rattle.laws.proofs.Counting.{count-insert, none-left, count-any, any-count}
+use Rattle.laws.proofs.Threads.{names-kept, turned, turned-name, put-name}
+use Rattle.laws.proofs.Steps.{by-step, by-dispatch}
 use Rattle.laws.proofs.Sound.{tested-ruled}
 use Rattle.laws.proofs.Kept.{rules-are-kept}
-
--- ---- general
-
--- to prove something of what is said by the runner: prove it where nobody runs, and of each runner
-pub for-runner : {A : Type 0} (P : A → Type 0) (r : Runner) {x : A} {f : ℕ → ℕ → A} → P x → ((n s : ℕ) → P (f n s)) → P (by-runner x f r)
-for-runner P NoRunner h g = h
-for-runner P (Runs n s) h g = g n s
 
 -- ---- sums along a run
 
@@ -49,27 +44,6 @@ if-accepted f L T bytes = if refusal L T (decode bytes) == 0 then f T (decode by
 unfoldable pub over-run : (Tables → Event → ℕ) → Limits → Tables → Input → ℕ
 over-run f L T [] = 0
 over-run f L T (e ∷ es) = if-accepted f L T e + over-run f L (step L T e .tables) es
-
--- to prove something of the tables after a step: of a refused event, and of an accepted one
-pub by-step : (P : Tables → Bool → Type 0) (L : Limits) (T : Tables) (bytes : List ℕ) →
-    P T false → (refusal L T (decode bytes) ≡ 0 → P (dispatch (act T (decode bytes)) .tables) true) → P (step L T bytes .tables) (refusal L T (decode bytes) == 0)
-unfolding step
-by-step P L T bytes f g = go (refusal L T (decode bytes)) refl
-  where
-    go : (r : ℕ) → refusal L T (decode bytes) ≡ r → P (settle r T (decode bytes) .tables) (r == 0)
-    go zero a = unfold settle in g a
-    go (suc r) a = unfold settle in let z : (suc r == 0) ≡ false = ne-eqb (suc r) 0 (λ e. omega arith) in rw z f
-
--- to prove something of the tables after dispatch: as they are, and with a new runner
-pub by-dispatch : (P : Tables → Type 0) (o : Outcome) → P (o .tables) →
-    ((n : ℕ) (ns : List ℕ) → P (with-runner (Runs n full-slice) (with-ready ns (change n (in-state Running Nothing) (o .tables))))) → P (dispatch o .tables)
-unfolding dispatch
-by-dispatch P o h g = go (o .tables .runner) (o .tables .ready)
-  where
-    go : (r : Runner) (q : List ℕ) → P (by-runner (run-next q o) (λ n s. o) r .tables)
-    go (Runs n s) q = h
-    go NoRunner [] = unfold run-next in h
-    go NoRunner (n ∷ ns) = unfold run-next in g n ns
 
 -- ---- the counts
 
@@ -121,13 +95,7 @@ module _ (n : ℕ) where
 
   -- those that pass are changed
   ticks-some : (p : Thread → Bool) (f : Thread → Thread) → ((t : Thread) → f t .name ≡ t .name) → ((t : Thread) → f t .ticks ≡ t .ticks) → (ts : List Thread) → ticks-at n (map (λ t. if p t then f t else t) ts) ≡ ticks-at n ts
-  ticks-some p f a b ts = ticks-map (λ t. if p t then f t else t) (λ t. by-if (λ (u : Thread). u .name ≡ t .name) (p t) (λ _. a t) (λ _. refl)) (λ t _. by-if (λ (u : Thread). u .ticks ≡ t .ticks) (p t) (λ _. b t) (λ _. refl)) ts
-
-  names-map : (f : Thread → Thread) → ((t : Thread) → f t .name ≡ t .name) → (ts : List Thread) → count (named n) (map f ts) ≡ count (named n) ts
-  names-map f a ts = count-map (named n) f ts ∙ count-same _ (named n) ts (λ t. ap (λ (m : ℕ). n == m) (a t))
-
-  names-some : (p : Thread → Bool) (f : Thread → Thread) → ((t : Thread) → f t .name ≡ t .name) → (ts : List Thread) → count (named n) (map (λ t. if p t then f t else t) ts) ≡ count (named n) ts
-  names-some p f a ts = names-map (λ t. if p t then f t else t) (λ t. by-if (λ (u : Thread). u .name ≡ t .name) (p t) (λ _. a t) (λ _. refl)) ts
+  ticks-some p f a b ts = ticks-map (turned p f) (turned-name p f a) (λ t _. by-if (λ (u : Thread). u .ticks ≡ t .ticks) (p t) (λ _. b t) (λ _. refl)) ts
 
   ticks-keep : (set : List ℕ) → has n set ≡ false → (ts : List Thread) → ticks-at n (keep (λ t. not (has (t .name) set)) ts) ≡ ticks-at n ts
   unfolding of-thread keep
@@ -161,7 +129,7 @@ module _ (n : ℕ) where
   ticks-charge m ts o l = ⊎-elim (λ d. rw (d .1, sym (d .0)) (ticks-own ts (count-any (named n) ts (omega arith)))) (λ d. rw (d .1) (others (d .0) ∙ omega arith)) (same? n m)
     where
       others : n ≢ m → ticks-at n (map (λ t. if named m t then with-ticks (one-more (t .ticks)) t else t) ts) ≡ ticks-at n ts
-      others d = ticks-map _ (λ t. by-if (λ (u : Thread). u .name ≡ t .name) (named m t) (λ _. refl) (λ _. refl)) (λ t e. by-if (λ (u : Thread). u .ticks ≡ t .ticks) (named m t) (λ k. absurd (d (eqb-true n (t .name) e ∙ sym (eqb-true m (t .name) k)))) (λ _. refl)) ts
+      others d = ticks-map _ (turned-name (named m) _ (λ t. refl)) (λ t e. by-if (λ (u : Thread). u .ticks ≡ t .ticks) (named m t) (λ k. absurd (d (eqb-true n (t .name) e ∙ sym (eqb-true m (t .name) k)))) (λ _. refl)) ts
 
 -- ---- events other than the tick leave time and tick counts as they are
 
@@ -194,7 +162,7 @@ module _ (n : ℕ) where
 
   woken-names : (p : Thread → Bool) (a : Thread → Answer) (ns : List ℕ) (T : Tables) → count (named n) (wake-those p a ns T .threads) ≡ count (named n) (T .threads)
   unfolding wake-those
-  woken-names p a ns T = names-some n p _ (λ t. refl) (T .threads)
+  woken-names p a ns T = names-kept _ (put-name p Ready a) n (T .threads)
 
   stopped : (m : ℕ) (s : State) (T : Tables) → Still n T (stop m s T)
   unfolding stop change
@@ -215,7 +183,7 @@ module _ (n : ℕ) where
       R = remove set T
 
       left : (b : Bool) → has n set ≡ b → One n R → ticks-at n (R .threads) ≡ ticks-at n (T .threads)
-      left true e o = absurd (omega (arith, none-left (λ (t : Thread). t .name) (λ x. has x set) (named n) n (λ t k. eqb-true n (t .name) k) e (T .threads), names-map n (without-managers set) (λ t. refl) (keep (λ t. not (has (t .name) set)) (T .threads))))
+      left true e o = absurd (omega (arith, none-left (λ (t : Thread). t .name) (λ x. has x set) (named n) n (λ t k. eqb-true n (t .name) k) e (T .threads), names-kept (without-managers set) (λ t. refl) n (keep (λ t. not (has (t .name) set)) (T .threads))))
       left false e o = ticks-map n (without-managers set) (λ t. refl) (λ t _. refl) _ ∙ ticks-keep n set e (T .threads)
 
   sent : (m to w : ℕ) (T : Tables) → Same n T (send m to w T)
@@ -295,9 +263,9 @@ module _ (n : ℕ) where
       go true e = rw e (eqb-true (T .since + 1) beat-ticks e, λ _. refl, ticks-some n (λ t. on-clock (t .state)) (in-state Ready (Result (one-more (T .beats)))) (λ t. refl) (λ t. refl) (T .threads), λ _. omega arith)
       go false e = rw e (omega arith, λ l. omega arith, refl, λ l. omega (arith, eqb-false (T .since + 1) beat-ticks e))
 
-  turned : (T : Tables) → Still n T (rotate T)
+  rotated : (T : Tables) → Still n T (rotate T)
   unfolding rotate
-  turned T = for-runner (Still n T) (T .runner) (record { since = refl; beats = refl; ticks = refl }) (λ m s. by-if (Still n T) (s == 0) (λ _. let W = woken (named m) (λ t. Nothing) (m ∷ []) T in record { since = W .since; beats = W .beats; ticks = W .ticks }) (λ _. record { since = refl; beats = refl; ticks = refl }))
+  rotated T = by-runs (Still n T) (T .runner) (λ _. record { since = refl; beats = refl; ticks = refl }) (λ m s _. by-if (Still n T) (s == 0) (λ _. let W = woken (named m) (λ t. Nothing) (m ∷ []) T in record { since = W .since; beats = W .beats; ticks = W .ticks }) (λ _. record { since = refl; beats = refl; ticks = refl }))
 
 -- what an accepted event adds to the ticks since the beat, to the beats and to the count of thread n
 record Counted (n : ℕ) (T U : Tables) (ticks beats own : ℕ) : Type 0 where
@@ -315,7 +283,7 @@ module _ (n : ℕ) where
   ticked T =
       let C = charged n T in
       let B = beaten n (charge T) in
-      let R = turned n (beat (charge T)) in
+      let R = rotated n (beat (charge T)) in
       let same-test : one-if (charge T .since + 1 == beat-ticks) ≡ one-if (T .since + 1 == beat-ticks) = ap (λ (s : ℕ). one-if (s + 1 == beat-ticks)) (C .0) in
       record { time = omega (arith, B .0, C .0, R .since, same-test); low = λ l. omega (arith, R .since, B .3 (omega (arith, C .0))); beat = λ l. R .beats ∙ B .1 (omega (arith, C .1)) ∙ rw (C .1, same-test); count = λ l a b. R .ticks ∙ B .2 ∙ C .2 a l }
 
@@ -327,7 +295,7 @@ module _ (n : ℕ) where
   acted T (Interrupt d w) = nothing (interrupted n d w T)
 
   dispatched : (T : Tables) (e : Event) → Counted n T (dispatch (act T e) .tables) (ticks-by T e) (beats-by T e) (own-ticks-by n T e)
-  dispatched T e = by-dispatch (λ (U : Tables). Counted n T U (ticks-by T e) (beats-by T e) (own-ticks-by n T e)) (act T e) A (λ m ns. unfold change in record { time = A .time; low = A .low; beat = A .beat; count = λ l a b. ticks-some n (named m) (in-state Running Nothing) (λ t. refl) (λ t. refl) (act T e .tables .threads) ∙ A .count l a (sym (names-some n (named m) (in-state Running Nothing) (λ t. refl) (act T e .tables .threads)) ∙ b) })
+  dispatched T e = by-dispatch (λ (U : Tables). Counted n T U (ticks-by T e) (beats-by T e) (own-ticks-by n T e)) (act T e) (λ _ _ _. A) (λ _ _. A) (λ m q _ _. unfold change in record { time = A .time; low = A .low; beat = A .beat; count = λ l a b. ticks-some n (named m) (in-state Running Nothing) (λ t. refl) (λ t. refl) (act T e .tables .threads) ∙ A .count l a (sym (names-kept _ (put-name (named m) Running (λ t. Nothing)) n (act T e .tables .threads)) ∙ b) })
     where
       A : Counted n T (act T e .tables) (ticks-by T e) (beats-by T e) (own-ticks-by n T e)
       A = acted T e

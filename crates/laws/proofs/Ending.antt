@@ -74,7 +74,7 @@ module _ (set : List ℕ) where
   missed (Device d) e = absurd (false≢true e)
   missed (Trapped k) e = absurd (false≢true e)
 
-  receiver-misses : {s : State} (n : ℕ) → s ≡ Receiving (Only n) → misses set s ≡ has n set
+  pub receiver-misses : {s : State} (n : ℕ) → s ≡ Receiving (Only n) → misses set s ≡ has n set
   unfolding misses
   receiver-misses n e = ap (misses set) e
 

@@ -2,12 +2,12 @@
 -- Assumes nothing.
 use Prim.Native.Nat.{ℕ, zero, suc, _≤_, _<_}
 use mathlib.Core.Path.{_≡_, refl, sym, ap, _∙_, subst}
-use mathlib.Core.Logic.{_⊎_, inl, inr, ⊎-elim}
-use mathlib.Core.Bool.{Bool, true, false, true≢false, false≢true}
+use mathlib.Core.Logic.{⊎-elim}
+use mathlib.Core.Bool.{Bool, true, false, false≢true}
 use mathlib.Core.List.{List, [], _∷_, _++_, append-nil, append-assoc, List·Memᴰ}
 use native.Mathlib.Omega.{arith}
 use borrow.Author.Tests.{eqb-true}
-use Rattle.rules.specs.Lists.{any, has}
+use Rattle.rules.specs.Lists.{has}
 use Rattle.rules.specs.Numbers.{Limits, names}
 use Rattle.laws.proofs.Words.{Only, TrapKind, Receiving, Answer, Nothing, FromMessage, FromNotice, SenderGone, Result, Unset, Set, Thread, Runs, Send, Trap, Event, ByRunner}
 use Rattle.rules.specs.Tables.{Tables, named, live, of-thread, manager, start}
@@ -18,30 +18,16 @@ use Rattle.rules.specs.Events.{decode}
 use Rattle.rules.specs.Refusals.{refusal}
 use Rattle.rules.specs.Step.{act, settle, step}
 use Rattle.rules.specs.Runs.{Input, run}
+use Rattle.laws.proofs.Tests.{clash}
 use Rattle.laws.proofs.Counting.{none-any}
+use Rattle.laws.proofs.Members.{last-same, ends-in}
+use Rattle.laws.proofs.Threads.{looked-up}
+use Rattle.laws.proofs.Steps.{run-append, run-last}
 use Rattle.laws.proofs.Types.{Entry, Detail, Ruled}
 use Rattle.laws.proofs.Kept.{run-ruled, start-ruled}
 use Rattle.laws.proofs.Ending.{ending-forgets}
-use Rattle.laws.proofs.Passing.{looked-up, accepted-send, Gives, dispatch-names, run-last, After, handed-over}
-
--- ---- general
-
-pub last-same : {A : Type 0} (xs ys : List A) {x y : A} → xs ++ (x ∷ []) ≡ ys ++ (y ∷ []) → (xs ≡ ys) × (x ≡ y)
-last-same [] [] e = (refl, cc)
-last-same [] (z ∷ []) e = let k : _≡_ {A = ℕ} 0 1 = cc in absurd (omega arith)
-last-same [] (z ∷ w ∷ ys) e = let k : _≡_ {A = ℕ} 0 1 = cc in absurd (omega arith)
-last-same (z ∷ []) [] e = let k : _≡_ {A = ℕ} 0 1 = cc in absurd (omega arith)
-last-same (z ∷ w ∷ xs) [] e = let k : _≡_ {A = ℕ} 0 1 = cc in absurd (omega arith)
-last-same (z ∷ xs) (w ∷ ys) {x} {y} e =
-    let k : xs ++ (x ∷ []) ≡ ys ++ (y ∷ []) = cc in
-    let h : z ≡ w = cc in
-    let r = last-same xs ys k in
-    (rw (h, r .0), r .1)
-
--- a list is empty or ends in an element
-pub ends-in : {A : Type 0} (xs : List A) → (xs ≡ []) ⊎ ((ys : List A) × (y : A) × (xs ≡ ys ++ (y ∷ [])))
-ends-in [] = inl refl
-ends-in (x ∷ xs) = inr (⊎-elim (λ e. ([], x, ap (λ l. x ∷ l) e)) (λ r. (x ∷ r .0, r .1, ap (λ l. x ∷ l) (r .2))) (ends-in xs))
+use Rattle.laws.proofs.Refusals.{decision-gives-it}
+use Rattle.laws.proofs.Passing.{accepted-send, Gives, dispatch-names, After, handed-over}
 
 -- ---- what is said
 
@@ -94,29 +80,14 @@ pub data Told (L : Limits) : Input → ℕ → ℕ → Type 0 where
       Told L es n m → live n (run L start (es ++ (e ∷ []))) ≡ true →
       Told L (es ++ (e ∷ [])) n m
 
--- ---- steps and runs
-
-decision-refusal : (L : Limits) (T : Tables) (bytes : List ℕ) → step L T bytes .decision .refusal ≡ refusal L T (decode bytes)
-unfolding step settle
-decision-refusal L T bytes = go (refusal L T (decode bytes))
-  where
-    go : (r : ℕ) → settle r T (decode bytes) .decision .refusal ≡ r
-    go zero = refl
-    go (suc r) = refl
-
 -- who is sent something is live
 receiver-live : {L : Limits} (T : Tables) → Ruled L T → (bytes : List ℕ) {n : ℕ} {a : Answer} → Sends L T bytes n a → live n T ≡ true
 unfolding Entry
-receiver-live {L} T R bytes (a-message {n = n} {w = w} r i d u) = accepted-send L T n w (ap (refusal L T) (sym d) ∙ sym (decision-refusal L T bytes) ∙ r)
+receiver-live {L} T R bytes (a-message {n = n} {w = w} r i d u) = accepted-send L T n w (ap (refusal L T) (sym d) ∙ sym (decision-gives-it L T bytes) ∙ r)
 receiver-live {L} T R bytes (a-notice {s = s} {n = n} {k = k} r i d g) =
     ⊎-elim (λ e. let z : _≡_ {A = ℕ} 0 1 = cc in absurd (omega arith))
     (λ x. subst (Entry (T .threads) (x .0 .name)) (sym (x .3) ∙ g) (R .fits .threads (x .0) (x .1) .entries k) .0)
     (looked-up Unset (λ t. manager k (t .managers)) s (T .threads))
-
-run-append : (L : Limits) (T : Tables) (es fs : Input) → run L T (es ++ fs) ≡ run L (run L T es) fs
-unfolding run
-run-append L T [] fs = refl
-run-append L T (e ∷ es) fs = run-append L (step L T e .tables) es fs
 
 -- ---- what is from a thread is owed
 
@@ -143,7 +114,7 @@ module _ (L : Limits) (es : Input) (n : ℕ) (dead : live n (run L start es) ≡
   -- the last event came after that time
   last-since : (ds : Input) (c : List ℕ) (gs : Input) → ds ++ (c ∷ []) ≡ es ++ gs → live n (run L start (ds ++ (c ∷ []))) ≡ true → (hs : Input) × (ds ≡ es ++ hs) × (gs ≡ hs ++ (c ∷ []))
   last-since ds c gs i l =
-      ⊎-elim (λ e. absurd (true≢false (sym l ∙ ap (λ (x : Input). live n (run L start x)) (i ∙ ap (λ (x : Input). es ++ x) e ∙ append-nil es) ∙ dead)))
+      ⊎-elim (λ e. absurd (clash l (ap (λ (x : Input). live n (run L start x)) (i ∙ ap (λ (x : Input). es ++ x) e ∙ append-nil es) ∙ dead)))
       (λ r.
       let k = last-same ds (es ++ r .0) (i ∙ ap (λ (x : Input). es ++ x) (r .2) ∙ sym (append-assoc es (r .0) (r .1 ∷ []))) in
       (r .0, k .0, r .2 ∙ ap (λ (x : List ℕ). r .0 ++ (x ∷ [])) (sym (k .1))))
@@ -176,7 +147,7 @@ ended-dead T e x m i h = none-any (named m) (dispatch (act T e) .tables .threads
         go : (b : Bool) → named m u ≡ b → b ≡ false
         go false k = refl
         go true k =
-            absurd (true≢false (sym h ∙ ap (λ (y : ℕ). has y (ended-set (T .threads) x)) (eqb-true m (u .name) k ∙ r .2)
+            absurd (clash h (ap (λ (y : ℕ). has y (ended-set (T .threads) x)) (eqb-true m (u .name) k ∙ r .2)
             ∙ ending-forgets x T .threads (r .0) (subst (λ (U : Tables). List·Memᴰ (r .0) (U .threads)) i (r .1))))
 
 step-accepted : (L : Limits) (T : Tables) (bytes : List ℕ) → step L T bytes .decision .refusal ≡ 0 → step L T bytes .tables ≡ dispatch (act T (decode bytes)) .tables
@@ -219,7 +190,7 @@ owed-lives (still es e o l) = l
 
 -- So nothing is owed to a thread that has ended, or to a name that nobody has had.
 pub nothing-owed-to-the-ended : {L : Limits} (es : Input) (n : ℕ) {a : Answer} → live n (run L start es) ≡ false → Owed L es n a → ⊥
-nothing-owed-to-the-ended es n d o = true≢false (sym (owed-lives o) ∙ d)
+nothing-owed-to-the-ended es n d o = clash (owed-lives o) d
 
 -- Nothing is owed to a newcomer: to a thread that was not live before the last event.
 pub newcomer-is-owed-nothing : (L : Limits) → 1 ≤ L .threads → L .threads < names → (es : Input) (e : List ℕ) (n : ℕ) {a : Answer} → live n (run L start es) ≡ false → Owed L (es ++ (e ∷ [])) n a → ⊥
@@ -228,7 +199,7 @@ newcomer-is-owed-nothing L p q es e n {a} d o = go (es ++ (e ∷ [])) refl o
     go : (xs : Input) → xs ≡ es ++ (e ∷ []) → Owed L xs n a → ⊥
     go xs i (sent ds c s l) =
         let k = last-same ds es i in
-        true≢false (sym (receiver-live (run L start ds) (run-ruled start ds q (start-ruled L p)) c s) ∙ ap (λ (x : Input). live n (run L start x)) (k .0) ∙ d)
+        clash (receiver-live (run L start ds) (run-ruled start ds q (start-ruled L p)) c s) (ap (λ (x : Input). live n (run L start x)) (k .0) ∙ d)
     go xs i (still ds c s l) = nothing-owed-to-the-ended ds n (ap (λ (x : Input). live n (run L start x)) (last-same ds es i .0) ∙ d) s
 
 -- A message or notice that an event hands to thread n has been sent to thread n in its present life.

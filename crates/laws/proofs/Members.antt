@@ -1,4 +1,4 @@
--- Members of lists that were kept, put into or mapped; and which numbers a list has.
+-- Members of lists that were kept, put into or mapped; which numbers a list has; and the end of a list.
 -- Assumes nothing.
 use Prim.Native.Nat.{ℕ, zero, suc, _+_, _≤_, _<_}
 use mathlib.Core.Path.{_≡_, refl, sym, ap, ap₂, _∙_}
@@ -110,3 +110,23 @@ same-true [] (y ∷ ys) h = absurd (false≢true h)
 same-true (x ∷ xs) [] h = absurd (false≢true h)
 same-true (x ∷ xs) (y ∷ ys) h =
     ap₂ (λ (z : ℕ) (zs : List ℕ). z ∷ zs) (eqb-true x y (and-left (x == y) _ h)) (same-true xs ys (and-right (x == y) _ h))
+
+-- ---- the end of a list
+
+-- lists that are equal have the same end
+pub last-same : {A : Type 0} (xs ys : List A) {x y : A} → xs ++ (x ∷ []) ≡ ys ++ (y ∷ []) → (xs ≡ ys) × (x ≡ y)
+last-same [] [] e = (refl, cc)
+last-same [] (z ∷ []) e = let k : _≡_ {A = ℕ} 0 1 = cc in absurd (omega arith)
+last-same [] (z ∷ w ∷ ys) e = let k : _≡_ {A = ℕ} 0 1 = cc in absurd (omega arith)
+last-same (z ∷ []) [] e = let k : _≡_ {A = ℕ} 0 1 = cc in absurd (omega arith)
+last-same (z ∷ w ∷ xs) [] e = let k : _≡_ {A = ℕ} 0 1 = cc in absurd (omega arith)
+last-same (z ∷ xs) (w ∷ ys) {x} {y} e =
+    let k : xs ++ (x ∷ []) ≡ ys ++ (y ∷ []) = cc in
+    let h : z ≡ w = cc in
+    let r = last-same xs ys k in
+    (rw (h, r .0), r .1)
+
+-- a list is empty or ends in an element
+pub ends-in : {A : Type 0} (xs : List A) → (xs ≡ []) ⊎ ((ys : List A) × (y : A) × (xs ≡ ys ++ (y ∷ [])))
+ends-in [] = inl refl
+ends-in (x ∷ xs) = inr (⊎-elim (λ e. ([], x, ap (λ l. x ∷ l) e)) (λ r. (x ∷ r .0, r .1, ap (λ l. x ∷ l) (r .2))) (ends-in xs))

@@ -1,20 +1,19 @@
 -- What a step passes on: every message and every answer after it was there before, or is one that this event gives.
 -- Assumes nothing.
-use Prim.Native.Nat.{ℕ, zero, suc, _+_, _-_, _≤_, _<_}
+use Prim.Native.Nat.{ℕ, zero, suc, _+_, _≤_, _<_}
 use mathlib.Core.Path.{_≡_, refl, sym, ap, _∙_, subst}
-use mathlib.Core.Logic.{_⊎_, inl, inr, ⊎-elim, _≢_}
-use mathlib.Core.Bool.{Bool, true, false, _&&_, not, false≢true}
+use mathlib.Core.Logic.{⊎-elim}
+use mathlib.Core.Bool.{Bool, true, false, not}
 use mathlib.Core.List.{List, [], _∷_, _++_, map, append-nil, append-assoc, List·Memᴰ, List·Memᴰ·head, List·Memᴰ·tail}
-use native.Mathlib.Omega.{arith}
 use lib.Dec.{ltb}
-use borrow.Author.Tests.{eqb-true, eq-eqb}
-use Rattle.rules.specs.Lists.{if_then_else_, _==_, one-if, any, has, keep, Pulled, missing, pulled, behind, pull}
+use borrow.Author.Tests.{eqb-true}
+use Rattle.rules.specs.Lists.{if_then_else_, _==_, any, has, keep, Pulled, missing, pulled, pull}
 use Rattle.rules.specs.Numbers.{Limits, names, beat-ticks}
 use Rattle.laws.proofs.Words.{Wanted, Only, TrapKind, State, Running, Ready, Receiving, Clock, Device, Trapped, Answer, Nothing, FromMessage, FromNotice, SenderGone, Result, Manager, Unset, Set, Gone, Parent, Thread, Message, Held, Runner, NoRunner, Runs, Target, Oneself, Named, Call, Send, Receive, CreateBrother, CreateSon, Terminate, SetManager, GetCpuTime, WaitForClock, WaitForIo, Trap, Event, Malformed, ByRunner, Tick, Interrupt}
-use Rattle.rules.specs.Words.{by-manager, by-runner}
-use Rattle.rules.specs.Tables.{Tables, with-runner, with-time, with-clock, with-messages, in-state, with-ticks, with-managers, named, live, of-thread, change, manager, set-entry, new-thread, runs, runs-as, me, start}
-use Rattle.rules.specs.States.{is-running, on-clock, waits-for}
-use Rattle.rules.specs.Waking.{Outcome, _handing_, wake-those, wake, handed-as, handed, accepts, queue, deliver, stop, notice-of}
+use Rattle.rules.specs.Words.{by-manager}
+use Rattle.rules.specs.Tables.{Tables, with-time, with-clock, with-messages, in-state, with-ticks, with-managers, named, live, of-thread, change, manager, set-entry, new-thread, me, start}
+use Rattle.rules.specs.States.{on-clock, waits-for}
+use Rattle.rules.specs.Waking.{Outcome, _handing_, wake-those, handed-as, handed, accepts, queue, deliver, stop, notice-of}
 use Rattle.rules.specs.Ending.{ended-set, remove, misses, release, end}
 use Rattle.rules.specs.Send.{message, waits-for-decision, decides, decide, send}
 use Rattle.rules.specs.Receive.{wanted-by, received, receive}
@@ -22,90 +21,25 @@ use Rattle.rules.specs.Trap.{notice, trap}
 use Rattle.rules.specs.Tick.{one-more, charge, beat, rotate, tick}
 use Rattle.rules.specs.Interrupt.{interrupt}
 use Rattle.rules.specs.Requests.{next-name, create, terminate, set-over, wait-for-clock, take-held}
-use Rattle.rules.specs.Dispatch.{run-next, dispatch, status}
+use Rattle.rules.specs.Dispatch.{run-next, dispatch}
 use Rattle.rules.specs.Events.{decode}
-use Rattle.rules.specs.Refusals.{Rule, _refuses_, first-of, over, is-malformed, needs-runner, call-rules, own-rules, refusal}
+use Rattle.rules.specs.Refusals.{call-rules, refusal}
 use Rattle.rules.specs.Step.{serve, act, settle, step}
 use Rattle.rules.specs.Runs.{Input, run}
-use Rattle.laws.proofs.Tests.{by-if, and-left, not-false}
-use Rattle.laws.proofs.Counting.{count-any, any-member, member-any}
+use Rattle.laws.proofs.Tests.{by-if, by-runs, and-left, not-false}
 use Rattle.laws.proofs.Members.{mem-keep, mem-insert, mem-map}
-use Rattle.laws.proofs.Types.{here, Ruled}
+use Rattle.laws.proofs.Types.{Ruled}
+use Rattle.laws.proofs.Ordered.{pull-took}
+use Rattle.laws.proofs.Threads.{member-live, looked-up, turned, turned-name}
+use Rattle.laws.proofs.Steps.{passed, called, by-dispatch, run-last}
+use Rattle.laws.proofs.PlacesKept.{runner-live}
 use Rattle.laws.proofs.Kept.{run-ruled, start-ruled}
-use Rattle.laws.proofs.Ending.{Survives, missed, message-left, origins}
+use Rattle.laws.proofs.Ending.{Survives, missed, receiver-misses, message-left, origins}
 
--- ---- general
-
-module _ {A : Type 0} where
-  -- what a search took out passes and stood in the list, and so did all that it left
-  pub record Taken (p : A → Bool) (xs : List A) (y : A) (ys : List A) : Type 0 where
-    pub passes : p y ≡ true
-    pub from : List·Memᴰ y xs
-    pub rest : (z : A) → List·Memᴰ z ys → List·Memᴰ z xs
-
-  unfoldable Takes : (A → Bool) → List A → Pulled A → Type 0
-  Takes p xs missing = Unit {0}
-  Takes p xs (pulled y ys) = Taken p xs y ys
-
-  takes-behind : (p : A → Bool) (x : A) (xs : List A) (r : Pulled A) → Takes p xs r → Takes p (x ∷ xs) (behind x r)
-  unfolding Takes behind
-  takes-behind p x xs missing h = h
-  takes-behind p x xs (pulled y ys) h = record { passes = h .passes; from = List·Memᴰ·tail (h .from); rest = there }
-    where
-      there : (z : A) → List·Memᴰ z (x ∷ ys) → List·Memᴰ z (x ∷ xs)
-      there z (List·Memᴰ·head e) = List·Memᴰ·head e
-      there z (List·Memᴰ·tail m) = List·Memᴰ·tail (h .rest z m)
-
-  takes : (p : A → Bool) (xs : List A) → Takes p xs (pull p xs)
-  unfolding pull
-  takes p [] = unfold Takes in record {}
-  takes p (x ∷ xs) =
-      by-if (Takes p (x ∷ xs)) (p x)
-      (λ e. unfold Takes in record { passes = e; from = List·Memᴰ·head refl; rest = λ z m. List·Memᴰ·tail m })
-      (λ e. takes-behind p x xs (pull p xs) (takes p xs))
-
-  pub pull-taken : (p : A → Bool) (xs : List A) {y : A} {ys : List A} → pull p xs ≡ pulled y ys → Taken p xs y ys
-  pull-taken p xs e = unfold Takes in rw e at (takes p xs)
-
--- a look-up finds nothing, or a thread of that name
-pub looked-up : {A : Type 0} (other : A) (f : Thread → A) (n : ℕ) (ts : List Thread) →
-    (of-thread other f n ts ≡ other) ⊎ ((t : Thread) × List·Memᴰ t ts × (t .name ≡ n) × (of-thread other f n ts ≡ f t))
-unfolding of-thread
-looked-up other f n [] = inl refl
-looked-up {A} other f n (t ∷ ts) = go (named n t) refl (looked-up other f n ts)
-  where
-    go : (b : Bool) → named n t ≡ b →
-        (of-thread other f n ts ≡ other) ⊎ ((u : Thread) × List·Memᴰ u ts × (u .name ≡ n) × (of-thread other f n ts ≡ f u)) →
-        ((if b then f t else of-thread other f n ts) ≡ other) ⊎ ((u : Thread) × List·Memᴰ u (t ∷ ts) × (u .name ≡ n) × ((if b then f t else of-thread other f n ts) ≡ f u))
-    go true e later = inr (t, List·Memᴰ·head refl, sym (eqb-true n (t .name) e), refl)
-    go false e later = ⊎-elim (λ i. inl i) (λ r. inr (r .0, List·Memᴰ·tail (r .1), r .2, r .3)) later
-
--- ---- accepted events
-
--- the first rule does not hold, and the others refuse nothing
-passed-over : (r : Rule) (rs : List Rule) → r .number ≢ 0 → first-of (r ∷ rs) ≡ 0 → (r .holds ≡ false) × (first-of rs ≡ 0)
-unfolding first-of
-passed-over r rs z e = go (r .holds) refl e
-  where
-    go : (b : Bool) → r .holds ≡ b → (if b then r .number else first-of rs) ≡ 0 → (r .holds ≡ false) × (first-of rs ≡ 0)
-    go true h i = absurd (z i)
-    go false h i = (h, i)
-
--- behind the rules 1 and 2
-pub accepted : (L : Limits) (T : Tables) (e : Event) → refusal L T e ≡ 0 → ((needs-runner e && not (runs (T .runner))) ≡ false) × (first-of (own-rules L T e) ≡ 0)
-unfolding refusal
-accepted L T e h =
-    let a = passed-over (over (status T) refuses 1) _ (λ z. omega arith) h in
-    let b = passed-over (is-malformed e refuses 2) _ (λ z. omega arith) (a .1) in
-    passed-over (needs-runner e && not (runs (T .runner)) refuses 3) _ (λ z. omega arith) (b .1)
-
-pub accepted-runs : (L : Limits) (T : Tables) (e : Event) → refusal L T e ≡ 0 → needs-runner e ≡ true → runs (T .runner) ≡ true
-accepted-runs L T e h n = not-false _ (ap (λ (b : Bool). b && not (runs (T .runner))) (sym n) ∙ accepted L T e h .0)
-
--- the name that a send gives is live
+-- the name that an accepted send gives is live
 pub accepted-send : (L : Limits) (T : Tables) (to w : ℕ) → refusal L T (ByRunner (Send to w)) ≡ 0 → live to T ≡ true
-unfolding own-rules call-rules
-accepted-send L T to w h = not-false _ (passed-over (not (live to T) refuses 4) _ (λ z. omega arith) (accepted L T (ByRunner (Send to w)) h .1) .0)
+unfolding call-rules
+accepted-send L T to w h = not-false _ (passed _ 3 _ (called L T (Send to w) h .passes) .0)
 
 -- ---- what is said of tables
 
@@ -134,11 +68,6 @@ pub record Gives (P : ℕ → Answer → Type 0) (T : Tables) (e : Event) : Type
   pub by-send : (s q n w : ℕ) → T .runner ≡ Runs s q → e ≡ ByRunner (Send n w) → decides s n T ≡ false → P n (FromMessage s w)
   pub by-trap : (s q n c : ℕ) (k : TrapKind) → T .runner ≡ Runs s q → e ≡ ByRunner (Trap k c) → of-thread Unset (λ t. manager k (t .managers)) s (T .threads) ≡ Set n → P n (FromNotice s c)
   pub by-end : (x m : ℕ) (t : Thread) → act T e .tables ≡ end x T → List·Memᴰ t (T .threads) → t .state ≡ Receiving (Only m) → has m (ended-set (T .threads) x) ≡ true → P (t .name) (SenderGone m)
-
--- who receives from n misses it when it ends
-misses-only : (set : List ℕ) {s : State} (n : ℕ) → s ≡ Receiving (Only n) → misses set s ≡ has n set
-unfolding misses
-misses-only set n e = ap (misses set) e
 
 module _ (P : ℕ → Answer → Type 0) where
   -- ---- the moves that events share
@@ -190,7 +119,7 @@ module _ (P : ℕ → Answer → Type 0) where
       after u t m S true e =
           let w = missed (ended-set (T .threads) x) (t .state) e in
           rw (S .name, S .told (w .0) (w .1) (w .2) .1) (gone (w .0) t m (w .1) (w .2))
-      after u t m S false e = rw (S .name, S .same (λ n i. sym (misses-only _ n i) ∙ e) .1) (H .answers t m)
+      after u t m S false e = rw (S .name, S .same (λ n i. sym (receiver-misses _ n i) ∙ e) .1) (H .answers t m)
 
   -- ---- what is handed over
 
@@ -211,11 +140,8 @@ module _ (P : ℕ → Answer → Type 0) where
 
   within-charge : (T : Tables) → Within P T → Within P (charge T)
   unfolding charge
-  within-charge T H = go (T .runner)
-    where
-      go : (r : Runner) → Within P (by-runner T (λ n s. with-runner (Runs n (s - 1)) (change n (λ t. with-ticks (one-more (t .ticks)) t) T)) r)
-      go NoRunner = H
-      go (Runs n s) = within-change n (λ t. with-ticks (one-more (t .ticks)) t) T (λ t m. H .answers t m) H
+  within-charge T H =
+      by-runs (λ (U : Tables). Within P U) (T .runner) (λ _. H) (λ n s _. within-change n (λ t. with-ticks (one-more (t .ticks)) t) T (λ t m. H .answers t m) H)
 
   module _ (nothing : (n : ℕ) → P n Nothing) (result : (n w : ℕ) → P n (Result w)) where
     within-beat : (T : Tables) → Within P T → Within P (beat T)
@@ -227,12 +153,9 @@ module _ (P : ℕ → Answer → Type 0) where
 
     within-rotate : (T : Tables) → Within P T → Within P (rotate T)
     unfolding rotate
-    within-rotate T H = go (T .runner)
-      where
-        go : (r : Runner) → Within P (by-runner T (λ n s. if s == 0 then with-runner NoRunner (wake n Nothing T) else T) r)
-        go NoRunner = H
-        go (Runs n s) =
-            by-if (λ (U : Tables). Within P U) (s == 0) (λ e. within-wake (named n) (λ t. Nothing) (n ∷ []) T (λ t m i. nothing (t .name)) H) (λ e. H)
+    within-rotate T H =
+        by-runs (λ (U : Tables). Within P U) (T .runner) (λ _. H)
+        (λ n s _. by-if (λ (U : Tables). Within P U) (s == 0) (λ e. within-wake (named n) (λ t. Nothing) (n ∷ []) T (λ t m i. nothing (t .name)) H) (λ e. H))
 
     within-tick : (T : Tables) → Within P T → Within P (tick T)
     unfolding tick
@@ -264,9 +187,9 @@ module _ (P : ℕ → Answer → Type 0) where
         go : (r : Pulled Message) → pull (wanted-by s w) (T .messages) ≡ r → Passed P (received s w T r)
         go missing i = only nothing (stop s (Receiving w) T) (within-stop nothing s (Receiving w) T H)
         go (pulled m ms) i =
-            let k = pull-taken (wanted-by s w) (T .messages) i in
+            let k = pull-took (wanted-by s w) (T .messages) i in
             record {
-              within = within-messages ms T (k .rest) H;
+              within = within-messages ms T (k .less .member) H;
               hands = hands-runner s q e (subst (λ (n : ℕ). P n (handed m)) (eqb-true (m .to) s (and-left _ _ (k .passes))) (H .messages m (k .from)));
             }
 
@@ -275,14 +198,14 @@ module _ (P : ℕ → Answer → Type 0) where
     take-passes s q d T missing e H = only nothing (stop s (Device d) T) (within-stop nothing s (Device d) T H)
     take-passes s q d T (pulled h hs) e H = record { within = record { messages = H .messages; answers = H .answers }; hands = hands-runner s q e (result s (h .word)) }
 
-  called : (s q : ℕ) (T : Tables) (c : Call) → T .runner ≡ Runs s q → act T (ByRunner c) ≡ serve s T c
+  serves : (s q : ℕ) (T : Tables) (c : Call) → T .runner ≡ Runs s q → act T (ByRunner c) ≡ serve s T c
   unfolding act me
-  called s q T c e = ap (λ (r : Runner). serve (me r) T c) e
+  serves s q T c e = ap (λ (r : Runner). serve (me r) T c) e
 
   module _ (s q : ℕ) (T : Tables) (runs : T .runner ≡ Runs s q) (H : Within P T) where
     -- a call that ends a thread
     within-ended : (c : Call) (x : ℕ) → Gives P T (ByRunner c) → serve s T c .tables ≡ end x T → Within P (end x T)
-    within-ended c x G e = within-end x T (λ m t i j h. G .by-end x m t (ap (λ (o : Outcome). o .tables) (called s q T c runs) ∙ e) i j h) H
+    within-ended c x G e = within-end x T (λ m t i j h. G .by-end x m t (ap (λ (o : Outcome). o .tables) (serves s q T c runs) ∙ e) i j h) H
 
     within-decide : (to w : ℕ) → Gives P T (ByRunner (Send to w)) → decides s to T ≡ true → Within P (decide s to w T)
     unfolding decide
@@ -339,20 +262,18 @@ module _ (P : ℕ → Answer → Type 0) where
 
   -- ---- the event, and dispatch
 
-  act-passes : (T : Tables) (e : Event) → (needs-runner e ≡ true → runs (T .runner) ≡ true) → Gives P T e → Within P T → Passed P (act T e)
-  unfolding act needs-runner runs
-  act-passes T Malformed r G H = only (G .nothing) T H
-  act-passes T (ByRunner c) r G H = go (T .runner) refl (r refl)
-    where
-      go : (x : Runner) → T .runner ≡ x → runs x ≡ true → Passed P (act T (ByRunner c))
-      go NoRunner e h = absurd (false≢true h)
-      go (Runs s q) e h = subst (λ (o : Outcome). Passed P o) (sym (called s q T c e)) (serve-passes s q T e H c G)
-  act-passes T Tick r G H = only (G .nothing) (tick T) (within-tick (G .nothing) (G .result) T H)
-  act-passes T (Interrupt d w) r G H = only (G .nothing) (interrupt d w T) (within-interrupt (G .nothing) (G .result) d w T H)
+  act-passes : (L : Limits) (T : Tables) (e : Event) → refusal L T e ≡ 0 → Gives P T e → Within P T → Passed P (act T e)
+  unfolding act
+  act-passes L T Malformed r G H = only (G .nothing) T H
+  act-passes L T (ByRunner c) r G H =
+      let C = called L T c r in
+      subst (λ (o : Outcome). Passed P o) (sym (serves (C .name) (C .slice) T c (C .runner))) (serve-passes (C .name) (C .slice) T (C .runner) H c G)
+  act-passes L T Tick r G H = only (G .nothing) (tick T) (within-tick (G .nothing) (G .result) T H)
+  act-passes L T (Interrupt d w) r G H = only (G .nothing) (interrupt d w T) (within-interrupt (G .nothing) (G .result) d w T H)
 
   dispatch-passes : ((n : ℕ) → P n Nothing) → (o : Outcome) → Passed P o → Passed P (dispatch o)
   unfolding dispatch run-next Hands change
-  dispatch-passes nothing o X = go (o .tables .runner)
+  dispatch-passes nothing o X = by-runs (Passed P) (o .tables .runner) (λ _. next (o .tables .ready)) (λ _ _ _. X)
     where
       next : (q : List ℕ) → Passed P (run-next q o)
       next [] = X
@@ -360,10 +281,6 @@ module _ (P : ℕ → Answer → Type 0) where
         within = within-change n (in-state Running Nothing) (o .tables) (λ t m. nothing (t .name)) (X .within);
         hands = ⊎-elim (λ e. subst (P n) (sym e) (nothing n)) (λ r. subst (P n) (sym (r .3)) (subst (λ (x : ℕ). P x (r .0 .answer)) (r .2) (X .within .answers (r .0) (r .1)))) (looked-up Nothing (λ t. t .answer) n (o .tables .threads));
       }
-
-      go : (r : Runner) → Passed P (by-runner (run-next (o .tables .ready) o) (λ n s. o) r)
-      go NoRunner = next (o .tables .ready)
-      go (Runs n s) = X
 
   -- ---- the step
 
@@ -375,30 +292,20 @@ module _ (P : ℕ → Answer → Type 0) where
     where
       go : (r : ℕ) → refusal L T (decode bytes) ≡ r → (settle r T (decode bytes) .decision .refusal ≡ 0 → Gives P T (decode bytes)) →
           Passed P (settle r T (decode bytes) .tables handing settle r T (decode bytes) .decision .answer)
-      go zero e g = dispatch-passes nothing (act T (decode bytes)) (act-passes T (decode bytes) (λ n. accepted-runs L T (decode bytes) e n) (g refl) H)
+      go zero e g = dispatch-passes nothing (act T (decode bytes)) (act-passes L T (decode bytes) e (g refl) H)
       go (suc r) e g = only nothing T H
 
 -- dispatch brings no thread
 pub dispatch-names : (o : Outcome) (u : Thread) → List·Memᴰ u (dispatch o .tables .threads) → (t : Thread) × List·Memᴰ t (o .tables .threads) × (u .name ≡ t .name)
-unfolding dispatch run-next change
-dispatch-names o u i = go (o .tables .runner) i
+unfolding change
+dispatch-names o u = by-dispatch (λ (U : Tables). List·Memᴰ u (U .threads) → (t : Thread) × List·Memᴰ t (o .tables .threads) × (u .name ≡ t .name)) o (λ _ _ _ m. (u, m, refl)) (λ _ _ m. (u, m, refl)) (λ n q _ _. next n)
   where
-    next : (q : List ℕ) → List·Memᴰ u (run-next q o .tables .threads) → (t : Thread) × List·Memᴰ t (o .tables .threads) × (u .name ≡ t .name)
-    next [] m = (u, m, refl)
-    next (n ∷ ns) m =
-        let r = mem-map (λ t. if named n t then in-state Running Nothing t else t) (o .tables .threads) m in
-        (r .0, r .1, ap (λ (x : Thread). x .name) (r .2) ∙ by-if (λ (x : Thread). x .name ≡ r .0 .name) (named n (r .0)) (λ e. refl) (λ e. refl))
-
-    go : (r : Runner) → List·Memᴰ u (by-runner (run-next (o .tables .ready) o) (λ n s. o) r .tables .threads) → (t : Thread) × List·Memᴰ t (o .tables .threads) × (u .name ≡ t .name)
-    go NoRunner m = next (o .tables .ready) m
-    go (Runs n s) m = (u, m, refl)
+    next : (n : ℕ) → List·Memᴰ u (map (turned (named n) (in-state Running Nothing)) (o .tables .threads)) → (t : Thread) × List·Memᴰ t (o .tables .threads) × (u .name ≡ t .name)
+    next n m =
+        let r = mem-map (turned (named n) (in-state Running Nothing)) (o .tables .threads) m in
+        (r .0, r .1, ap (λ (x : Thread). x .name) (r .2) ∙ turned-name (named n) (in-state Running Nothing) (λ t. refl) (r .0))
 
 -- ---- runs from a start
-
-pub run-last : (L : Limits) (T : Tables) (es : Input) (e : List ℕ) → run L T (es ++ (e ∷ [])) ≡ step L (run L T es) e .tables
-unfolding run
-run-last L T [] e = refl
-run-last L T (d ∷ es) e = run-last L (step L T d .tables) es e
 
 -- the decision names the runner that the tables have
 decision-runner : (L : Limits) (T : Tables) (bytes : List ℕ) → step L T bytes .decision .runner ≡ me (step L T bytes .tables .runner)
@@ -408,16 +315,6 @@ decision-runner L T bytes = go (refusal L T (decode bytes))
     go : (r : ℕ) → settle r T (decode bytes) .decision .runner ≡ me (settle r T (decode bytes) .tables .runner)
     go zero = refl
     go (suc r) = refl
-
-thread-live : {t : Thread} (ts : List Thread) → List·Memᴰ t ts → any (named (t .name)) ts ≡ true
-thread-live {t} ts m = member-any (named (t .name)) ts t m (eq-eqb (t .name) (t .name) refl)
-
-runner-live : {L : Limits} (T : Tables) → Ruled L T → (n s : ℕ) → T .runner ≡ Runs n s → live n T ≡ true
-unfolding here runs-as
-runner-live T R n s e =
-    let one : one-if (runs-as n (T .runner)) ≡ 1 = ap (λ (r : Runner). one-if (runs-as n r)) e ∙ ap one-if (eq-eqb n n refl) in
-    let r = any-member _ (T .threads) (count-any (λ t. named n t && is-running (t .state)) (T .threads) (omega (arith, R .inv .agree .run n))) in
-    member-any (named n) (T .threads) (r .0) (r .1) (and-left _ _ (r .2))
 
 -- S says, of the events so far, which answers may be due to which name: here after one more event, as far as the name is live then
 abbrev pub After : (Input → ℕ → Answer → Type 0) → Limits → Input → List ℕ → ℕ → Answer → Type 0
@@ -446,7 +343,7 @@ module _
       let X : Within (After S L es e) (run L start (es ++ (e ∷ []))) = subst (λ (T : Tables). Within (After S L es e) T) (sym (run-last L start es e)) (event-passes es e H .within) in
       record {
         messages = λ m i. X .messages m i (ruled (es ++ (e ∷ [])) .fits .messages m i .to-live);
-        answers = λ t i. X .answers t i (thread-live (run L start (es ++ (e ∷ [])) .threads) i);
+        answers = λ t i. X .answers t i (member-live (run L start (es ++ (e ∷ [])) .threads) t i);
       }
 
   within-from : (es fs : Input) → Within (S es) (run L start es) → Within (S (es ++ fs)) (run L start (es ++ fs))
@@ -473,4 +370,4 @@ module _
       go NoRunner k h = subst (S (es ++ (e ∷ [])) _) (sym h) (nothing (es ++ (e ∷ [])) _)
       go (Runs m s) k h =
           subst (λ (x : ℕ). S (es ++ (e ∷ [])) x (step L (run L start es) e .decision .answer)) (sym (decision-runner L (run L start es) e ∙ ap me k))
-          (h (runner-live (run L start (es ++ (e ∷ []))) (ruled (es ++ (e ∷ []))) m s (ap (λ (T : Tables). T .runner) (run-last L start es e) ∙ k)))
+          (h (runner-live (ruled (es ++ (e ∷ [])) .inv) m s (ap (λ (T : Tables). T .runner) (run-last L start es e) ∙ k)))

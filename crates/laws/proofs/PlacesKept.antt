@@ -108,7 +108,7 @@ charge-inv {L} {T} I =
     by-runs (Inv L) (T .runner) (λ _. I) λ n s e.
     unfold change in
     let J = change-inv n (λ t. with-ticks (one-more (t .ticks)) t) (λ t. refl) (λ t. refl) I in
-    same-threads refl refl (slice-keeps n s (s - 1) (rw e at (J .agree))) J
+    same-threads refl refl (slice-keeps n s _ (rw e at (J .agree))) J
 
 pub beat-inv : {L : Limits} {T : Tables} → Inv L T → Inv L (beat T)
 unfolding beat wake-those

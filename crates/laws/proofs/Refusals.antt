@@ -2,7 +2,7 @@
 -- Assumes nothing.
 use Prim.Native.Nat.{ℕ, zero, suc}
 use mathlib.Core.Path.{_≡_, refl, sym, ap, _∙_}
-use mathlib.Core.Logic.{_↔_, _≢_, ⊎-elim}
+use mathlib.Core.Logic.{_↔_, _≢_, _⊎_, inl, inr, ⊎-elim}
 use mathlib.Core.Bool.{Bool, true, false, _&&_, _||_, not, true≢false, false≢true}
 use mathlib.Core.List.{List, [], _∷_, map, List·Memᴰ, List·Memᴰ·head, List·Memᴰ·tail}
 use native.Mathlib.Omega.{arith}
@@ -18,9 +18,9 @@ use Rattle.rules.specs.Events.{decode}
 use Rattle.rules.specs.Codes.{status-code}
 use Rattle.rules.specs.Refusals.{Rule, _refuses_, first-of, over, is-malformed, needs-runner, wants-nobody, ends-nobody, needs-block, no-block-free, no-thread-free, call-rules, own-rules, refusal}
 use Rattle.rules.specs.Step.{settle, step}
-use Rattle.laws.proofs.Words.{Nothing, Wanted, Target, Send, Receive, CreateBrother, CreateSon, Terminate, SetManager, GetCpuTime, WaitForClock, WaitForIo, Trap, Event, Malformed, ByRunner, Tick, Interrupt}
-use Rattle.laws.proofs.Tests.{by-if, same?, and-left, and-right, not-true}
-use Rattle.laws.proofs.Counting.{member-any}
+use Rattle.laws.proofs.Words.{Nothing, Wanted, Anybody, Only, Status, Working, Idle, Halted, Panicked, Target, Oneself, Named, Send, Receive, CreateBrother, CreateSon, Terminate, SetManager, GetCpuTime, WaitForClock, WaitForIo, Trap, Event, Malformed, ByRunner, Tick, Interrupt}
+use Rattle.laws.proofs.Tests.{by-if, clash, same?, and-left, and-right, not-true}
+use Rattle.laws.proofs.Members.{member-has}
 
 -- ---- any list of rules
 
@@ -55,7 +55,7 @@ never-given n rs z h e = go (first-listed rs)
   where
     go : List·Memᴰ (first-of rs) (0 ∷ map (λ r. r .number) rs) → ⊥
     go (List·Memᴰ·head k) = z (sym e ∙ k)
-    go (List·Memᴰ·tail m) = true≢false (sym (member-any (λ k. n == k) _ (first-of rs) m (eq-eqb n (first-of rs) (sym e))) ∙ h)
+    go (List·Memᴰ·tail m) = clash (member-has _ (rw e at m)) h
 
 -- A number that stands once is given exactly if its test holds and no test before it does.
 pub first-exactly : (n : ℕ) (rs : List Rule) → n ≢ 0 → stands-once n rs ≡ true → (first-of rs ≡ n) ↔ ((test-of n rs ≡ true) × (before n rs ≡ false))
@@ -78,7 +78,7 @@ none-exactly [] o = (λ _. refl, λ _. refl)
 none-exactly (r ∷ rs) o = go (r .holds) (none-exactly rs (and-right (not (r .number == 0)) _ o))
   where
     go : (b : Bool) → (first-of rs ≡ 0) ↔ (any (λ s. s .holds) rs ≡ false) → ((if b then r .number else first-of rs) ≡ 0) ↔ ((b || any (λ s. s .holds) rs) ≡ false)
-    go true later = (λ g. absurd (false≢true (sym (ap not (eq-eqb (r .number) 0 g)) ∙ and-left _ _ o)), λ x. absurd (true≢false x))
+    go true later = (λ g. absurd (clash (and-left _ _ o) (ap not (eq-eqb (r .number) 0 g))), λ x. absurd (true≢false x))
     go false later = later
 
 -- ---- the ten tests in the document's words
@@ -173,6 +173,30 @@ refused-exactly L T (ByRunner (WaitForIo d)) = refl
 refused-exactly L T (ByRunner (Trap k c)) = refl
 refused-exactly L T Tick = refl
 refused-exactly L T (Interrupt d w) = refl
+
+-- ---- the words of the tests
+
+-- An event comes too late exactly if the status is halted or panicked.
+pub too-late-exactly : (T : Tables) → (comes-too-late T ≡ true) ↔ ((status T ≡ Halted) ⊎ (status T ≡ Panicked))
+unfolding over
+too-late-exactly T = go (status T)
+  where
+    go : (s : Status) → (over s ≡ true) ↔ ((s ≡ Halted) ⊎ (s ≡ Panicked))
+    go Working = (λ e. absurd (false≢true e), ⊎-elim (λ e. let z : _≡_ {A = ℕ} 0 1 = cc in absurd (omega arith)) (λ e. let z : _≡_ {A = ℕ} 0 1 = cc in absurd (omega arith)))
+    go Idle = (λ e. absurd (false≢true e), ⊎-elim (λ e. let z : _≡_ {A = ℕ} 0 1 = cc in absurd (omega arith)) (λ e. let z : _≡_ {A = ℕ} 0 1 = cc in absurd (omega arith)))
+    go Halted = (λ e. inl refl, λ e. refl)
+    go Panicked = (λ e. inr refl, λ e. refl)
+
+-- A receive names nobody exactly if it wants one name, and that is no live thread's.
+pub wants-nobody-exactly : (T : Tables) (w : Wanted) → (wants-nobody T w ≡ true) ↔ ((n : ℕ) × (w ≡ Only n) × (live n T ≡ false))
+wants-nobody-exactly T Anybody = (λ e. absurd (false≢true e), λ r. let z : _≡_ {A = ℕ} 0 1 = cc (r .1) in absurd (omega arith))
+wants-nobody-exactly T (Only n) = (λ e. (n, refl, not-true _ e), λ r. let k : n ≡ r .0 = cc (r .1) in rw k (ap not (r .2)))
+
+-- A TERMINATE names nobody exactly if it gives a name that is no live thread's.
+pub ends-nobody-exactly : (T : Tables) (x : Target) → (ends-nobody T x ≡ true) ↔ ((n : ℕ) × (x ≡ Named n) × (live n T ≡ false))
+unfolding ends-nobody
+ends-nobody-exactly T Oneself = (λ e. absurd (false≢true e), λ r. let z : _≡_ {A = ℕ} 0 1 = cc (r .1) in absurd (omega arith))
+ends-nobody-exactly T (Named n) = (λ e. (n, refl, not-true _ e), λ r. let k : n ≡ r .0 = cc (r .1) in rw k (ap not (r .2)))
 
 -- ---- each number
 

@@ -1,9 +1,9 @@
--- To prove something of a step: of a refused event and of an accepted one, and of each thing that the dispatch can do.
+-- To prove something of a step: of a refused event and of an accepted one, and of each thing that the dispatch can do. And runs in parts.
 -- Assumes nothing.
 use Prim.Native.Nat.{ℕ, zero, suc}
 use mathlib.Core.Path.{_≡_, refl, ap}
 use mathlib.Core.Bool.{Bool, true, false, not, true≢false}
-use mathlib.Core.List.{List, [], _∷_}
+use mathlib.Core.List.{List, [], _∷_, _++_}
 use native.Mathlib.Omega.{arith}
 use borrow.Author.Tests.{ne-eqb}
 use Rattle.rules.specs.Lists.{_==_}
@@ -16,6 +16,7 @@ use Rattle.rules.specs.Dispatch.{run-next, dispatch}
 use Rattle.rules.specs.Events.{decode}
 use Rattle.rules.specs.Refusals.{Rule, _refuses_, first-of, is-malformed, needs-runner, call-rules, own-rules, refusal}
 use Rattle.rules.specs.Step.{act, settle, step}
+use Rattle.rules.specs.Runs.{Input, run}
 
 -- the test of the first rule is false, and the others are passed too
 pub passed : (b : Bool) (n : ℕ) (rs : List Rule) → first-of ((b refuses suc n) ∷ rs) ≡ 0 → (b ≡ false) × (first-of rs ≡ 0)
@@ -62,3 +63,16 @@ by-dispatch P o a b c = go (o .tables .runner) (o .tables .ready) refl refl
     go (Runs n s) q e i = a n s e
     go NoRunner [] e i = b e i
     go NoRunner (n ∷ q) e i = c n q e i
+
+-- ---- runs
+
+-- some events and then others: a run goes on from where the first left off
+pub run-append : (L : Limits) (T : Tables) (es fs : Input) → run L T (es ++ fs) ≡ run L (run L T es) fs
+unfolding run
+run-append L T [] fs = refl
+run-append L T (e ∷ es) fs = run-append L (step L T e .tables) es fs
+
+-- the last event is a step
+pub run-last : (L : Limits) (T : Tables) (es : Input) (e : List ℕ) → run L T (es ++ (e ∷ [])) ≡ step L (run L T es) e .tables
+unfolding run
+run-last L T es e = run-append L T es (e ∷ [])

@@ -2,6 +2,7 @@
 -- Assumes nothing.
 use Prim.Native.Nat.{ℕ, _+_, _≤_}
 use mathlib.Core.Path.{_≡_, refl, sym, ap, _∙_}
+use mathlib.Core.Logic.{_⊎_, inl, inr, ⊎-elim}
 use mathlib.Core.Bool.{Bool, true, false, _&&_, not}
 use mathlib.Core.List.{List, [], _∷_, map, List·Memᴰ, List·Memᴰ·head, List·Memᴰ·tail}
 use native.Mathlib.Omega.{arith}
@@ -30,6 +31,19 @@ of-only {A} d f n (u ∷ ts) o t (List·Memᴰ·tail m) x =
     by-if (λ (y : A). y ≡ f t) (named n u)
     (λ e. absurd (omega (arith, count-cons (named n) u ts, ap one-if e, any-count (named n) ts (member-any (named n) ts t m (eq-eqb n (t .name) (sym x))))))
     (λ e. of-only d f n ts (omega (arith, count-cons (named n) u ts)) t m x)
+
+-- a look-up finds nothing, or a thread of that name
+pub looked-up : {A : Type 0} (other : A) (f : Thread → A) (n : ℕ) (ts : List Thread) →
+    (of-thread other f n ts ≡ other) ⊎ ((t : Thread) × List·Memᴰ t ts × (t .name ≡ n) × (of-thread other f n ts ≡ f t))
+unfolding of-thread
+looked-up other f n [] = inl refl
+looked-up {A} other f n (t ∷ ts) = go (named n t) refl (looked-up other f n ts)
+  where
+    go : (b : Bool) → named n t ≡ b →
+        (of-thread other f n ts ≡ other) ⊎ ((u : Thread) × List·Memᴰ u ts × (u .name ≡ n) × (of-thread other f n ts ≡ f u)) →
+        ((if b then f t else of-thread other f n ts) ≡ other) ⊎ ((u : Thread) × List·Memᴰ u (t ∷ ts) × (u .name ≡ n) × ((if b then f t else of-thread other f n ts) ≡ f u))
+    go true e later = inr (t, List·Memᴰ·head refl, sym (eqb-true n (t .name) e), refl)
+    go false e later = ⊎-elim (λ i. inl i) (λ r. inr (r .0, List·Memᴰ·tail (r .1), r .2, r .3)) later
 
 -- names under a change that keeps each name
 pub names-kept : (f : Thread → Thread) → ((t : Thread) → f t .name ≡ t .name) → (n : ℕ) (ts : List Thread) → count (named n) (map f ts) ≡ count (named n) ts
