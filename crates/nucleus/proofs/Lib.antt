@@ -5,3 +5,4 @@ pub mod Fields
 pub mod Sending
 pub mod Ticks
 pub mod Creating
+pub mod Stepping

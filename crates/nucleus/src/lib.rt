@@ -10,6 +10,7 @@ pub mod refusals;
 pub mod requests;
 pub mod send;
 pub mod start;
+pub mod step;
 pub mod tick;
 pub mod trap;
 
