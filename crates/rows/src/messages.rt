@@ -26,7 +26,7 @@ fn wanted_by(me: u8, w: Wanted, m: Message) -> bool
     }
 }
 
-fn is_notice_of(n: u8, m: Message) -> bool
+pub fn is_notice_of(n: u8, m: Message) -> bool
     ensures { λ r. ⌜ r ≡ notice-of n m ⌝ }
 {
     let k = m.kind;

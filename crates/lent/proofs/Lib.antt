@@ -1,0 +1,5 @@
+pub mod Filling
+pub mod Sizes
+pub mod Fitting
+pub mod Back
+pub mod Answering

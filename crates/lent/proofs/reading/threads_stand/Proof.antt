@@ -1,0 +1,59 @@
+-- `reading::threads_stand` meets its contract. The loop: all the threads passed stand.
+-- Assumes nothing.
+use Prim.Native.Nat.{_-_}
+use mathlib.Core.Path.{sym, _∙_}
+use Rattle.rows.proofs.Loops.{Passed, all-starts, all-next, all-fails, all-ends}
+use Rattle.lent.specs.Lent.{thread-stands}
+use borrow.Author.Needs.{needs}
+use native.Mathlib.Omega.{arith}
+use Rattle.lent.proofs.reading.threads_stand.Statement.{statement}
+use Rattle.lent.proofs.reading.threads_stand.Tie as tie
+
+abbrev Inv-loop : tie.InvT-loop
+Inv-loop n ls i₀ i = Passed thread-stands n ls i
+
+abbrev μ-loop : tie.MeasureT-loop
+μ-loop n ls i₀ i = n - i
+
+loop-holds : tie.Need-loop-holds Inv-loop μ-loop
+loop-holds c = all-starts _ _ _ (omega arith)
+
+mul-l : tie.Need-mul-l Inv-loop μ-loop
+mul-l c = search needs
+
+array-copy-out-l : tie.Need-array-copy-out-l Inv-loop μ-loop
+array-copy-out-l c = search needs
+
+thread-stands-requires : tie.Need-thread-stands-requires Inv-loop μ-loop
+thread-stands-requires c κs = search needs
+
+add-i : tie.Need-add-i Inv-loop μ-loop
+add-i c = search needs
+
+loop-less : tie.Need-loop-less Inv-loop μ-loop
+loop-less c = search needs
+
+loop-again : tie.Need-loop-again Inv-loop μ-loop
+loop-again c = all-next _ _ _ _ _ (c .before .before .before .before .loop .inv) (c .before .before .before .loop-test .taken) (sym (c .before .thread-stands .ensures) ∙ c .if1 .taken)
+
+returns : tie.Need-returns Inv-loop μ-loop
+returns c = all-fails _ _ _ _ _ (c .before .before .before .before .loop .inv) (c .before .before .before .loop-test .taken) (sym (c .before .thread-stands .ensures) ∙ c .if1 .left)
+
+returns-2 : tie.Need-returns-2 Inv-loop μ-loop
+returns-2 c = all-ends _ _ _ _ (c .before .loop .inv) (c .loop-test .left)
+
+pub threads-stand-spec : {M : Type 1} → statement M
+threads-stand-spec =
+    tie.close
+    (tie.spec
+    Inv-loop
+    μ-loop
+    loop-holds
+    mul-l
+    array-copy-out-l
+    thread-stands-requires
+    add-i
+    loop-less
+    loop-again
+    returns
+    returns-2)
