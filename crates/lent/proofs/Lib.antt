@@ -3,3 +3,4 @@ pub mod Sizes
 pub mod Fitting
 pub mod Back
 pub mod Answering
+pub mod Determined
