@@ -25,5 +25,6 @@ unfoldable pub status-without : List Thread → Status
 status-without [] = Halted
 status-without (t ∷ ts) = if any (λ u. wakes-from-outside (u .state)) (t ∷ ts) then Idle else Panicked
 
+-- "status (0 running, 1 idle, 2 halted, 3 panicked)": running while somebody runs
 unfoldable pub status : Tables → Status
 status T = by-runner (status-without (T .threads)) (λ n s. Working) (T .runner)

@@ -60,5 +60,6 @@ told-gone s = by-state Nothing (by-wanted Nothing (λ n. SenderGone n)) (λ d. N
 unfoldable pub release : List ℕ → Tables → Tables
 release set T = wake-by-name (λ t. misses set (t .state)) (λ t. told-gone (t .state)) T
 
+-- all of Ending, for the named thread
 unfoldable pub end : ℕ → Tables → Tables
 end n T = let set = ended-set (T .threads) n in release set (remove set T)

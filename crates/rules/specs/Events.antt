@@ -10,9 +10,11 @@ use Rattle.rules.specs.Words.{Wanted, Anybody, Only, Program, Tlb, SysBp
 use Rattle.rules.specs.Tags.{tag-facts, argument-rule, meets}
 use Rattle.rules.specs.Pick.{pick}
 
+-- "255 .. anybody" in a receive
 abbrev pub wanted : ℕ → Wanted
 wanted n = if n == nobody then Anybody else Only n
 
+-- "255 for oneself" in request 3
 abbrev pub target : ℕ → Target
 target n = if n == nobody then Oneself else Named n
 
@@ -37,6 +39,7 @@ trap-of k c =
     if k == 2 then ByRunner (Trap SysBp c) else
     Malformed
 
+-- "no pending device or one over 47" makes the event malformed
 unfoldable pub interrupt-of : Picked → ℕ → Event
 interrupt-of p w = if p .refusal == 0 then Interrupt (p .device) w else Malformed
 

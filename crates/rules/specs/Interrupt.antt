@@ -10,6 +10,7 @@ use Rattle.rules.specs.Tables.{Tables, with-held}
 use Rattle.rules.specs.States.{waits-for}
 use Rattle.rules.specs.Waking.{wake-by-name}
 
+-- the word held for a device
 abbrev pub held-for : ℕ → Held → Bool
 held-for d h = h .device == d
 

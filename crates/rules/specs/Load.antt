@@ -67,6 +67,7 @@ at v i = getD v i 0
 abbrev pub word-at : List ℕ → ℕ → ℕ
 word-at v i = number (take 4 (drop i v))
 
+-- field 2
 unfoldable pub thread-from : List ℕ → Thread
 thread-from v =
     record {
@@ -78,9 +79,11 @@ thread-from v =
       answer = answer-from (at v 11) (at v 12) (word-at v 13);
     }
 
+-- field 5
 unfoldable pub message-from : List ℕ → Message
 message-from v = record { to = at v 0; from = at v 1; kind = message-kind-from (at v 2); word = word-at v 3 }
 
+-- field 6
 unfoldable pub held-from : List ℕ → Held
 held-from v = record { device = at v 0; word = word-at v 1 }
 
@@ -93,6 +96,7 @@ values-of n fs = map (λ f. f .value) (keep (λ f. f .tag == n) fs)
 abbrev pub value-of : ℕ → List Field → List ℕ
 value-of n fs = each (λ v. v) (values-of n fs)
 
+-- fields 1 to 6 together
 unfoldable pub tables-from : List Field → Tables
 tables-from fs =
     let v = value-of 1 fs in

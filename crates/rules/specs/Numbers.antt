@@ -34,6 +34,7 @@ beat-ticks = 20
 abbrev pub devices : ℕ
 devices = 48
 
+-- "pending devices 8": eight bytes
 abbrev pub pending-bits : ℕ
 pending-bits = 64
 

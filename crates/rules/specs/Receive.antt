@@ -17,5 +17,6 @@ unfoldable pub received : ℕ → Wanted → Tables → Pulled Message → Outco
 received me w T missing = stop me (Receiving w) T handing Nothing
 received me w T (pulled m ms) = with-messages ms T handing handed m
 
+-- "The oldest message or notice of the wanted sender, or the oldest of all for 255"
 unfoldable pub receive : ℕ → Wanted → Tables → Outcome
 receive me w T = received me w T (pull (wanted-by me w) (T .messages))

@@ -19,6 +19,7 @@ pub record Rule : Type 0 where
   pub holds : Bool
   pub number : ℕ
 
+-- "no." and "given exactly when"
 infix 20 _refuses_
 abbrev pub _refuses_ : Bool → ℕ → Rule
 b refuses n = record { holds = b; number = n }
@@ -53,6 +54,7 @@ needs-runner (Interrupt d w) = false
 abbrev pub wants-nobody : Tables → Wanted → Bool
 wants-nobody T w = by-wanted false (λ n. not (live n T)) w
 
+-- "255 .. in request 3 excepted"
 unfoldable pub ends-nobody : Tables → Target → Bool
 ends-nobody T Oneself = false
 ends-nobody T (Named n) = not (live n T)
@@ -61,6 +63,7 @@ ends-nobody T (Named n) = not (live n T)
 abbrev pub needs-block : ℕ → ℕ → ℕ → Tables → Bool
 needs-block me to w T = not (decides me to T) && not (any (accepts (message to me w)) (T .threads))
 
+-- "none is free": "20 less that number are free" (Blocks)
 abbrev pub no-block-free : Limits → Tables → Bool
 no-block-free L T = leb (L .blocks) (blocks-used T)
 
@@ -85,12 +88,14 @@ call-rules L T me WaitForClock = []
 call-rules L T me (WaitForIo d) = (any (waits-for d) (T .threads) refuses 8) ∷ []
 call-rules L T me (Trap k c) = []
 
+-- what the tables say against an event; tick and interrupt meet none of these
 unfoldable pub own-rules : Limits → Tables → Event → List Rule
 own-rules L T Malformed = []
 own-rules L T (ByRunner c) = call-rules L T (me (T .runner)) c
 own-rules L T Tick = []
 own-rules L T (Interrupt d w) = []
 
+-- the list for one event: 1, 2, 3, then its own
 abbrev pub refusals : Limits → Tables → Event → List Rule
 refusals L T e =
     (over (status T) refuses 1)
@@ -98,5 +103,6 @@ refusals L T e =
     ∷ (needs-runner e && not (runs (T .runner)) refuses 3)
     ∷ own-rules L T e
 
+-- 0: accepted
 unfoldable pub refusal : Limits → Tables → Event → ℕ
 refusal L T e = first-of (refusals L T e)

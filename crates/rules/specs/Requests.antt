@@ -30,9 +30,11 @@ create p T =
     let n = next-name T in
     with-last n (with-ready (T .ready ++ (n ∷ [])) (with-threads (insert (λ t. ltb (t .name) n) (new-thread n p Ready) (T .threads)) T)) handing Result n
 
+-- 1: a son of the requester's own parent
 abbrev pub create-brother : ℕ → Tables → Outcome
 create-brother me T = create (of-thread NoParent (λ t. t .parent) me (T .threads)) T
 
+-- 2: a son of the requester
 abbrev pub create-son : ℕ → Tables → Outcome
 create-son me T = create (ParentIs me) T
 

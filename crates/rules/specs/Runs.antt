@@ -21,6 +21,7 @@ run L T (e ∷ es) = run L (step L T e .tables) es
 unfoldable pub line : Decision → List ℕ
 line d = let a = answer-numbers (d .answer) in d .refusal ∷ d .status ∷ d .runner ∷ a .kind ∷ a .sender ∷ a .word ∷ []
 
+-- "prints per field one line"
 unfoldable pub lines : Limits → Tables → Input → List (List ℕ)
 lines L T [] = []
 lines L T (e ∷ es) = let s = step L T e in line (s .decision) ∷ lines L (s .tables) es

@@ -17,6 +17,7 @@ message to me w = record { to = to; from = me; kind = Ordinary; word = w }
 abbrev pub waits-for-decision : ℕ → ℕ → Thread → Bool
 waits-for-decision me to t = named to t && awaits me t
 
+-- the same, of the receiver's name
 abbrev pub decides : ℕ → ℕ → Tables → Bool
 decides me to T = any (waits-for-decision me to) (T .threads)
 
@@ -25,5 +26,6 @@ unfoldable pub decide : ℕ → ℕ → ℕ → Tables → Tables
 decide me to zero T = wake-by-name (waits-for-decision me to) (λ t. Nothing) (with-messages (keep (λ m. not (notice-of to m)) (T .messages)) T)
 decide me to (suc w) T = end to T
 
+-- "Else the message joins the end of the inbox": see deliver. A decision is no message.
 unfoldable pub send : ℕ → ℕ → ℕ → Tables → Tables
 send me to w T = if decides me to T then decide me to w T else deliver (message to me w) T

@@ -6,6 +6,8 @@ use Rattle.rules.specs.Lists.{_==_}
 use Rattle.rules.specs.Words.{Wanted, State, Running, Ready, Receiving, Clock, Device, Trapped, Managers, Thread, by-state, by-wanted, by-manager}
 use Rattle.rules.specs.Tables.{manager}
 
+-- "A thread is running, ready, receiving (from one name or anybody), waiting for the clock, waiting for a device, or trapped."
+-- One test for each of these that the rules ask about.
 unfoldable pub is-running : State → Bool
 is-running Running = true
 is-running Ready = false
@@ -14,6 +16,7 @@ is-running Clock = false
 is-running (Device d) = false
 is-running (Trapped k) = false
 
+-- "ready"
 unfoldable pub is-ready : State → Bool
 is-ready Running = false
 is-ready Ready = true
@@ -22,6 +25,7 @@ is-ready Clock = false
 is-ready (Device d) = false
 is-ready (Trapped k) = false
 
+-- "waiting for the clock"
 unfoldable pub on-clock : State → Bool
 on-clock Running = false
 on-clock Ready = false
@@ -34,12 +38,15 @@ on-clock (Trapped k) = false
 abbrev pub matches : ℕ → Wanted → Bool
 matches n w = by-wanted true (λ f. f == n) w
 
+-- "If the receiver waits for this sender or for anybody" (Send)
 unfoldable pub receives : ℕ → State → Bool
 receives n s = by-state false (matches n) (λ d. false) (λ k. false) s
 
+-- "waiting for a device"
 unfoldable pub at-device : ℕ → State → Bool
 at-device d s = by-state false (λ w. false) (λ e. d == e) (λ k. false) s
 
+-- "another thread waits for that device" (refusal 8), "The picked device's waiter" (Interrupt)
 abbrev pub waits-for : ℕ → Thread → Bool
 waits-for d t = at-device d (t .state)
 
@@ -51,5 +58,6 @@ wakes-from-outside s = on-clock s || by-state false (λ w. false) (λ d. true) (
 unfoldable pub trapped-on : ℕ → Managers → State → Bool
 trapped-on n g s = by-state false (λ w. false) (λ d. false) (λ k. by-manager false (λ m. n == m) (manager k g)) s
 
+-- "every thread trapped on it" (Ending)
 abbrev pub awaits : ℕ → Thread → Bool
 awaits n t = trapped-on n (t .managers) (t .state)

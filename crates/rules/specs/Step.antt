@@ -30,6 +30,7 @@ serve me T WaitForClock = wait-for-clock me T
 serve me T (WaitForIo d) = wait-for-io me d T
 serve me T (Trap k c) = trap me k c T handing Nothing
 
+-- what an accepted event does before dispatch
 unfoldable pub act : Tables → Event → Outcome
 act T Malformed = T handing Nothing
 act T (ByRunner c) = serve (me (T .runner)) T c
@@ -50,5 +51,6 @@ unfoldable pub settle : ℕ → Tables → Event → Stepped
 settle zero T e = decided 0 (dispatch (act T e))
 settle (suc r) T e = decided (suc r) (T handing Nothing)
 
+-- one event, given by the bytes of its field
 unfoldable pub step : Limits → Tables → List ℕ → Stepped
 step L T bytes = let e = decode bytes in settle (refusal L T e) T e

@@ -133,10 +133,12 @@ answers-right T = all (λ t. answer-in-range (t .answer) && (is-ready (t .state)
 abbrev pub orders-right : Tables → Bool
 orders-right T = chain (λ m n. leb (m .to) (n .to)) (T .messages) && chain (λ h k. ltb (h .device) (k .device)) (T .held)
 
+-- "Table rules: .." as a list, in the order of the document
 abbrev pub table-tests : Limits → Tables → List Bool
 table-tests L T =
     ranges T ∷ names-right L T ∷ parents-right T ∷ places-agree T ∷ devices-right T ∷ names-live T ∷ trapped-right T ∷ inboxes-right T
     ∷ messages-right L T ∷ notices-right T ∷ runner-right (T .ready) (T .runner) ∷ answers-right T ∷ orders-right T ∷ []
 
+-- tables meet the table rules exactly if every test holds
 unfoldable pub table-rules : Limits → Tables → Bool
 table-rules L T = all (λ b. b) (table-tests L T)

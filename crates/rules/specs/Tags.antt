@@ -31,6 +31,7 @@ unfoldable pub facts-in : List Row → ℕ → TagFacts
 facts-in [] n = record { known = false; length = 0; runner = false }
 facts-in (r ∷ rs) n = let later = facts-in rs n in if n == r .tag then record { known = true; length = r .length; runner = r .runner } else later
 
+-- "These facts stand in one table that step and program share"
 unfoldable pub tag-facts : ℕ → TagFacts
 tag-facts n = facts-in rows n
 
@@ -53,10 +54,12 @@ services =
     ∷ record { number = 9; rule = ADevice }
     ∷ []
 
+-- "argument rules too"
 unfoldable pub rule-in : List Service → ℕ → Argument
 rule-in [] n = NoService
 rule-in (s ∷ ss) n = let later = rule-in ss n in if n == s .number then s .rule else later
 
+-- "service not 1 to 9" has the rule NoService
 unfoldable pub argument-rule : ℕ → Argument
 argument-rule n = rule-in services n
 

@@ -29,5 +29,6 @@ beat T =
 unfoldable pub rotate : Tables → Tables
 rotate T = by-runner T (λ n s. if s == 0 then with-runner NoRunner (wake n Nothing T) else T) (T .runner)
 
+-- in this order: count and slice, beat, used-up slice
 unfoldable pub tick : Tables → Tables
 tick T = rotate (beat (charge T))

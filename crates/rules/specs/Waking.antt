@@ -14,6 +14,7 @@ pub record Outcome : Type 0 where
   pub tables : Tables
   pub answer : Answer
 
+-- these tables, and this answer for a runner that goes on
 infix 10 _handing_
 abbrev pub _handing_ : Tables → Answer → Outcome
 T handing a = record { tables = T; answer = a }
@@ -26,6 +27,7 @@ wake-those p a ns T = with-ready (T .ready ++ ns) (with-threads (map (λ t. if p
 abbrev pub wake-by-name : (Thread → Bool) → (Thread → Answer) → Tables → Tables
 wake-by-name p a T = wake-those p a (map (λ t. t .name) (keep p (T .threads))) T
 
+-- one thread "becomes ready", "at its tail"
 abbrev pub wake : ℕ → Answer → Tables → Tables
 wake n a T = wake-those (named n) (λ t. a) (n ∷ []) T
 
@@ -43,6 +45,7 @@ blocks-used T = count (λ m. is-ordinary (m .kind)) (T .messages)
 abbrev pub notice-of : ℕ → Message → Bool
 notice-of n m = not (is-ordinary (m .kind)) && m .from == n
 
+-- "kind (.. 1 message, 2 notice ..), sender and word"
 unfoldable pub handed-as : MessageKind → ℕ → ℕ → Answer
 handed-as Ordinary n w = FromMessage n w
 handed-as Notice n w = FromNotice n w

@@ -1,4 +1,4 @@
-//! The node's nucleus, written from document 01 alone.
+//! The node's nucleus, written from document 01 and the project's readings of it, and not from its rules or code.
 //!
 //! * `numbers`   the document's fixed numbers and the refusals
 //! * `event`     events as bytes, with the one table of facts; the pick
