@@ -104,7 +104,7 @@ thread-back t r =
       answer = answer-back (t .answer) (r .answer) i;
     }
 
-kind-back : (k : MessageKind) → message-kind-from (message-code k) ≡ k
+pub kind-back : (k : MessageKind) → message-kind-from (message-code k) ≡ k
 unfolding message-code
 kind-back Ordinary = refl
 kind-back Notice = refl

@@ -15,7 +15,7 @@ use Rattle.rules.specs.Dump.{thread-value}
 use Rattle.laws.proofs.Words.{Answer, Nothing, FromMessage, FromNotice, SenderGone, Result, State, Thread, MessageKind, Ordinary, Notice, Message}
 use Rattle.laws.proofs.Tests.{_&_}
 use Rattle.laws.proofs.Members.{map-back}
-use Rattle.laws.proofs.Dump.{Ranged, thread-back, thread-ranged}
+use Rattle.laws.proofs.Dump.{Ranged, thread-back, thread-ranged, kind-back}
 use Rattle.lent.specs.Lent.{thread-numbers, message-numbers, thread-of, message-of, state-stands, answer-stands, thread-stands, message-stands, runner-stands, counts-stand, something-stands, tables-of}
 use Rattle.nucleus.specs.View.{view, Fits, Stands}
 use Rattle.nucleus.specs.declared.Rows.{Rows}
@@ -41,11 +41,6 @@ state-again : (s : State) → state-from (state-numbers s .state) (state-numbers
 unfolding state-stands
 state-again s e = rw e (eq-eqb (state-numbers s .state) _ refl & eq-eqb (state-numbers s .detail) _ refl)
 
-kind-same : (k : MessageKind) → message-kind-from (message-code k) ≡ k
-unfolding message-code
-kind-same Ordinary = refl
-kind-same Notice = refl
-
 -- ---- threads and messages
 
 -- the dump's reader gives each field but the words; these stand here as they are
@@ -61,11 +56,11 @@ thread-again t r = state-again (t .state) (ap (λ (u : Thread). u .state) (threa
 
 message-same : (m : Message) → message-of (message-numbers m) ≡ m
 unfolding message-of message-numbers
-message-same m = λ i. record { to = m .to; from = m .from; kind = kind-same (m .kind) i; word = m .word }
+message-same m = λ i. record { to = m .to; from = m .from; kind = kind-back (m .kind) i; word = m .word }
 
 message-again : (m : Message) → message-stands (message-numbers m) ≡ true
 unfolding message-stands message-numbers
-message-again m = eq-eqb (message-code (message-kind-from (message-code (m .kind)))) _ (ap message-code (kind-same (m .kind)))
+message-again m = eq-eqb (message-code (message-kind-from (message-code (m .kind)))) _ (ap message-code (kind-back (m .kind)))
 
 -- ---- rows
 

@@ -10,6 +10,7 @@ use rows::NameRow;
 use rules::Decision;
 
 // A thread as numbers: those of field 2 of the dump.
+#[repr(C)]
 pub struct LentThread {
     pub name: u8,
     pub parent: u8,
@@ -25,6 +26,7 @@ pub struct LentThread {
 }
 
 // A message as numbers: those of field 5 of the dump.
+#[repr(C)]
 pub struct LentMessage {
     pub to: u8,
     pub from: u8,
@@ -32,12 +34,14 @@ pub struct LentMessage {
     pub word: u32,
 }
 
+#[repr(C)]
 pub struct LentMessages {
     pub row: [LentMessage; 40],
     pub n: usize,
 }
 
 // The tables that a caller lends. What stands behind a count means nothing.
+#[repr(C)]
 pub struct Tables {
     pub last: u8,
     pub runner: u8,

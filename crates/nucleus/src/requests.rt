@@ -16,6 +16,7 @@ use rules::State;
 use rules::Target;
 use rules::Thread;
 use rules::TrapKind;
+use rules::numbers;
 ghost use mathlib.Core.Path.{_≡_};
 ghost use mathlib.Core.Bool.{true, false};
 ghost use Prim.Native.Nat.{ℕ, _+_, _%_, _≤_, _<_};
@@ -32,7 +33,7 @@ ghost use Rattle.nucleus.specs.View.{view, Is, Gives, Holds};
 fn successor(name: u8) -> u8
     ensures { λ n. ⌜ n ≡ (name + 1) % names ⌝ }
 {
-    let next = (name as u16 + 1) % 254;
+    let next = (name as u16 + 1) % (numbers::NAMES as u16);
     next as u8
 }
 

@@ -85,7 +85,7 @@ fn act(r: Rows, e: Event) -> Outcome
     }
 }
 
-fn status_code(s: Status) -> u8
+pub fn status_code(s: Status) -> u8
     ensures { λ n. ⌜ n ≡ status-code-of s ⌝ }
 {
     match s {

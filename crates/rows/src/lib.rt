@@ -11,6 +11,7 @@ use rules::Message;
 use rules::Thread;
 
 // Thread names: the ready queue and the clock queue, front first, and the set of those that end.
+#[repr(C)]
 pub struct NameRow {
     pub row: [u8; 20],
     pub n: usize,
@@ -29,6 +30,7 @@ pub struct MessageRow {
 }
 
 // Held words by rising device.
+#[repr(C)]
 pub struct HeldRow {
     pub row: [Held; 48],
     pub n: usize,

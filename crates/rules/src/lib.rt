@@ -75,6 +75,7 @@ pub struct Message {
 }
 
 // A status word that came when nobody waited for its device.
+#[repr(C)]
 pub struct Held {
     pub device: u8,
     pub word: u32,
@@ -130,6 +131,7 @@ pub struct Decision {
 }
 
 // What the pick answers.
+#[repr(C)]
 pub struct Picked {
     pub refusal: u8,
     pub device: u8,
