@@ -1,8 +1,15 @@
-pub mod Alone
 pub mod Both
 pub mod Chains
 pub mod Climbing
+pub mod Inboxing
+pub mod Indexing
+pub mod Leading
 pub mod Looking
+pub mod Marking
+pub mod Noticing
+pub mod Raising
+pub mod Tallying
 pub mod Together
+pub mod Waiters
 pub mod Widths
 pub mod Wraps

@@ -1,8 +1,9 @@
 // The table check: do rows, whatever their values, stand for tables that meet the table rules? A function for each rule of
-// document 01, in its order. Each is a pass over threads or messages; look-ups by name go through `find`.
+// document 01, in its order. Each is a pass over threads or messages; look-ups by name go through the index.
 pub mod answers;
 pub mod devices;
 pub mod inboxes;
+pub mod index;
 pub mod managers;
 pub mod parents;
 pub mod places;

@@ -1,77 +1,94 @@
 // Parents are live, without a cycle, 0 alone has none.
+use crate::index;
 use nucleus::Rows;
-use rows::threads;
 use rules::Parent;
 use rules::Thread;
 ghost use mathlib.Core.Path.{_≡_};
-ghost use mathlib.Core.Bool.{true, false, _&&_, not};
-ghost use Prim.Native.Nat.{ℕ, _≤_};
+ghost use mathlib.Core.List.{List};
+ghost use Prim.Native.Nat.{ℕ, _≤_, _<_};
 ghost use lib.ListN.{take, length};
-ghost use Rattle.rules.specs.Lists.{if_then_else_, _==_, all, count};
-ghost use Rattle.rules.specs.TableRules.{has-parent as has-parent-of, climbs as climbs-of, parents-right as parents-right-of};
+ghost use Rattle.rules.specs.Lists.{_==_, count};
+ghost use Rattle.rules.specs.TableRules.{parents-right as parents-right-of};
+ghost use Rattle.rules.specs.declared.Thread.{Thread as ThreadIs};
 ghost use Rattle.nucleus.specs.View.{view, Fits};
+ghost use Rattle.table.specs.Index.{Indexed};
+ghost use Rattle.table.specs.Upward.{above as above-of, Upward, Leads, AllLead};
 
-fn has_parent(p: Parent) -> bool
-    ensures { λ b. ⌜ b ≡ has-parent-of p ⌝ }
+// What stands above the thread at the place i of n: its parent's place, n above thread 0. One whose parent is wrong stands above itself,
+// so that going up from it ends nowhere.
+fn above(at: &[u8; 256], n: usize, i: usize, name: u8, p: Parent) -> usize
+    ensures { λ k. ⌜ ((ts : List ThreadIs) → Indexed ts (now (at .entry)) → length ts ≡ n → k ≡ above-of ts i name p) ⌝ }
 {
     match p {
-        Parent::NoParent => false,
-        Parent::ParentIs(_) => true,
-    }
-}
-
-// Going up from a parent comes to a thread without one, in at most k steps. Names are distinct.
-fn climbs(ts: [Thread; 20], n: usize, p: Parent, k: usize) -> bool
-    requires { ⌜ (n ≤ 20) × ((m : ℕ) → count (λ t. m == t .name) (take n ts) ≤ 1) ⌝ }
-    ensures { λ b. ⌜ b ≡ climbs-of k (take n ts) p ⌝ }
-{
-    match p {
-        Parent::NoParent => true,
-        Parent::ParentIs(name) => {
-            if k == 0 {
-                return false;
+        Parent::NoParent => { if name == 0 { n } else { i } }
+        Parent::ParentIs(m) => {
+            if name == 0 {
+                return i;
             }
-            let i = threads::find(ts, n, name);
-            if i < n {
-                let x = ts[i];
-                let above = x.parent;
-                climbs(ts, n, above, k - 1)
-            } else {
-                false
-            }
+            let k = index::place_of(at, m);
+            if k < n { k } else { i }
         }
     }
 }
 
-fn parent_right(ts: [Thread; 20], n: usize, x: Thread) -> bool
-    requires { ⌜ (n ≤ 20) × ((m : ℕ) → count (λ t. m == t .name) (take n ts) ≤ 1) ⌝ }
-    ensures { λ b. ⌜ b ≡ ((if x .name == 0 then not (has-parent-of (x .parent)) else has-parent-of (x .parent)) && climbs-of n (take n ts) (x .parent)) ⌝ }
+// What stands above each thread.
+fn upward(ts: [Thread; 20], n: usize, at: &[u8; 256]) -> [u8; 20]
+    requires { ⌜ (n ≤ 20) × Indexed (take n ts) (now at) ⌝ }
+    ensures { λ up. ⌜ Upward (take n ts) up ⌝ }
 {
-    let p = x.parent;
-    let has = has_parent(p);
-    if x.name == 0 {
-        if has {
-            return false;
-        }
-        return climbs(ts, n, p, n);
-    }
-    if has { climbs(ts, n, p, n) } else { false }
-}
-
-pub fn parents_right(r: Rows) -> bool
-    requires { ⌜ Fits r × ((m : ℕ) → count (λ t. m == t .name) (view r .threads) ≤ 1) ⌝ }
-    ensures { λ b. ⌜ b ≡ parents-right-of (view r) ⌝ }
-{
-    let ts = r.threads;
-    let n = r.count;
+    let mut up = [0u8; 20];
     let mut i = 0;
     while i < n {
         let x = ts[i];
-        if parent_right(ts, n, x) {
+        let p = x.parent;
+        up[i] = above(at, n, i, x.name, p) as u8;
+        i += 1;
+    }
+    up
+}
+
+// Does going up from i come to a place before it, or above all? The rule allows n steps from a parent, and so n + 1 from i.
+fn leads(up: &[u8; 20], n: usize, i: usize) -> bool
+    requires { ⌜ (n ≤ 20) × (i < n) ⌝ }
+    ensures { λ b. ⌜ Leads (now (up .entry)) n i b ⌝ }
+{
+    let mut at = i;
+    let mut k = 0;
+    while k <= n {
+        at = index::wide(up[at]);
+        if at < i {
+            return true;
+        }
+        if n <= at {
+            return true;
+        }
+        k += 1;
+    }
+    false
+}
+
+// From each place in turn: those before it are known to lead above all.
+fn all_lead(up: &[u8; 20], n: usize) -> bool
+    requires { ⌜ n ≤ 20 ⌝ }
+    ensures { λ b. ⌜ AllLead (now (up .entry)) n b ⌝ }
+{
+    let mut i = 0;
+    while i < n {
+        if leads(up, n, i) {
             i += 1;
         } else {
             return false;
         }
     }
     true
+}
+
+pub fn parents_right(r: Rows, at: &[u8; 256]) -> bool
+    requires { ⌜ Fits r × Indexed (view r .threads) (now at) × ((m : ℕ) → count (λ t. m == t .name) (view r .threads) ≤ 1) ⌝ }
+    ensures { λ b. ⌜ b ≡ parents-right-of (view r) ⌝ }
+{
+    let ts = r.threads;
+    let n = r.count;
+    let up = upward(ts, n, at);
+    all_lead(&up, n)
 }

@@ -1,24 +1,26 @@
 // State, runner, ready queue and clock queue agree, each name once; the runner's slice.
+use crate::index;
 use nucleus::Rows;
 use rows::NameRow;
-use rows::names;
 use rows::states;
-use rows::threads;
 use rules::Thread;
 use rules::numbers;
 ghost use mathlib.Core.Path.{_≡_};
-ghost use mathlib.Core.Bool.{true, false, _&&_};
-ghost use Prim.Native.Nat.{ℕ, _≤_};
-ghost use lib.ListN.{take};
+ghost use mathlib.Core.Bool.{true, _&&_};
+ghost use mathlib.Core.List.{List};
+ghost use Prim.Native.Nat.{ℕ, _≤_, _<_};
+ghost use lib.ListN.{take, getD, length};
 ghost use Rattle.rules.specs.Lists.{_==_, one-if as one-if-of, all, any, times-in};
 ghost use Rattle.rules.specs.Tables.{named, runs-as};
 ghost use Rattle.rules.specs.States.{is-running, is-ready, on-clock};
 ghost use Rattle.rules.specs.TableRules.{places-agree as places-agree-of, runner-right as runner-right-of};
 ghost use Rattle.rules.specs.Load.{runner-from};
+ghost use Rattle.rules.specs.declared.Thread.{Thread as ThreadIs};
 ghost use Rattle.rows.specs.Rows.{names-of};
 ghost use Rattle.nucleus.specs.View.{view, Fits};
+ghost use Rattle.table.specs.Index.{Indexed};
 
-fn one_if(b: bool) -> usize
+fn one_if(b: bool) -> u8
     ensures { λ n. ⌜ n ≡ one-if-of b ⌝ }
 {
     if b { 1 } else { 0 }
@@ -34,10 +36,25 @@ fn is_runner(name: u8, runner: u8) -> bool
     name == runner
 }
 
+// How often each name stands in a queue.
+fn tally(q: NameRow) -> [u8; 256]
+    requires { ⌜ q .n ≤ 20 ⌝ }
+    ensures { λ c. ⌜ ((m : ℕ) → m < 256 → getD c m 0 ≡ times-in (names-of q) m) ⌝ }
+{
+    let mut c = [0u8; 256];
+    let n = q.n;
+    let mut i = 0;
+    while i < n {
+        let x = q.row[i] as usize;
+        c[x] += 1;
+        i += 1;
+    }
+    c
+}
+
 // Does a thread run exactly if it is the runner, and stand in each queue as often as its state says?
-fn agrees(x: Thread, runner: u8, slice: u8, ready: NameRow, clock: NameRow) -> bool
-    requires { ⌜ (ready .n ≤ 20) × (clock .n ≤ 20) ⌝ }
-    ensures { λ b. ⌜ b ≡ (one-if-of (is-running (x .state)) == one-if-of (runs-as (x .name) (runner-from runner slice)) && one-if-of (is-ready (x .state)) == times-in (names-of ready) (x .name) && one-if-of (on-clock (x .state)) == times-in (names-of clock) (x .name)) ⌝ }
+fn agrees(x: Thread, runner: u8, slice: u8, in_ready: u8, in_clock: u8) -> bool
+    ensures { λ b. ⌜ b ≡ (one-if-of (is-running (x .state)) == one-if-of (runs-as (x .name) (runner-from runner slice)) && one-if-of (is-ready (x .state)) == in_ready && one-if-of (on-clock (x .state)) == in_clock) ⌝ }
 {
     let s = x.state;
     let runs = one_if(states::is_running(s));
@@ -46,27 +63,31 @@ fn agrees(x: Thread, runner: u8, slice: u8, ready: NameRow, clock: NameRow) -> b
         return false;
     }
     let waits = one_if(states::is_ready(s));
-    if waits != names::times_in(ready, x.name) {
+    if waits != in_ready {
         return false;
     }
     let beats = one_if(states::on_clock(s));
-    beats == names::times_in(clock, x.name)
+    beats == in_clock
 }
 
-fn all_agree(r: Rows) -> bool
-    requires { ⌜ Fits r ⌝ }
-    ensures { λ b. ⌜ b ≡ all (λ t. one-if-of (is-running (t .state)) == one-if-of (runs-as (t .name) (view r .runner)) && one-if-of (is-ready (t .state)) == times-in (view r .ready) (t .name) && one-if-of (on-clock (t .state)) == times-in (view r .clock) (t .name)) (view r .threads) ⌝ }
+fn all_agree(
+    ts: [Thread; 20],
+    n: usize,
+    runner: u8,
+    slice: u8,
+    ready: NameRow,
+    clock: NameRow,
+) -> bool
+    requires { ⌜ (n ≤ 20) × (ready .n ≤ 20) × (clock .n ≤ 20) ⌝ }
+    ensures { λ b. ⌜ b ≡ all (λ t. one-if-of (is-running (t .state)) == one-if-of (runs-as (t .name) (runner-from runner slice)) && one-if-of (is-ready (t .state)) == times-in (names-of ready) (t .name) && one-if-of (on-clock (t .state)) == times-in (names-of clock) (t .name)) (take n ts) ⌝ }
 {
-    let ts = r.threads;
-    let ready = r.ready;
-    let clock = r.clock;
-    let n = r.count;
-    let runner = r.runner;
-    let slice = r.slice;
+    let in_ready = tally(ready);
+    let in_clock = tally(clock);
     let mut i = 0;
     while i < n {
         let x = ts[i];
-        if agrees(x, runner, slice, ready, clock) {
+        let k = x.name as usize;
+        if agrees(x, runner, slice, in_ready[k], in_clock[k]) {
             i += 1;
         } else {
             return false;
@@ -75,15 +96,16 @@ fn all_agree(r: Rows) -> bool
     true
 }
 
-fn all_live(ts: [Thread; 20], n: usize, q: NameRow) -> bool
-    requires { ⌜ (n ≤ 20) × (q .n ≤ 20) ⌝ }
-    ensures { λ b. ⌜ b ≡ all (λ m. any (named m) (take n ts)) (names-of q) ⌝ }
+// Are all names of a queue live?
+fn all_live(at: &[u8; 256], n: usize, q: NameRow) -> bool
+    requires { ⌜ q .n ≤ 20 ⌝ }
+    ensures { λ b. ⌜ ((ts : List ThreadIs) → Indexed ts (now (at .entry)) → length ts ≡ n → b ≡ all (λ m. any (named m) ts) (names-of q)) ⌝ }
 {
     let k = q.n;
     let mut i = 0;
     while i < k {
         let x = q.row[i];
-        if threads::is_live(ts, n, x) {
+        if index::is_live(at, n, x) {
             i += 1;
         } else {
             return false;
@@ -92,26 +114,26 @@ fn all_live(ts: [Thread; 20], n: usize, q: NameRow) -> bool
     true
 }
 
-pub fn places_agree(r: Rows) -> bool
-    requires { ⌜ Fits r ⌝ }
+pub fn places_agree(r: Rows, at: &[u8; 256]) -> bool
+    requires { ⌜ Fits r × Indexed (view r .threads) (now at) ⌝ }
     ensures { λ b. ⌜ b ≡ places-agree-of (view r) ⌝ }
 {
-    if !all_agree(r) {
-        return false;
-    }
     let ts = r.threads;
     let n = r.count;
+    let ready = r.ready;
+    let clock = r.clock;
+    if !all_agree(ts, n, r.runner, r.slice, ready, clock) {
+        return false;
+    }
     if r.runner != numbers::NOBODY {
-        if !threads::is_live(ts, n, r.runner) {
+        if !index::is_live(at, n, r.runner) {
             return false;
         }
     }
-    let ready = r.ready;
-    if !all_live(ts, n, ready) {
+    if !all_live(at, n, ready) {
         return false;
     }
-    let clock = r.clock;
-    all_live(ts, n, clock)
+    all_live(at, n, clock)
 }
 
 // Nobody is ready without a runner; slice 1 to 5 with a runner.

@@ -1,24 +1,26 @@
--- `devices::devices_right` meets its contract. The loop: each thread passed waits for no device, or is the first that waits for it, and no word is held.
+-- `devices::devices_right` meets its contract. The loop: marks say of each device whether a word is held or a thread passed waits, one at most.
 -- Assumes nothing.
 use Prim.Native.Nat.{_-_}
-use mathlib.Core.Path.{sym, _∙_}
-use native.Mathlib.Omega.{arith}
-use lib.ListN.{take}
 use borrow.Author.Needs.{needs}
-use Rattle.rows.specs.Rows.{held-of}
+use Rattle.nucleus.specs.View.{view}
 use Rattle.nucleus.proofs.Sizes.{threads-whole}
-use Rattle.table.proofs.Alone.{Alone, alone-next, alone-fails, alone-ends}
+use Rattle.table.proofs.Waiters.{Waited, wait-starts, wait-skips, wait-next, wait-fails, wait-ends, broken, kept, ranged}
 use Rattle.table.proofs.devices.devices_right.Statement.{statement}
 use Rattle.table.proofs.devices.devices_right.Tie as tie
 
 abbrev Inv-loop : tie.InvT-loop
-Inv-loop ts hs n i₀ i = Alone (take n ts) (held-of hs) i
+Inv-loop ts n marks₀ i₀ marks i = Waited n ts marks₀ marks i
 
 abbrev μ-loop : tie.MeasureT-loop
-μ-loop ts hs n i₀ i = n - i
+μ-loop ts n marks₀ i₀ marks i = n - i
+
+held-marks-requires : tie.Need-held-marks-requires Inv-loop μ-loop
+held-marks-requires c κs = let s = c .before .before in (s .pre .0 .held, ranged (view (s .args .r)) (s .pre .1))
 
 loop-holds : tie.Need-loop-holds Inv-loop μ-loop
-loop-holds c = λ k z h. absurd (omega arith)
+loop-holds c =
+    let s = c .before .before .before in
+    wait-starts _ _ _ _ (threads-whole (s .args .r) _ (s .good .0) (s .pre .0)) (c .held-marks .ensures)
 
 mul-x : tie.Need-mul-x Inv-loop μ-loop
 mul-x c = search needs
@@ -26,8 +28,28 @@ mul-x c = search needs
 array-copy-out-x : tie.Need-array-copy-out-x Inv-loop μ-loop
 array-copy-out-x c = search needs
 
-waits-alone-requires : tie.Need-waits-alone-requires Inv-loop μ-loop
-waits-alone-requires c κs = let f = c .before .before .before .before .before .pre .0 in (f .threads, f .held)
+device-of-requires : tie.Need-device-of-requires Inv-loop μ-loop
+device-of-requires c κs = search needs
+
+cast-if2 : tie.Need-cast-if2 Inv-loop μ-loop
+cast-if2 c = search needs
+
+array-read-if2 : tie.Need-array-read-if2 Inv-loop μ-loop
+array-read-if2 c = search needs
+
+returns : tie.Need-returns Inv-loop μ-loop
+returns c =
+    let l = c .before .before .before .before .before in
+    let s = l .before .before .before .before in
+    let d = c .before .if1 .taken in
+    let two = wait-fails _ _ _ _ _ _ _ (l .loop .inv) (c .before .before .before .before .loop-test .taken) (c .before .before .device-of .ensures) d (c .if2 .taken) in
+    broken (view (s .args .r)) _ (l .before .held-marks .ensures) _ d two
+
+cast-marks : tie.Need-cast-marks Inv-loop μ-loop
+cast-marks c = search needs
+
+array-write-marks : tie.Need-array-write-marks Inv-loop μ-loop
+array-write-marks c = search needs
 
 add-i : tie.Need-add-i Inv-loop μ-loop
 add-i c = search needs
@@ -37,21 +59,25 @@ loop-less c = search needs
 
 loop-again : tie.Need-loop-again Inv-loop μ-loop
 loop-again c =
-    let l = c .before .before .before .before in
-    let s = l .before .before .before in
-    alone-next (s .args .r) (threads-whole (s .args .r) _ (s .good .0) (s .pre .0)) _ _ (l .loop .inv) (c .before .before .before .loop-test .taken) (sym (c .before .waits-alone .ensures) ∙ c .if1 .taken)
+    let l = c .before .before .before .before .before in
+    wait-next _ _ _ _ _ _ _ (l .loop .inv) (c .before .before .before .before .loop-test .taken) (c .before .before .device-of .ensures) (c .before .if1 .taken) (c .if2 .left)
 
-returns : tie.Need-returns Inv-loop μ-loop
-returns c =
+add-i-2 : tie.Need-add-i-2 Inv-loop μ-loop
+add-i-2 c = search needs
+
+loop-less-2 : tie.Need-loop-less-2 Inv-loop μ-loop
+loop-less-2 c = search needs
+
+loop-again-2 : tie.Need-loop-again-2 Inv-loop μ-loop
+loop-again-2 c =
     let l = c .before .before .before .before in
-    let s = l .before .before .before in
-    alone-fails (s .args .r) (threads-whole (s .args .r) _ (s .good .0) (s .pre .0)) (s .pre .1) (s .pre .2) _ _ (c .before .before .before .loop-test .taken) (sym (c .before .waits-alone .ensures) ∙ c .if1 .left)
+    wait-skips _ _ _ _ _ _ _ (l .loop .inv) (c .before .before .before .loop-test .taken) (c .before .device-of .ensures) (c .if1 .left)
 
 returns-2 : tie.Need-returns-2 Inv-loop μ-loop
 returns-2 c =
     let l = c .before in
-    let s = l .before .before .before in
-    alone-ends (s .args .r) (threads-whole (s .args .r) _ (s .good .0) (s .pre .0)) (s .pre .1) (s .pre .2) _ (l .loop .inv) (c .loop-test .left)
+    let s = l .before .before .before .before in
+    kept (view (s .args .r)) _ (l .before .held-marks .ensures) (s .pre .2) (wait-ends _ _ _ _ _ (l .loop .inv) (c .loop-test .left))
 
 pub devices-right-spec : {M : Type 1} → statement M
 devices-right-spec =
@@ -59,12 +85,20 @@ devices-right-spec =
     (tie.spec
     Inv-loop
     μ-loop
+    held-marks-requires
     loop-holds
     mul-x
     array-copy-out-x
-    waits-alone-requires
+    device-of-requires
+    cast-if2
+    array-read-if2
+    returns
+    cast-marks
+    array-write-marks
     add-i
     loop-less
     loop-again
-    returns
+    add-i-2
+    loop-less-2
+    loop-again-2
     returns-2)

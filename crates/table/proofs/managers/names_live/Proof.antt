@@ -9,7 +9,7 @@ use Rattle.rules.specs.TableRules.{wanted-live, entries-right}
 use Rattle.rules.specs.Tables.{Tables, with-threads, start}
 use Rattle.rules.specs.declared.Thread.{Thread}
 use Rattle.rows.proofs.Loops.{Passed, all-starts, all-next, all-fails, all-ends}
-use Rattle.nucleus.proofs.Sizes.{threads-whole}
+use Rattle.nucleus.proofs.Sizes.{threads-whole, threads-count}
 use Rattle.table.proofs.Both.{fails-first, and-then, failed, passed}
 use borrow.Author.Needs.{needs}
 use Rattle.table.proofs.managers.names_live.Statement.{statement}
@@ -20,13 +20,13 @@ abbrev tables : List Thread → Tables
 tables ts = with-threads ts start
 
 abbrev Inv-loop : tie.InvT-loop
-Inv-loop ts n i₀ i = Passed (λ (t : Thread). wanted-live (tables (take n ts)) (t .state) && entries-right (tables (take n ts)) t) n ts i
+Inv-loop at ts n i₀ i = Passed (λ (t : Thread). wanted-live (tables (take n ts)) (t .state) && entries-right (tables (take n ts)) t) n ts i
 
 abbrev μ-loop : tie.MeasureT-loop
-μ-loop ts n i₀ i = n - i
+μ-loop at ts n i₀ i = n - i
 
 loop-holds : tie.Need-loop-holds Inv-loop μ-loop
-loop-holds c = all-starts _ _ _ (threads-whole _ _ (c .before .good .0) (c .before .pre))
+loop-holds c = all-starts _ _ _ (threads-whole _ _ (c .before .good .0) (c .before .pre .0))
 
 mul-x : tie.Need-mul-x Inv-loop μ-loop
 mul-x c = search needs
@@ -39,7 +39,9 @@ wanted-live-requires c κs = search needs
 
 returns : tie.Need-returns Inv-loop μ-loop
 unfolding wanted-live
-returns c = all-fails _ _ _ _ _ (c .before .before .before .before .before .loop .inv) (c .before .before .before .before .loop-test .taken) (fails-first _ (failed (c .before .wanted-live .ensures) (c .if1 .taken)))
+returns c = let s = c .before .before .before .before .before .before .before in
+    let l = threads-count (s .args .r) _ (s .good .0) (s .pre .0) in
+    all-fails _ _ _ _ _ (c .before .before .before .before .before .loop .inv) (c .before .before .before .before .loop-test .taken) (fails-first _ (failed (c .before .wanted-live .ensures _ (s .pre .1) l) (c .if1 .taken)))
 
 entries-right-requires : tie.Need-entries-right-requires Inv-loop μ-loop
 entries-right-requires c κs = search needs
@@ -52,11 +54,15 @@ loop-less c = search needs
 
 loop-again : tie.Need-loop-again Inv-loop μ-loop
 unfolding wanted-live
-loop-again c = all-next _ _ _ _ _ (c .before .before .before .before .before .before .before .loop .inv) (c .before .before .before .before .before .before .loop-test .taken) (and-then (passed (c .before .before .before .wanted-live .ensures) (c .before .before .if1 .left)) (sym (c .before .entries-right .ensures) ∙ c .if2 .taken))
+loop-again c = let s = c .before .before .before .before .before .before .before .before .before in
+    let l = threads-count (s .args .r) _ (s .good .0) (s .pre .0) in
+    all-next _ _ _ _ _ (c .before .before .before .before .before .before .before .loop .inv) (c .before .before .before .before .before .before .loop-test .taken) (and-then (passed (c .before .before .before .wanted-live .ensures _ (s .pre .1) l) (c .before .before .if1 .left)) (sym (c .before .entries-right .ensures _ (s .pre .1) l) ∙ c .if2 .taken))
 
 returns-2 : tie.Need-returns-2 Inv-loop μ-loop
 unfolding wanted-live
-returns-2 c = all-fails _ _ _ _ _ (c .before .before .before .before .before .before .before .loop .inv) (c .before .before .before .before .before .before .loop-test .taken) (and-then (passed (c .before .before .before .wanted-live .ensures) (c .before .before .if1 .left)) (sym (c .before .entries-right .ensures) ∙ c .if2 .left))
+returns-2 c = let s = c .before .before .before .before .before .before .before .before .before in
+    let l = threads-count (s .args .r) _ (s .good .0) (s .pre .0) in
+    all-fails _ _ _ _ _ (c .before .before .before .before .before .before .before .loop .inv) (c .before .before .before .before .before .before .loop-test .taken) (and-then (passed (c .before .before .before .wanted-live .ensures _ (s .pre .1) l) (c .before .before .if1 .left)) (sym (c .before .entries-right .ensures _ (s .pre .1) l) ∙ c .if2 .left))
 
 returns-3 : tie.Need-returns-3 Inv-loop μ-loop
 unfolding wanted-live

@@ -5,7 +5,7 @@ use mathlib.Core.Path.{_∙_}
 use Rattle.rules.specs.Numbers.{small}
 use Rattle.nucleus.specs.View.{view}
 use Rattle.table.proofs.Both.{failed, passed}
-use Rattle.table.proofs.Together.{broken-at, three-left, names-once}
+use Rattle.table.proofs.Together.{broken-at, broken-messages, three-left, names-once}
 use borrow.Author.Needs.{needs}
 use Rattle.table.proofs.rules_met.rules_met.Statement.{statement}
 use Rattle.table.proofs.rules_met.rules_met.Tie as tie
@@ -22,6 +22,9 @@ names-right-requires c κs = search needs
 returns-2 : tie.Need-returns-2
 returns-2 c = broken-at _ _ 1 (failed (c .before .names-right .ensures) (c .if2 .taken))
 
+index-requires : tie.Need-index-requires
+index-requires c κs = search needs
+
 orders-right-requires : tie.Need-orders-right-requires
 orders-right-requires c κs = search needs
 
@@ -30,15 +33,19 @@ returns-3 c = broken-at _ _ 12 (failed (c .before .orders-right .ensures) (c .if
 
 parents-right-requires : tie.Need-parents-right-requires
 parents-right-requires c κs =
-    let n = c .before .before .before in
+    let i = c .before .before .before in
+    let n = i .before .before .before in
     let s = n .before .before .before in
-    (s .pre, names-once small (view (s .args .r)) (passed (n .names-right .ensures) (c .before .before .if2 .left)))
+    (s .pre, i .index .ensures, names-once small (view (s .args .r)) (passed (n .names-right .ensures) (i .before .before .if2 .left)))
 
 returns-4 : tie.Need-returns-4
 returns-4 c = broken-at _ _ 2 (failed (c .before .parents-right .ensures) (c .if4 .taken))
 
 places-agree-requires : tie.Need-places-agree-requires
-places-agree-requires c κs = search needs
+places-agree-requires c κs =
+    let i = c .before .before .before .before .before .before in
+    let s = i .before .before .before .before .before .before in
+    (s .pre, i .index .ensures)
 
 returns-5 : tie.Need-returns-5
 returns-5 c = broken-at _ _ 3 (failed (c .before .places-agree .ensures) (c .if5 .taken))
@@ -51,62 +58,51 @@ returns-6 c = broken-at _ _ 10 (failed (c .before .runner-right .ensures) (c .if
 
 devices-right-requires : tie.Need-devices-right-requires
 devices-right-requires c κs =
-    let o = c .before .before .before .before .before .before .before in
-    let g = o .before .before .before .before in
-    (g .before .pre, passed (g .ranges .ensures) (o .before .before .before .if1 .left), passed (o .orders-right .ensures) (c .before .before .before .before .before .before .if3 .left))
+    let o = c .before .before .before .before .before .before .before .before .before in
+    let g = o .before .before .before .before .before .before in
+    (g .before .pre, passed (g .ranges .ensures) (o .before .before .before .before .before .if1 .left), passed (o .orders-right .ensures) (c .before .before .before .before .before .before .before .before .if3 .left))
 
 returns-7 : tie.Need-returns-7
 returns-7 c = broken-at _ _ 4 (failed (c .before .devices-right .ensures) (c .if7 .taken))
 
-inboxes-right-requires : tie.Need-inboxes-right-requires
-inboxes-right-requires c κs = search needs
+messages-met-requires : tie.Need-messages-met-requires
+messages-met-requires c κs =
+    let p = c .before .before .before .before .before .before in
+    let i = p .before .before .before .before .before .before .before in
+    let n = i .before .before .before in
+    let s = n .before .before .before in
+    (s .pre, i .index .ensures, names-once small (view (s .args .r)) (passed (n .names-right .ensures) (i .before .before .if2 .left)))
 
 returns-8 : tie.Need-returns-8
-returns-8 c = broken-at _ _ 7 (failed (c .before .inboxes-right .ensures) (c .if8 .taken))
-
-messages-right-requires : tie.Need-messages-right-requires
-messages-right-requires c κs = search needs
-
-returns-9 : tie.Need-returns-9
-returns-9 c = broken-at _ _ 8 (failed (c .before .messages-right .ensures) (c .if9 .taken))
-
-notices-right-requires : tie.Need-notices-right-requires
-notices-right-requires c κs =
-    let o = c .before .before .before .before .before .before .before .before .before .before .before .before .before in
-    let n = o .before .before in
-    let s = n .before .before .before in
-    (s .pre, names-once small (view (s .args .r)) (passed (n .names-right .ensures) (o .before .if2 .left)))
-
-returns-10 : tie.Need-returns-10
-returns-10 c = broken-at _ _ 9 (failed (c .before .notices-right .ensures) (c .if10 .taken))
+returns-8 c = broken-messages _ _ (failed (c .before .messages-met .ensures) (c .if8 .taken))
 
 threads-right-requires : tie.Need-threads-right-requires
-threads-right-requires c κs = search needs
+threads-right-requires c κs =
+    let p = c .before .before .before .before .before .before .before .before .before in
+    let i = p .before .before .before .before .before .before .before in
+    let s = i .before .before .before .before .before .before in
+    (s .pre, i .index .ensures)
 
-returns-11 : tie.Need-returns-11
-returns-11 c =
-    let x = c .before .before in
-    let m = x .before .before in
-    let i = m .before .before in
-    let d = i .before .before in
+returns-9 : tie.Need-returns-9
+returns-9 c =
+    let m = c .before .before .before in
+    let d = m .before .before .before in
     let u = d .before .before in
     let p = u .before .before in
-    let f = p .before .before in
-    let o = f .before .before in
-    let n = o .before .before in
+    let f = p .before .before .before in
+    let o = f .before .before .before in
+    let n = o .before .before .before .before in
     let g = n .before .before in
     c .threads-right .ensures
     ∙ three-left _ _
     (passed (g .ranges .ensures) (n .before .if1 .left))
-    (passed (n .names-right .ensures) (o .before .if2 .left))
-    (passed (f .parents-right .ensures) (p .before .if4 .left))
+    (passed (n .names-right .ensures) (o .before .before .before .if2 .left))
+    (passed (f .parents-right .ensures) (p .before .before .if4 .left))
     (passed (p .places-agree .ensures) (u .before .if5 .left))
-    (passed (d .devices-right .ensures) (i .before .if7 .left))
-    (passed (i .inboxes-right .ensures) (m .before .if8 .left))
-    (passed (m .messages-right .ensures) (x .before .if9 .left))
-    (passed (x .notices-right .ensures) (c .before .if10 .left))
+    (passed (d .devices-right .ensures) (m .before .before .if7 .left))
+    (passed (m .messages-met .ensures) (c .before .before .if8 .left))
     (passed (u .runner-right .ensures) (d .before .if6 .left))
-    (passed (o .orders-right .ensures) (f .before .if3 .left))
+    (passed (o .orders-right .ensures) (f .before .before .if3 .left))
 
 pub rules-met-spec : {M : Type 1} → statement M
 rules-met-spec =
@@ -116,6 +112,7 @@ rules-met-spec =
     returns
     names-right-requires
     returns-2
+    index-requires
     orders-right-requires
     returns-3
     parents-right-requires
@@ -126,11 +123,7 @@ rules-met-spec =
     returns-6
     devices-right-requires
     returns-7
-    inboxes-right-requires
+    messages-met-requires
     returns-8
-    messages-right-requires
-    returns-9
-    notices-right-requires
-    returns-10
     threads-right-requires
-    returns-11)
+    returns-9)
