@@ -1,0 +1,65 @@
+// Reads a dump on standard input. First line: 0, or the refusal. Then a line for each field: the tag, and its values in decimal.
+use dump::load;
+use lines::Span;
+use lines::decimal;
+use lines::tables;
+use lines::window;
+ghost use mathlib.Core.Path.{_≡_};
+ghost use Prim.Native.Nat.{_≤_};
+ghost use lib.ListN.{length};
+
+// The buffer is longer than any dump, so that bytes that fill it are none. Each round but the last reads a byte or more.
+const ROUNDS: u64 = 4097;
+
+fn say(text: &[u8]) {
+    io::write_all(libc::STDERR_FILENO, text);
+}
+
+// The first n bytes are written, all of them.
+fn print(out: &[u8], n: usize)
+    requires { ⌜ n ≤ length (now out) ⌝ }
+{
+    if !io::write_all(libc::STDOUT_FILENO, &out[..n]) {
+        say(b"inspect: cannot write\n");
+    }
+}
+
+// A line of one number.
+fn print_number(n: u64, out: &mut [u8])
+    requires { ⌜ 65536 ≤ length (now out) ⌝ }
+    ensures { λ _. ⌜ length (now (out .exit)) ≡ length (now (out .entry)) ⌝ }
+{
+    let row = [n];
+    let k = decimal::put_numbers(out, &row);
+    print(out, k);
+}
+
+fn main() {
+    let mut input = io::buffer();
+    let mut out = io::large_buffer();
+    let mut w = Span {
+        at: 0,
+        held: 0,
+        ended: false,
+        failed: false,
+    };
+    let mut rounds = ROUNDS;
+    while 0 < rounds && !w.ended {
+        rounds -= 1;
+        w = window::refill(&mut input, w);
+        if w.failed {
+            say(b"inspect: cannot read\n");
+            return;
+        }
+    }
+    let held = w.held;
+    let found = load::load_rows(&input[..held]);
+    if !found.good {
+        print_number(13, &mut out);
+        return;
+    }
+    print_number(0, &mut out);
+    let rows = found.rows;
+    let n = tables::put_tables(&mut out, rows);
+    print(&out, n);
+}
