@@ -2,6 +2,7 @@
 
 use crate::event::{bytes::field, first_field, word};
 use crate::node::Node;
+use crate::numbers::Refusal;
 use crate::tables::{RawHeld, RawMessage, RawThread, Tables};
 
 pub const HEAD: u8 = 1;
@@ -142,6 +143,15 @@ fn read_message(value: &[u8]) -> Option<RawMessage> {
 fn read_held(value: &[u8]) -> Option<RawHeld> {
     let value: &[u8; 5] = value.try_into().ok()?;
     Some(RawHeld { device: value[0], word: word(&value[1..5]) })
+}
+
+/// What is to be said of any bytes: 0 or the refusal, then, if they are a
+/// dump, a line per field.
+pub fn inspect(bytes: &[u8]) -> String {
+    match load(bytes) {
+        Some(node) => format!("0\n{}\n", in_decimal(&node.tables()).join("\n")),
+        None => format!("{}\n", Refusal::NoDump.number()),
+    }
 }
 
 /// Field by field in decimal: the tag, then the values.

@@ -8,19 +8,39 @@
 //! * `dump`      the dump's writer and reader
 //! * `lent`      step, dump and load over lent plain tables (refusals 11 to 13)
 //! * `program`   the event program
+//!
+//! And what makes and compares inputs:
+//!
 //! * `random`    a small random source
 //! * `generator` random events that look at the node's state
+//! * `rubbish`   event files that look at nothing
+//! * `rings`     rows and rings of threads that wait for each other
+//! * `census`    what runs reach
+//! * `valid`     random tables that meet the table rules, and their dumps
+//! * `damage`    damaged dumps; `breaks` those with one table rule broken
+//! * `compare`   the comparison of programs under test with this one
+//! * `slips`     programs with one slip each, which it has to find
+//! * `hex`       fields in hex
 
+pub mod breaks;
+pub mod census;
+pub mod compare;
+pub mod damage;
 pub mod dump;
 pub mod event;
 pub mod generator;
+pub mod hex;
 pub mod lent;
 pub mod node;
 pub mod numbers;
 pub mod program;
 pub mod random;
+pub mod rings;
+pub mod rubbish;
+pub mod slips;
 pub mod tables;
 pub mod thread;
+pub mod valid;
 
 pub use dump::load;
 pub use event::pick;

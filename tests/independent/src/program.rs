@@ -1,6 +1,6 @@
 //! The event program.
 
-use crate::node::{Node, Status};
+use crate::node::{Decision, Node, Status};
 use std::io::{self, Read, Write};
 
 /// Cuts a stream of bytes into fields.
@@ -30,31 +30,74 @@ impl<R: Read> FieldReader<R> {
     }
 }
 
+/// The fields of the bytes, the last perhaps cut off.
+pub fn fields_of(bytes: &[u8]) -> Vec<Vec<u8>> {
+    let mut reader = FieldReader::new(bytes);
+    let mut fields = Vec::new();
+    let mut field = Vec::new();
+    while matches!(reader.next_field(&mut field), Ok(true)) {
+        fields.push(field.clone());
+    }
+    fields
+}
+
+/// A run of events from a start, one field after the other.
+pub struct Run<R> {
+    fields: FieldReader<R>,
+    field: Vec<u8>,
+    number: u64,
+    node: Node,
+}
+
+impl<R: Read> Run<R> {
+    pub fn new(input: R) -> Run<R> {
+        Run { fields: FieldReader::new(input), field: Vec::new(), number: 0, node: Node::start() }
+    }
+
+    /// Serve the next field; `None` when the input has ended.
+    pub fn next_decision(&mut self) -> io::Result<Option<Decision>> {
+        if !self.fields.next_field(&mut self.field)? {
+            return Ok(None);
+        }
+        self.number += 1;
+        Ok(Some(self.node.step(&self.field)))
+    }
+
+    /// The field served last.
+    pub fn field(&self) -> &[u8] {
+        &self.field
+    }
+
+    /// How many fields were served.
+    pub fn number(&self) -> u64 {
+        self.number
+    }
+
+    pub fn node(&self) -> &Node {
+        &self.node
+    }
+}
+
 /// Run all events from a start, without output.
 pub fn run_silently(input: impl Read) -> io::Result<Node> {
-    let mut node = Node::start();
-    let mut fields = FieldReader::new(input);
-    let mut field = Vec::new();
-    while fields.next_field(&mut field)? {
-        node.step(&field);
-    }
-    Ok(node)
+    let mut run = Run::new(input);
+    while run.next_decision()?.is_some() {}
+    Ok(run.node)
 }
 
 /// Run all events from a start, one line per field and a last line.
 pub fn run(input: impl Read, mut output: impl Write) -> io::Result<Node> {
-    let mut node = Node::start();
-    let mut fields = FieldReader::new(input);
-    let mut field = Vec::new();
-    let mut number: u64 = 0;
-    while fields.next_field(&mut field)? {
-        number += 1;
-        let decision = node.step(&field);
-        writeln!(output, "{number} {decision}")?;
+    let mut run = Run::new(input);
+    while let Some(decision) = run.next_decision()? {
+        writeln!(output, "{}", line(run.number, &decision))?;
     }
-    writeln!(output, "{}", last_line(node.status()))?;
+    writeln!(output, "{}", last_line(run.node.status()))?;
     output.flush()?;
-    Ok(node)
+    Ok(run.node)
+}
+
+pub fn line(number: u64, decision: &Decision) -> String {
+    format!("{number} {decision}")
 }
 
 pub fn last_line(status: Status) -> &'static str {

@@ -232,7 +232,7 @@ impl Tables {
         })
     }
 
-    fn status_by_dispatch(&self) -> u8 {
+    pub(crate) fn status_by_dispatch(&self) -> u8 {
         let waits = |thread: &RawThread| thread.state == state::CLOCK || thread.state == state::DEVICE;
         if self.has_runner() {
             0
