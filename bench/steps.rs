@@ -1,12 +1,19 @@
-//! steps ROUNDS FILE..: times the step of the independent program and of the proved nucleus over the same events, in one run.
-//! steps only NAME FILE: runs one of them once, for a profiler. NAME: independent, independent-lent, rows, values, check.
+//! steps ROUNDS FILE..: times the steps of three programs over the same events in one run: plain Rust, the independent program and the proved
+//! nucleus. Then the check by itself, of plain Rust and of the proved nucleus, on the same tables.
+//! steps only NAME FILE: runs one of them once, for a profiler. NAME: one of RUNS, check or plain-check.
 //!
 //! A time is the best of ROUNDS. The counts of accepted events must agree; a time is never a test.
 
+mod tables;
+mod timing;
+
 use nucleus::{lent, Node};
+use plain::lent::{step_checked, Tables};
+use plain::Plain;
 use std::hint::black_box;
 use std::process::ExitCode;
-use std::time::Instant;
+use tables::Filled;
+use timing::{best, fields, timed, Run};
 
 // The proved functions: a slice is a pointer, then a length.
 #[link(name = "meter", kind = "static")]
@@ -16,12 +23,19 @@ extern "C" {
     fn meter_check(bytes: *const u8, length: usize) -> u64;
 }
 
-const CHECKS: u64 = 1000;
+const CHECKS: u32 = 1000;
 
-type Run = fn(&[u8]) -> u64;
+const RUNS: [(&str, Run); 6] = [
+    ("plain", plain),
+    ("independent", independent),
+    ("rows", rows),
+    ("plain-checked", plain_checked),
+    ("independent-lent", independent_lent),
+    ("values", values),
+];
 
-const RUNS: [(&str, Run); 4] =
-    [("independent", independent), ("independent-lent", independent_lent), ("rows", rows), ("values", values)];
+/// From here on RUNS work on lent tables, which are checked at each event.
+const LENT: usize = 3;
 
 fn rows(bytes: &[u8]) -> u64 {
     // Any bytes will do: the function has no `requires`.
@@ -36,6 +50,30 @@ fn check(bytes: &[u8]) -> u64 {
     unsafe { meter_check(bytes.as_ptr(), bytes.len()) }
 }
 
+/// Plain Rust, on rows that it keeps and changes in place.
+fn plain(bytes: &[u8]) -> u64 {
+    let mut plain = Plain::start();
+    fields(bytes).filter(|field| plain.step(field).refusal == 0).count() as u64
+}
+
+/// Its step on lent tables: numbers read into rows, checked, stepped, written back.
+fn plain_checked(bytes: &[u8]) -> u64 {
+    let mut tables = Tables::start();
+    fields(bytes).filter(|field| step_checked(&mut tables, field).refusal == 0).count() as u64
+}
+
+/// What meter_check does: the tables that the bytes leave, then 1,000 times their numbers read and checked.
+fn plain_check(bytes: &[u8]) -> u64 {
+    let mut plain = Plain::start();
+    fields(bytes).for_each(|field| _ = plain.step(field));
+    let mut tables = Tables::of(&plain);
+    let passes = |beats: &u32| {
+        tables.beats = *beats;
+        black_box(&tables).meet_rules()
+    };
+    (0..CHECKS).filter(passes).count() as u64
+}
+
 /// The independent program's step on a node that it keeps.
 fn independent(bytes: &[u8]) -> u64 {
     let mut node = Node::start();
@@ -48,82 +86,62 @@ fn independent_lent(bytes: &[u8]) -> u64 {
     fields(bytes).filter(|field| lent::step(&mut tables, field).refusal == 0).count() as u64
 }
 
-/// The fields of a stream; one that is cut off is the last.
-fn fields(mut rest: &[u8]) -> impl Iterator<Item = &[u8]> {
-    std::iter::from_fn(move || {
-        let length = match rest {
-            [] => return None,
-            [_, high, low, ..] => 3 + usize::from(u16::from_be_bytes([*high, *low])),
-            _ => rest.len(),
-        };
-        let (field, behind) = rest.split_at(length.min(rest.len()));
-        rest = behind;
-        Some(field)
-    })
-}
-
-/// Seconds, and what was counted.
-fn timed(run: Run, bytes: &[u8]) -> (f64, u64) {
-    let start = Instant::now();
-    let count = black_box(run(black_box(bytes)));
-    (start.elapsed().as_secs_f64(), count)
-}
-
-fn best(rounds: usize, run: Run, bytes: &[u8]) -> f64 {
-    (0..rounds).map(|_| timed(run, bytes).0).fold(f64::INFINITY, f64::min)
-}
-
-/// The time of one check by itself, of the tables after the first 1,000 events; the run up to there is taken off.
-fn one_check(rounds: usize, bytes: &[u8]) -> f64 {
-    let part: usize = fields(bytes).take(1000).map(<[u8]>::len).sum();
-    let bytes = &bytes[..part];
-    assert_eq!(check(bytes), CHECKS, "a check failed");
-    (best(rounds, check, bytes) - best(rounds, rows, bytes)) / CHECKS as f64
-}
-
-fn compare(rounds: usize, files: &[Vec<u8>]) {
+fn compare_steps(rounds: usize, files: &[(String, Vec<u8>)]) {
     let mut seconds = [0.0; RUNS.len()];
-    let (mut events, mut accepted, mut checking) = (0, 0, 0.0);
-    for bytes in files {
+    let (mut events, mut accepted) = (0, 0);
+    for (file, bytes) in files {
         let expected = independent(bytes);
-        let mut fastest = [f64::INFINITY; RUNS.len()];
-        // Round by round, so that other work on the machine meets each of them.
-        for _ in 0..rounds {
-            for ((name, run), fastest) in RUNS.iter().zip(&mut fastest) {
-                let (time, count) = timed(*run, bytes);
-                assert_eq!(count, expected, "{name} accepts another number of events");
-                *fastest = fastest.min(time);
-            }
+        for (name, run) in RUNS {
+            assert_eq!(timed(run, bytes).1, expected, "{file}: {name} accepts another number of events");
         }
+        let fastest = best(rounds, RUNS.map(|(_, run)| run), bytes);
         seconds.iter_mut().zip(fastest).for_each(|(sum, time)| *sum += time);
         events += fields(bytes).count();
         accepted += expected;
-        checking += one_check(rounds, bytes) / files.len() as f64;
     }
     println!("{} files, {events} events, {accepted} accepted by each; best of {rounds}", files.len());
-    println!("{:<18} {:>9} {:>8}", "step", "ns/event", "ratio");
-    for ((name, _), time) in RUNS.iter().zip(seconds) {
-        println!("{name:<18} {:>9.1} {:>8.2}", time * 1e9 / events as f64, time / seconds[0]);
+    println!("{:<18} {:>9} {:>9} {:>16}", "step", "ns/event", "to plain", "to plain-checked");
+    for (place, ((name, _), time)) in RUNS.iter().zip(seconds).enumerate() {
+        print!("{name:<18} {:>9.1} {:>9.2}", time * 1e9 / events as f64, time / seconds[0]);
+        println!("{}", if place < LENT { String::new() } else { format!(" {:>16.2}", time / seconds[LENT]) });
     }
-    println!("{:<18} {:>9.1}", "check by itself", checking * 1e9);
+}
+
+/// The time of one check, by plain Rust and by the proved nucleus. The run up to the tables is taken off.
+fn one_check(rounds: usize, filled: &Filled) -> [f64; 2] {
+    for (name, check) in [("plain", plain_check as Run), ("the proved check", check)] {
+        assert_eq!(check(&filled.events), CHECKS.into(), "{name} finds a fault in {}", filled.name);
+    }
+    let [mine, run, proved, run_proved] = best(rounds, [plain_check, plain, check, rows], &filled.events);
+    [mine - run, proved - run_proved].map(|time| time / f64::from(CHECKS))
+}
+
+fn compare_checks(rounds: usize, all: &[Filled]) {
+    println!("\ncheck by itself, ns each: lent numbers read into rows, and the table rules");
+    println!("{} {:>7} {:>7} {:>6}", tables::fill_head(), "plain", "proved", "ratio");
+    for filled in all {
+        let [mine, proved] = one_check(rounds, filled);
+        println!("{} {:>7.1} {:>7.1} {:>6.2}", filled.fill(), mine * 1e9, proved * 1e9, proved / mine);
+    }
 }
 
 fn main() -> ExitCode {
     let arguments: Vec<String> = std::env::args().skip(1).collect();
-    let read = |name: &String| std::fs::read(name).unwrap_or_else(|error| panic!("{name}: {error}"));
     if let [word, name, file] = &arguments[..] {
-        let found = RUNS.iter().chain([&("check", check as Run)]).find(|(other, _)| other == name);
+        let others: [(&str, Run); 2] = [("check", check), ("plain-check", plain_check)];
+        let found = RUNS.iter().chain(&others).find(|(other, _)| other == name);
         if let ("only", Some((_, run))) = (word.as_str(), found) {
-            println!("{}", run(&read(file)));
+            println!("{}", run(&timing::read(file)));
             return ExitCode::SUCCESS;
         }
     }
-    if let [rounds, files @ ..] = &arguments[..] {
-        if let (Ok(rounds), false) = (rounds.parse(), files.is_empty()) {
-            compare(rounds, &files.iter().map(read).collect::<Vec<_>>());
-            return ExitCode::SUCCESS;
-        }
-    }
-    eprintln!("usage: steps ROUNDS FILE..  or  steps only NAME FILE");
-    ExitCode::FAILURE
+    let Some((rounds, files)) = timing::files(&arguments) else {
+        eprintln!("usage: steps ROUNDS FILE..  or  steps only NAME FILE");
+        return ExitCode::FAILURE;
+    };
+    compare_steps(rounds, &files);
+    let mut all = tables::typical(&files);
+    all.extend(tables::fullest());
+    compare_checks(rounds, &all);
+    ExitCode::SUCCESS
 }

@@ -1,0 +1,171 @@
+//! dumps ROUNDS FILE..: times writing and reading a full dump over the same tables in one run, by plain Rust and by the independent program.
+//!
+//! A time is the best of ROUNDS, of 1,000 dumps each. The bytes must agree, and each must be written and read 1,000 times; a time is never a
+//! test.
+
+mod tables;
+mod timing;
+
+use nucleus::{lent, Node};
+use plain::lent::{dump_checked, load_checked, Tables};
+use plain::Plain;
+use std::hint::black_box;
+use std::process::ExitCode;
+use tables::Filled;
+use timing::{best, fields, nothing, Run};
+
+const TIMES: u64 = 1000;
+
+/// Always suffices.
+const BUFFER: usize = 1241;
+
+/// A name, what is timed, and what is taken off its time.
+type Meter = (&'static str, Run, Run);
+
+/// Given events, they step through them from a start, write the dump 1,000 times and give how often that was done. The steps are taken off.
+/// A proved writer is one more line here, after its `extern "C"` function, with meter_rows to be taken off.
+const WRITERS: [Meter; 4] = [
+    ("plain", plain_dump, plain_steps),
+    ("independent", independent_dump, independent_steps),
+    ("plain-checked", plain_dump_checked, plain_steps),
+    ("independent-lent", independent_dump_lent, independent_steps),
+];
+
+/// Given a dump, they read it 1,000 times and give how often it was one. A proved reader is one more line here; it is given the dump too.
+const READERS: [Meter; 4] = [
+    ("plain", plain_load, nothing),
+    ("independent", independent_load, nothing),
+    ("plain-checked", plain_load_checked, nothing),
+    ("independent-lent", independent_load_lent, nothing),
+];
+
+/// The place of plain-checked. What stands before it works on tables that are kept, what stands behind it on lent ones.
+const CHECKED: usize = 2;
+
+fn times(mut done: impl FnMut() -> bool) -> u64 {
+    (0..TIMES).filter(|_| done()).count() as u64
+}
+
+fn plain_after(events: &[u8]) -> Plain {
+    let mut plain = Plain::start();
+    fields(events).for_each(|field| _ = plain.step(field));
+    plain
+}
+
+fn node_after(events: &[u8]) -> Node {
+    let mut node = Node::start();
+    fields(events).for_each(|field| _ = node.step(field));
+    node
+}
+
+fn plain_steps(events: &[u8]) -> u64 {
+    black_box(plain_after(events));
+    0
+}
+
+fn independent_steps(events: &[u8]) -> u64 {
+    black_box(node_after(events));
+    0
+}
+
+/// From rows that are kept.
+fn plain_dump(events: &[u8]) -> u64 {
+    let plain = plain_after(events);
+    let mut buffer = [0; BUFFER];
+    times(|| black_box(&plain).dump(black_box(&mut buffer)).is_ok())
+}
+
+/// From lent tables: numbers read into rows, checked, written.
+fn plain_dump_checked(events: &[u8]) -> u64 {
+    let tables = Tables::of(&plain_after(events));
+    let mut buffer = [0; BUFFER];
+    times(|| dump_checked(black_box(&tables), black_box(&mut buffer)).is_ok())
+}
+
+/// From a node that is kept, into bytes of its own.
+fn independent_dump(events: &[u8]) -> u64 {
+    let node = node_after(events);
+    times(|| !black_box(black_box(&node).dump()).is_empty())
+}
+
+fn independent_dump_lent(events: &[u8]) -> u64 {
+    let tables = node_after(events).tables();
+    let mut buffer = [0; BUFFER];
+    times(|| lent::dump(black_box(&tables), black_box(&mut buffer)).0 == 0)
+}
+
+fn plain_load(dump: &[u8]) -> u64 {
+    times(|| black_box(plain::load(black_box(dump))).is_some())
+}
+
+/// Into lent tables.
+fn plain_load_checked(dump: &[u8]) -> u64 {
+    let mut tables = Tables::start();
+    times(|| load_checked(black_box(&mut tables), black_box(dump)).is_ok())
+}
+
+fn independent_load(dump: &[u8]) -> u64 {
+    times(|| black_box(nucleus::load(black_box(dump))).is_some())
+}
+
+fn independent_load_lent(dump: &[u8]) -> u64 {
+    let mut tables = Node::start().tables();
+    times(|| lent::load(black_box(&mut tables), black_box(dump)) == 0)
+}
+
+/// The dump of these tables, by both.
+fn dump_of(filled: &Filled) -> Vec<u8> {
+    let mut buffer = [0; BUFFER];
+    let length = dump_checked(&filled.tables, &mut buffer).expect("a dump");
+    assert_eq!(buffer[..length], node_after(&filled.events).dump(), "{}: another dump", filled.name);
+    buffer[..length].to_vec()
+}
+
+/// The time of one dump by each meter.
+fn one_dump<const N: usize>(rounds: usize, meters: &[Meter; N], bytes: &[u8]) -> [f64; N] {
+    for (name, run, _) in meters {
+        assert_eq!(run(bytes), TIMES, "{name} refuses a dump");
+    }
+    let whole = best(rounds, meters.map(|(_, run, _)| run), bytes);
+    let off = best(rounds, meters.map(|(_, _, off)| off), bytes);
+    std::array::from_fn(|place| (whole[place] - off[place]) / TIMES as f64)
+}
+
+/// One table: a line for each of the tables, a column for each meter, and the ratios of the sums.
+fn compare<const N: usize>(rounds: usize, title: &str, meters: &[Meter; N], all: &[(&Filled, &[u8], usize)]) {
+    println!("\n{title}");
+    print!("{} {:>5}", tables::fill_head(), "bytes");
+    meters.iter().for_each(|(name, ..)| print!(" {name:>16}"));
+    println!();
+    let mut sums = [0.0; N];
+    for (filled, bytes, length) in all {
+        print!("{} {length:>5}", filled.fill());
+        for (sum, time) in sums.iter_mut().zip(one_dump(rounds, meters, bytes)) {
+            *sum += time;
+            print!(" {:>16.1}", time * 1e9);
+        }
+        println!();
+    }
+    for (place, word) in [(0, "to plain"), (CHECKED, "to plain-checked")] {
+        print!("{:<width$}", word, width = tables::fill_head().len() + 6);
+        sums.iter().for_each(|sum| print!(" {:>16.2}", sum / sums[place]));
+        println!();
+    }
+}
+
+fn main() -> ExitCode {
+    let arguments: Vec<String> = std::env::args().skip(1).collect();
+    let Some((rounds, files)) = timing::files(&arguments) else {
+        eprintln!("usage: dumps ROUNDS FILE..");
+        return ExitCode::FAILURE;
+    };
+    let mut all = tables::typical(&files);
+    all.extend(tables::fullest());
+    let dumps: Vec<Vec<u8>> = all.iter().map(dump_of).collect();
+    let writing: Vec<_> = all.iter().zip(&dumps).map(|(filled, dump)| (filled, &filled.events[..], dump.len())).collect();
+    let reading: Vec<_> = all.iter().zip(&dumps).map(|(filled, dump)| (filled, &dump[..], dump.len())).collect();
+    println!("best of {rounds}, ns a dump");
+    compare(rounds, "writing a dump", &WRITERS, &writing);
+    compare(rounds, "reading a dump", &READERS, &reading);
+    ExitCode::SUCCESS
+}

@@ -1,0 +1,42 @@
+//! The fixed numbers of document 01.
+
+pub const THREADS: usize = 20;
+/// Blocks for ordinary messages.
+pub const BLOCKS: usize = 20;
+/// The ordinary messages, and a notice of each thread.
+pub const MESSAGES: usize = BLOCKS + THREADS;
+pub const DEVICES: usize = 48;
+pub const TRAP_KINDS: u8 = 3;
+/// Names are 0 to 253.
+pub const NAMES: u8 = 254;
+/// The first thread.
+pub const FIRST: u8 = 0;
+/// The SSI as a sender.
+pub const SERVICE: u8 = 254;
+/// A manager entry whose thread has ended.
+pub const GONE: u8 = 254;
+/// Nobody, anybody or oneself.
+pub const NOBODY: u8 = 255;
+pub const SLICE: u8 = 5;
+pub const BEAT: u8 = 20;
+
+/// Kinds of a message, and of the answer that hands it over.
+pub const ORDINARY: u8 = 1;
+pub const NOTICE: u8 = 2;
+
+/// The numbers of refusal.
+pub mod refusal {
+    pub const STOPPED: u8 = 1;
+    pub const MALFORMED: u8 = 2;
+    pub const NO_RUNNER: u8 = 3;
+    pub const NOT_LIVE: u8 = 4;
+    pub const NO_BLOCK: u8 = 5;
+    pub const NO_THREAD_BLOCK: u8 = 6;
+    pub const BROTHER_OF_FIRST: u8 = 7;
+    pub const DEVICE_TAKEN: u8 = 8;
+    pub const NO_DECISION: u8 = 9;
+    pub const OWN_MANAGER: u8 = 10;
+    pub const NO_TABLES: u8 = 11;
+    pub const SHORT_BUFFER: u8 = 12;
+    pub const NO_DUMP: u8 = 13;
+}
