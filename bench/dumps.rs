@@ -1,4 +1,5 @@
-//! dumps ROUNDS FILE..: times writing and reading a full dump over the same tables in one run, by plain Rust and by the independent program.
+//! dumps ROUNDS FILE..: times writing and reading a full dump over the same tables in one run, by plain Rust, by the
+//! independent program and by the proved functions.
 //!
 //! A time is the best of ROUNDS, of 1,000 dumps each. The bytes must agree, and each must be written and read 1,000 times; a time is never a
 //! test.
@@ -23,24 +24,45 @@ const BUFFER: usize = 1241;
 type Meter = (&'static str, Run, Run);
 
 /// Given events, they step through them from a start, write the dump 1,000 times and give how often that was done. The steps are taken off.
-/// A proved writer is one more line here, after its `extern "C"` function, with meter_rows to be taken off.
-const WRITERS: [Meter; 4] = [
+const WRITERS: [Meter; 5] = [
     ("plain", plain_dump, plain_steps),
     ("independent", independent_dump, independent_steps),
+    ("rows", rows_dump, rows_steps),
     ("plain-checked", plain_dump_checked, plain_steps),
     ("independent-lent", independent_dump_lent, independent_steps),
 ];
 
-/// Given a dump, they read it 1,000 times and give how often it was one. A proved reader is one more line here; it is given the dump too.
-const READERS: [Meter; 4] = [
+/// Given a dump, they read it 1,000 times and give how often it was one.
+const READERS: [Meter; 5] = [
     ("plain", plain_load, nothing),
     ("independent", independent_load, nothing),
+    ("rows", rows_load, nothing),
     ("plain-checked", plain_load_checked, nothing),
     ("independent-lent", independent_load_lent, nothing),
 ];
 
 /// The place of plain-checked. What stands before it works on tables that are kept, what stands behind it on lent ones.
-const CHECKED: usize = 2;
+const CHECKED: usize = 3;
+
+// The proved functions: a slice is a pointer, then a length. Any bytes will do: they have no `requires`.
+#[link(name = "meter", kind = "static")]
+extern "C" {
+    fn meter_rows(bytes: *const u8, length: usize) -> u64;
+    fn meter_dump(bytes: *const u8, length: usize) -> u64;
+    fn meter_load(bytes: *const u8, length: usize) -> u64;
+}
+
+fn rows_steps(events: &[u8]) -> u64 {
+    unsafe { meter_rows(events.as_ptr(), events.len()) }
+}
+
+fn rows_dump(events: &[u8]) -> u64 {
+    unsafe { meter_dump(events.as_ptr(), events.len()) }
+}
+
+fn rows_load(dump: &[u8]) -> u64 {
+    unsafe { meter_load(dump.as_ptr(), dump.len()) }
+}
 
 fn times(mut done: impl FnMut() -> bool) -> u64 {
     (0..TIMES).filter(|_| done()).count() as u64

@@ -6,3 +6,4 @@ pub mod Finding
 pub mod Comparing
 pub mod Loading
 pub mod Promises
+pub mod Accepted

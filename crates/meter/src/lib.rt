@@ -1,5 +1,7 @@
 // Functions for bench/steps, which times them. They only measure: a contract here says no more than its function needs to be proved safe and
 // to end. What a step does is promised where the step stands.
+use dump::load;
+use dump::writing;
 use lent::Tables;
 use nucleus::Rows;
 ghost use Prim.Native.Nat.{_<_, _≤_};
@@ -106,4 +108,51 @@ pub extern "C" fn meter_check(s: &[u8]) -> u64 {
         i += 1;
     }
     passed
+}
+
+// How often, of 1,000 times, the dump of the tables that s leaves is written.
+#[no_mangle]
+pub extern "C" fn meter_dump(s: &[u8]) -> u64 {
+    let o = run(s);
+    let r = o.rows;
+    let mut out = io::buffer();
+    let mut written: u64 = 0;
+    let mut i: u32 = 0;
+    while i < 1000 {
+        let n = writing::dump_rows(r, &mut out);
+        if 0 < n {
+            written += 1;
+        }
+        i += 1;
+    }
+    written
+}
+
+// How often, of 1,000 times, these bytes are read as a dump.
+#[no_mangle]
+pub extern "C" fn meter_load(bytes: &[u8]) -> u64 {
+    let mut good: u64 = 0;
+    let mut i: u32 = 0;
+    while i < 1000 {
+        let found = load::load_rows(bytes);
+        if found.good {
+            good += 1;
+        }
+        i += 1;
+    }
+    good
+}
+
+// Reads the bytes, and writes what was read into the buffer: the length, or 0 where they are no dump or the buffer is too short.
+#[no_mangle]
+pub extern "C" fn meter_again(bytes: &[u8], out: &mut [u8]) -> usize {
+    let found = load::load_rows(bytes);
+    if !found.good {
+        return 0;
+    }
+    let rows = found.rows;
+    if out.len() < 1241 {
+        return 0;
+    }
+    writing::dump_rows(rows, out)
 }

@@ -8,7 +8,7 @@ use lib.Seq.{length-take-le}
 use borrow.Author.Tests.{not-false}
 use borrow.Author.Needs.{needs}
 use Rattle.stream.proofs.Placed.{put-within}
-use Rattle.inspect.proofs.Accepted.{accepted-stands}
+use Rattle.dump.proofs.Accepted.{accepted-stands}
 use Rattle.inspect.proofs.main.Statement.{statement}
 use Rattle.inspect.proofs.main.Tie as tie
 use Rattle.inspect.proofs.main.Reads as reads
