@@ -15,23 +15,25 @@ fn say(text: &[u8]) {
     io::write_all(libc::STDERR_FILENO, text);
 }
 
-// The first n bytes are written, all of them.
-fn print(out: &[u8], n: usize)
+// The first n bytes are written, all of them; or nothing more is to be written.
+fn print(out: &[u8], n: usize) -> bool
     requires { ⌜ n ≤ length (now out) ⌝ }
 {
-    if !io::write_all(libc::STDOUT_FILENO, &out[..n]) {
-        say(b"inspect: cannot write\n");
+    if io::write_all(libc::STDOUT_FILENO, &out[..n]) {
+        return true;
     }
+    say(b"inspect: cannot write\n");
+    false
 }
 
 // A line of one number.
-fn print_number(n: u64, out: &mut [u8])
+fn print_number(n: u64, out: &mut [u8]) -> bool
     requires { ⌜ 65536 ≤ length (now out) ⌝ }
     ensures { λ _. ⌜ length (now (out .exit)) ≡ length (now (out .entry)) ⌝ }
 {
     let row = [n];
     let k = decimal::put_numbers(out, &row);
-    print(out, k);
+    print(out, k)
 }
 
 fn main() {
@@ -58,7 +60,9 @@ fn main() {
         print_number(13, &mut out);
         return;
     }
-    print_number(0, &mut out);
+    if !print_number(0, &mut out) {
+        return;
+    }
     let rows = found.rows;
     let n = tables::put_tables(&mut out, rows);
     print(&out, n);

@@ -9,23 +9,23 @@ use Rattle.inspect.proofs.print_number.Lts as lts
 use Rattle.inspect.proofs.print.Reads as print-reads
 use Rattle.lines.proofs.decimal.put_numbers.Reads as put-numbers-reads
 
--- src/main.rt:31:39
+-- src/main.rt:35:39
 slice-aggregate-put-numbers : tie.Need-slice-aggregate-put-numbers
 slice-aggregate-put-numbers c = search needs
 
--- src/main.rt:31:9
+-- src/main.rt:35:9
 put-numbers-requires : tie.Need-put-numbers-requires
 put-numbers-requires c κs = search needs
 
--- src/main.rt:32:5
+-- src/main.rt:36:5
 print-requires : tie.Need-print-requires
 print-requires c κs = put-within (c .before .before .before .put-numbers .ensures)
 
--- src/main.rt:27:1
+-- src/main.rt:30:1
 same-length : tie.Need-same-length
 same-length c = search needs
 
--- src/main.rt:27:1
+-- src/main.rt:30:1
 returns : tie.Need-returns
 returns c = search needs
 
