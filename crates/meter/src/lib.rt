@@ -1,4 +1,4 @@
-// Functions for bench/steps, which times them. They only measure: a contract here says no more than its function needs to be proved safe and
+// Functions for the programs of bench/, which time them. They only measure: a contract here says no more than its function needs to be proved safe and
 // to end. What a step does is promised where the step stands.
 use dump::load;
 use dump::writing;
