@@ -21,7 +21,7 @@ use Rattle.nucleus.specs.View.{view, Fits}
 use Rattle.nucleus.specs.declared.Rows.{Rows}
 use Rattle.nucleus.proofs.Rows as R
 use Rattle.nucleus.proofs.Exits.{runs-now, nobody-runs}
-use Rattle.nucleus.proofs.Stepping.{runner-code}
+use Rattle.events.proofs.Stepping.{runner-code}
 use Rattle.nucleus.proofs.Sizes.{threads-count, ready-count, clock-count, messages-count, held-count}
 
 -- ---- field 1

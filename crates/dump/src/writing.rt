@@ -1,8 +1,8 @@
 // The fields of a dump, each written into the rest of the buffer behind the last one.
+use events::step;
 use lent::codes;
 use nucleus::Rows;
 use nucleus::dispatch;
-use nucleus::step;
 use rows::HeldRow;
 use rows::MessageRow;
 use rows::NameRow;

@@ -1,9 +1,9 @@
 // Tables as lines of numbers, a line for each field of the dump. A line of n numbers needs at most 1 + 21 n bytes.
 use crate::decimal;
+use events::step;
 use lent::codes;
 use nucleus::Rows;
 use nucleus::dispatch;
-use nucleus::step;
 use rows::HeldRow;
 use rows::MessageRow;
 use rows::NameRow;

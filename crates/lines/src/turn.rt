@@ -1,8 +1,8 @@
 // One turn of the event program: the fields that have been read are served, and their lines put into a buffer.
 use crate::Turned;
 use crate::line;
+use events::step;
 use nucleus::Rows;
-use nucleus::step;
 ghost use Prim.Native.Nat.{_+_, _<_};
 ghost use lib.ListN.{length};
 ghost use Rattle.nucleus.specs.View.{view, Stands};

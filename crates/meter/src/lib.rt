@@ -44,7 +44,7 @@ fn run(s: &[u8]) -> Ran
     let mut at = 0;
     while at < s.len() {
         let end = field_end(s, at);
-        let o = nucleus::step::step_rows(r, &s[at..end]);
+        let o = events::step::step_rows(r, &s[at..end]);
         let d = o.decision;
         if d.refusal == 0 {
             accepted += 1;

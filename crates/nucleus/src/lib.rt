@@ -1,18 +1,11 @@
-// The nucleus: what the node keeps, and what each event does to it. A file for each word of document 01.
-// Everything here works on Rows that are known to stand for tables that meet the table rules.
+// What the node keeps, and what is no call of the runner: the moves that events share, start, tick, interrupt, dispatch.
+// Calls are in crates/calls, the step in crates/events. In the three crates there is a file for each word of document 01, and everything works
+// on Rows that are known to stand for tables that meet the table rules.
 pub mod dispatch;
-pub mod ending;
-pub mod events;
 pub mod interrupt;
 pub mod moves;
-pub mod receive;
-pub mod refusals;
-pub mod requests;
-pub mod send;
 pub mod start;
-pub mod step;
 pub mod tick;
-pub mod trap;
 
 use rows::HeldRow;
 use rows::MessageRow;

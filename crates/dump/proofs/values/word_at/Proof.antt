@@ -1,6 +1,6 @@
-use Rattle.nucleus.proofs.Fields.{four-at}
+use Rattle.events.proofs.Fields.{four-at}
 use native.Mathlib.Omega.{arith}
--- `values::word_at` meets its contract: `four-at` of the nucleus.
+-- `values::word_at` meets its contract: `four-at` of crates/events.
 -- Assumes nothing.
 use borrow.Author.Needs.{needs}
 use Rattle.dump.proofs.values.word_at.Statement.{statement}

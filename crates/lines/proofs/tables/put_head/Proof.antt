@@ -11,7 +11,7 @@ use Rattle.rules.specs.Codes.{status-code, slice-code}
 use Rattle.nucleus.specs.View.{view}
 use Rattle.nucleus.specs.declared.Rows.{Rows}
 use Rattle.nucleus.proofs.Exits.{runs-now, nobody-runs}
-use Rattle.nucleus.proofs.Stepping.{runner-code}
+use Rattle.events.proofs.Stepping.{runner-code}
 use Rattle.buffer.proofs.Putting.{said}
 use Rattle.lines.specs.Text.{numbers-line}
 use borrow.Author.Needs.{needs}
