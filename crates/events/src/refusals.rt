@@ -1,9 +1,8 @@
 // Refusals: the tests in the order of the list, each with its number; 0 where none refuses.
-use calls::send;
 use nucleus::Rows;
 use nucleus::dispatch;
-use nucleus::moves;
 use rows::messages;
+use rows::states;
 use rows::threads;
 use rules::Call;
 use rules::Event;
@@ -18,7 +17,7 @@ ghost use Rattle.rules.specs.Numbers.{small};
 ghost use Rattle.rules.specs.declared.Call.the-variants.{Send as SendCall, WaitForIo as IoCall};
 ghost use Rattle.rules.specs.Lists.{_==_};
 ghost use Rattle.rules.specs.Tables.{live};
-ghost use Rattle.rules.specs.Refusals.{over, wants-nobody as wants-nobody-of, ends-nobody as ends-nobody-of, no-block-free as no-block-free-of, no-thread-free as no-thread-free-of, needs-block as needs-block-of, call-rules, first-of, _refuses_, refusal as refusal-of};
+ghost use Rattle.rules.specs.Refusals.{over, wants-nobody as wants-nobody-of, ends-nobody as ends-nobody-of, no-block-free as no-block-free-of, no-thread-free as no-thread-free-of, call-rules, first-of, _refuses_, refusal as refusal-of};
 ghost use Rattle.nucleus.specs.View.{view, Fits, Holds};
 
 // 1: halted or panicked.
@@ -78,38 +77,32 @@ fn no_thread_free(r: Rows) -> bool
     numbers::THREADS <= r.count
 }
 
-// Is a block needed: is the send no decision, and does its receiver not wait for it?
-fn needs_block(r: Rows, me: u8, to: u8, word: u32) -> bool
-    requires { ⌜ Holds r ⌝ }
-    ensures { λ b. ⌜ b ≡ needs-block-of me to word (view r) ⌝ }
-{
-    if send::decides(r, me, to) {
-        return false;
-    }
-    let m = send::message(to, me, word);
-    !moves::is_awaited(r, m)
-}
-
+// 4, 9, 5: the receiver is looked up once, and what the rules ask of all the threads is asked of it.
 fn send_refusal(r: Rows, me: u8, to: u8, word: u32) -> u8
     requires { ⌜ Holds r ⌝ }
     ensures { λ n. ⌜ n ≡ first-of (call-rules small (view r) me (SendCall to word)) ⌝ }
 {
     let ts = r.threads;
-    if !threads::is_live(ts, r.count, to) {
-        return 4;
-    }
-    if send::decides(r, me, to) {
-        if 1 < word {
-            return 9;
+    let i = threads::find(ts, r.count, to);
+    if i < r.count {
+        let x = ts[i];
+        if states::awaits(me, x) {
+            if 1 < word {
+                return 9;
+            }
+            return 0;
         }
-        return 0;
-    }
-    if needs_block(r, me, to, word) {
+        let s = x.state;
+        if states::receives(me, s) {
+            return 0;
+        }
         if no_block_free(r) {
             return 5;
         }
+        0
+    } else {
+        4
     }
-    0
 }
 
 fn device_refusal(r: Rows, d: u8) -> u8

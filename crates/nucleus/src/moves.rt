@@ -16,7 +16,8 @@ ghost use Rattle.rules.specs.Tables.{change, in-state};
 ghost use Rattle.rules.specs.Waking.{accepts, wake as wake-of, queue as queue-of, deliver as deliver-of, stop as stop-of};
 ghost use Rattle.nucleus.specs.View.{view, Is, Holds};
 
-// The thread of a name in another state, with another answer.
+// The thread of a name in another state, with another answer. It is read from o: an element at a variable index of an array that came by
+// value costs a copy of the array in the compiled code.
 pub fn turn(r: Rows, name: u8, s: State, a: Answer) -> Rows
     requires { ⌜ Holds r ⌝ }
     ensures { λ o. ⌜ Is o (change name (in-state s a) (view r)) ⌝ }
@@ -25,7 +26,7 @@ pub fn turn(r: Rows, name: u8, s: State, a: Answer) -> Rows
     let i = threads::find(ts, r.count, name);
     let mut o = r;
     if i < r.count {
-        let x = ts[i];
+        let x = o.threads[i];
         o.threads[i] = states::in_state(s, a, x);
     }
     o

@@ -1,9 +1,10 @@
 // Tick.
 use crate::Rows;
-use crate::moves;
 use rows::names;
+use rows::states;
 use rows::threads;
 use rules::Answer;
+use rules::State;
 use rules::numbers;
 ghost use Prim.Native.Nat.{_<_};
 ghost use Rattle.rules.specs.Tick.{charge as charge-of, beat as beat-of, rotate as rotate-of, tick as tick-of};
@@ -15,21 +16,18 @@ fn charge(r: Rows) -> Rows
     requires { ⌜ Holds r × Steady (view r) ⌝ }
     ensures { λ o. ⌜ Is o (charge-of (view r)) ⌝ }
 {
-    if r.runner == numbers::NOBODY {
-        return r;
-    }
-    let ts = r.threads;
-    let i = threads::find(ts, r.count, r.runner);
     let mut o = r;
-    o.slice = r.slice - 1;
-    if i < r.count {
-        let mut x = ts[i];
-        x.ticks = std::num::wrapping_add_u32(x.ticks, 1);
-        o.threads[i] = x;
-        o
-    } else {
-        o
+    if r.runner != numbers::NOBODY {
+        let ts = r.threads;
+        let i = threads::find(ts, r.count, r.runner);
+        o.slice = r.slice - 1;
+        if i < r.count {
+            let mut x = o.threads[i];
+            x.ticks = std::num::wrapping_add_u32(x.ticks, 1);
+            o.threads[i] = x;
+        }
     }
+    o
 }
 
 // At every twentieth tick the beat rises and the clock waiters become ready.
@@ -57,21 +55,25 @@ fn beat(r: Rows) -> Rows
     }
 }
 
-// A used-up slice sends the runner to the tail.
+// A used-up slice sends the runner to the tail. This is moves::wake written out: the rows are changed in place in one variable, since
+// a second value of Rows that meets it at the end is a copy of them all.
 fn rotate(r: Rows) -> Rows
     requires { ⌜ Holds r ⌝ }
     ensures { λ o. ⌜ Is o (rotate-of (view r)) ⌝ }
 {
-    if r.runner == numbers::NOBODY {
-        return r;
-    }
-    if r.slice == 0 {
-        let mut o = moves::wake(r, r.runner, Answer::Nothing);
+    let mut o = r;
+    if r.runner != numbers::NOBODY && r.slice == 0 {
+        let ts = r.threads;
+        let i = threads::find(ts, r.count, r.runner);
+        if i < r.count {
+            let x = o.threads[i];
+            o.threads[i] = states::in_state(State::Ready, Answer::Nothing, x);
+        }
+        let q = r.ready;
+        o.ready = names::join(q, r.runner);
         o.runner = numbers::NOBODY;
-        o
-    } else {
-        r
     }
+    o
 }
 
 pub fn tick(r: Rows) -> Rows

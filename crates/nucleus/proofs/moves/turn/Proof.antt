@@ -13,14 +13,14 @@ find-requires c κs = search needs
 mul-x : tie.Need-mul-x
 mul-x c = search needs
 
-array-copy-out-x : tie.Need-array-copy-out-x
-array-copy-out-x c = search needs
+element-copy-out-x : tie.Need-element-copy-out-x
+element-copy-out-x c = search needs
 
 in-state-requires : tie.Need-in-state-requires
 in-state-requires c κs = search needs
 
-mul-t11 : tie.Need-mul-t11
-mul-t11 c = search needs
+mul-t10 : tie.Need-mul-t10
+mul-t10 c = search needs
 
 element-set-from-o : tie.Need-element-set-from-o
 element-set-from-o c = search needs
@@ -47,9 +47,9 @@ turn-spec =
     (tie.spec
     find-requires
     mul-x
-    array-copy-out-x
+    element-copy-out-x
     in-state-requires
-    mul-t11
+    mul-t10
     element-set-from-o
     returns
     returns-2)
