@@ -1,1 +1,3 @@
-pub mod Cuts
+pub mod Sizes
+pub mod Reading
+pub mod Parted

@@ -13,25 +13,11 @@ use Rattle.rules.specs.Tables.{Tables}
 use Rattle.rules.specs.Dispatch.{status}
 use Rattle.rules.specs.Step.{Stepped, step}
 use Rattle.fields.specs.Fields.{field-size, whole}
+use Rattle.fields.proofs.Sizes.{size-some, size-within}
 use Rattle.lines.specs.Text.{line}
 use Rattle.lines.specs.Printing.{last-line, prints-in, prints}
 
 -- ---- the first field
-
--- no field is shorter than a byte
-pub size-some : (l : List ℕ) → 0 < length l → 0 < field-size l
-unfolding field-size
-size-some [] h = absurd (omega arith)
-size-some (a ∷ []) h = omega arith
-size-some (a ∷ b ∷ []) h = omega arith
-size-some (a ∷ b ∷ c ∷ l) h = omega arith
-
-pub size-within : (l : List ℕ) → field-size l ≤ length l
-unfolding field-size
-size-within [] = omega arith
-size-within (a ∷ []) = omega arith
-size-within (a ∷ b ∷ []) = omega arith
-size-within (a ∷ b ∷ c ∷ l) = omega arith
 
 -- a field that is all there ends where it ends, whatever comes behind it
 pub size-whole : (a more : List ℕ) → whole a ≡ true → field-size (a ++ more) ≡ field-size a

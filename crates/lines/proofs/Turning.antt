@@ -21,12 +21,13 @@ use Rattle.nucleus.specs.declared.Rows.{Rows}
 use Rattle.nucleus.specs.declared.Stepped.{Stepped}
 use Rattle.nucleus.specs.View.{view, Stands, Steps}
 use Rattle.fields.specs.Fields.{field-size, whole}
+use Rattle.fields.proofs.Sizes.{size-some}
 use Rattle.buffer.specs.Puts.{Puts}
 use Rattle.buffer.proofs.Putting.{rest, back, behind, said, room, puts-none}
 use Rattle.lines.specs.declared.Turned.{Turned}
 use Rattle.lines.specs.Text.{line}
 use Rattle.lines.specs.Printing.{prints, Turns}
-use Rattle.lines.proofs.Streams.{size-some, size-whole, size-last, first-step, past-first, prints-field}
+use Rattle.lines.proofs.Streams.{size-whole, size-last, first-step, past-first, prints-field}
 
 -- ---- bytes in a buffer
 

@@ -18,7 +18,7 @@ pub fn turn(r: Rows, first: u64, input: &[u8], ended: bool, out: &mut [u8]) -> T
     let mut used = 0;
     let mut filled = 0;
     while used < input.len() {
-        let next = fields::next(input, used);
+        let next = fields::field_at(input, used);
         if !next.whole && !ended {
             return Turned {
                 rows,

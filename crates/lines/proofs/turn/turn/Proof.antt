@@ -9,6 +9,7 @@ use native.Mathlib.Omega.{arith}
 use lib.ListN.{length}
 use borrow.Author.Tests.{not-false}
 use Rattle.nucleus.specs.View.{view}
+use Rattle.fields.proofs.Sizes.{Inside, inside}
 use Rattle.buffer.proofs.Putting.{room}
 use Rattle.lines.proofs.Turning.{Going, going-starts, going-on, line-fits, ends-cut, ends-full, ends-served}
 use Rattle.lines.proofs.turn.turn.Statement.{statement}
@@ -21,11 +22,16 @@ Inv-loop first input ended out₀ rows₀ line₀ used₀ filled₀ out rows lin
 abbrev μ-loop : tie.MeasureT-loop
 μ-loop first input ended out₀ rows₀ line₀ used₀ filled₀ out rows line used filled = length input - used
 
+-- the field that `field_at` finds lies inside what was read
+found : (n : tie.After-field-at Inv-loop μ-loop)
+    → Inside (n .before .before .before .before .before .args .input .now) (n .before .before .loop .used) (n .field-at .result)
+found n = inside _ _ _ (n .before .loop-test .taken) (n .field-at .ensures)
+
 loop-holds : tie.Need-loop-holds Inv-loop μ-loop
 loop-holds c = going-starts _ _ _ _ _ (c .before .before .pre .0)
 
-next-requires : tie.Need-next-requires Inv-loop μ-loop
-next-requires c κs = c .loop-test .taken
+field-at-requires : tie.Need-field-at-requires Inv-loop μ-loop
+field-at-requires c κs = tt
 
 same-length : tie.Need-same-length Inv-loop μ-loop
 same-length c = c .before .before .before .before .before .loop .inv .long
@@ -33,7 +39,7 @@ same-length c = c .before .before .before .before .before .loop .inv .long
 returns : tie.Need-returns Inv-loop μ-loop
 returns c =
     let n = c .before .before .before in
-    ends-cut (n .before .before .loop .inv) (c .if2 .taken) (ap not (sym (n .next .ensures .1)) ∙ c .before .if1 .taken)
+    ends-cut (n .before .before .loop .inv) (c .if2 .taken) (ap not (sym (found n .all-there)) ∙ c .before .if1 .taken)
 
 sub-if3 : tie.Need-sub-if3 Inv-loop μ-loop
 sub-if3 c = let g = c .before .before .before .before .loop .inv in omega (arith, g .filled, g .long)
@@ -45,13 +51,13 @@ returns-2 : tie.Need-returns-2 Inv-loop μ-loop
 returns-2 c = ends-full (c .before .before .before .before .before .loop .inv) (c .if3 .taken)
 
 sub-step-rows : tie.Need-sub-step-rows Inv-loop μ-loop
-sub-step-rows c = omega (arith, c .before .before .before .next .ensures .2)
+sub-step-rows c = omega (arith, found (c .before .before .before) .behind)
 
 part-step-rows-start : tie.Need-part-step-rows-start Inv-loop μ-loop
-part-step-rows-start c = omega (arith, c .before .before .before .next .ensures .2)
+part-step-rows-start c = omega (arith, found (c .before .before .before) .behind)
 
 part-step-rows-end : tie.Need-part-step-rows-end Inv-loop μ-loop
-part-step-rows-end c = omega (arith, c .before .before .before .next .ensures .3)
+part-step-rows-end c = omega (arith, found (c .before .before .before) .within)
 
 step-rows-requires : tie.Need-step-rows-requires Inv-loop μ-loop
 step-rows-requires c κs = c .before .before .before .before .before .before .loop .inv .stands
@@ -84,7 +90,7 @@ add-line c =
 loop-less : tie.Need-loop-less Inv-loop μ-loop
 loop-less c =
     let n = c .before .before .before .before .before .before .before .before .before .before .before in
-    omega (arith, n .next .ensures .2, n .next .ensures .3)
+    omega (arith, found n .behind, found n .within)
 
 loop-again : tie.Need-loop-again Inv-loop μ-loop
 loop-again c =
@@ -93,8 +99,8 @@ loop-again c =
     let i = s .before .before .before in
     let n = i .before .before in
     going-on (n .before .before .loop .inv) (n .before .loop-test .taken)
-    (⊎-elim (λ w. inr (not-false _ (w .1 .left))) (λ w. inl (sym (n .next .ensures .1) ∙ not-false _ (w .left))) (i .if1 .came))
-    (n .next .ensures .0) (n .next .ensures .3) (s .step-rows .ensures) (p .put-line .ensures) (p .put-line .kept .0)
+    (⊎-elim (λ w. inr (not-false _ (w .1 .left))) (λ w. inl (sym (found n .all-there) ∙ not-false _ (w .left))) (i .if1 .came))
+    (found n .ends) (found n .within) (s .step-rows .ensures) (p .put-line .ensures) (p .put-line .kept .0)
 
 same-length-3 : tie.Need-same-length-3 Inv-loop μ-loop
 same-length-3 c = c .before .loop .inv .long
@@ -109,7 +115,7 @@ turn-spec =
     Inv-loop
     μ-loop
     loop-holds
-    next-requires
+    field-at-requires
     same-length
     returns
     sub-if3
