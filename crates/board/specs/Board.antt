@@ -5,6 +5,7 @@ use mathlib.Core.Bool.{true, false}
 use mathlib.Core.Path.{_≡_}
 use mathlib.Core.Logic.{_≢_}
 use mathlib.Core.List.{List}
+use Rattle.rules.specs.Lists.{if_then_else_}
 use Rattle.rules.specs.Numbers.{small}
 use Rattle.rules.specs.Codes.{answer-numbers}
 use Rattle.rules.specs.Step.{step}
@@ -23,3 +24,7 @@ pub record Steps (before : Lent) (bytes : List ℕ) (after : Lent) (r : Report) 
   pub leaves : valid before ≡ true → (valid after ≡ true) × (tables-of after ≡ step small (tables-of before) bytes .tables)
   pub refuses : valid before ≡ false → r ≡ report-of no-tables
   pub keeps : r .refusal ≢ 0 → after ≡ before
+
+-- the check of lent tables: refusal 11, or 0
+unfoldable pub check-of : Lent → ℕ
+check-of t = if valid t then 0 else 11

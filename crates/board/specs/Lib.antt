@@ -1,1 +1,3 @@
 pub mod Board
+pub mod Dumps
+pub mod Layout

@@ -1,9 +1,23 @@
-// The nucleus for a board, whose C code lends the tables: so far the step. The entry takes the value behind the reference, calls a function by
-// value and stores what that gives. The contract speaks of what stands behind the reference at entry and at exit.
+// The nucleus for a board, whose C code lends the tables. An entry takes the value behind the reference, calls a function by value and stores
+// what that gives. The contract speaks of what stands behind the reference at entry and at exit.
 pub mod values;
 
+use dump::Dumped;
+use dump::load;
 use lent::Tables;
-ghost use Rattle.board.specs.Board.{Steps};
+use lent::step;
+use rules::Picked;
+use rules::pick;
+ghost use mathlib.Core.Path.{_≡_};
+ghost use mathlib.Core.Bool.{true};
+ghost use lib.ListN.{length};
+ghost use Rattle.rules.specs.Tables.{start as start-of};
+ghost use Rattle.rules.specs.Pick.{pick as pick-of};
+ghost use Rattle.lent.specs.Lent.{tables-of, valid};
+ghost use Rattle.dump.specs.Dumping.{dumped, buffer-after};
+ghost use Rattle.board.specs.Board.{Steps, check-of};
+ghost use Rattle.board.specs.Dumps.{LoadsInto};
+ghost use Rattle.board.specs.Layout.{sizes-of};
 
 // A decision as numbers.
 #[repr(C)]
@@ -22,6 +36,22 @@ pub struct Served {
     pub report: Report,
 }
 
+// How many bytes a Tables and a Report take, and how many suffice for every dump. C code holds its own header to them.
+#[repr(C)]
+pub struct Sizes {
+    pub tables: u32,
+    pub report: u32,
+    pub dump: u32,
+}
+
+// Starting is never refused, and looks at nothing that stood there.
+#[no_mangle]
+pub extern "C" fn nucleus_start(t: &mut Tables)
+    ensures { λ _. ⌜ (valid (now (t .exit)) ≡ true) × (tables-of (now (t .exit)) ≡ start-of) ⌝ }
+{
+    *t = step::start_value();
+}
+
 #[no_mangle]
 pub extern "C" fn nucleus_step(t: &mut Tables, event: &[u8]) -> Report
     ensures { λ r. ⌜ Steps (now (t .entry)) (now (event .entry)) (now (t .exit)) r ⌝ }
@@ -29,4 +59,47 @@ pub extern "C" fn nucleus_step(t: &mut Tables, event: &[u8]) -> Report
     let r = values::step_numbers(*t, event);
     *t = r.tables;
     r.report
+}
+
+// 11 if the tables stand for none that meet the table rules, else 0.
+#[no_mangle]
+pub extern "C" fn nucleus_check(t: &Tables) -> u8
+    ensures { λ n. ⌜ n ≡ check-of (now (t .entry)) ⌝ }
+{
+    values::check_value(*t)
+}
+
+#[no_mangle]
+pub extern "C" fn nucleus_dump(t: &Tables, out: &mut [u8]) -> Dumped
+    ensures { λ d. ⌜ (d ≡ dumped (now (t .entry)) (length (now (out .entry)))) × (now (out .exit) ≡ buffer-after (now (t .entry)) (now (out .entry))) ⌝ }
+{
+    dump::dump::dump_value(*t, out)
+}
+
+// Nothing looks at the tables that came: `load_value` is handed them so that a refused reading stores them back as they were.
+#[no_mangle]
+pub extern "C" fn nucleus_load(t: &mut Tables, bytes: &[u8]) -> u8
+    ensures { λ n. ⌜ LoadsInto (now (t .entry)) (now (bytes .entry)) (now (t .exit)) n ⌝ }
+{
+    let l = load::load_value(*t, bytes);
+    *t = l.tables;
+    l.refusal
+}
+
+#[no_mangle]
+pub extern "C" fn nucleus_pick(pending: u64) -> Picked
+    ensures { λ r. ⌜ r ≡ pick-of pending ⌝ }
+{
+    pick::pick(pending)
+}
+
+#[no_mangle]
+pub extern "C" fn nucleus_sizes() -> Sizes
+    ensures { λ s. ⌜ s ≡ sizes-of ⌝ }
+{
+    Sizes {
+        tables: values::TABLES_BYTES,
+        report: values::REPORT_BYTES,
+        dump: values::DUMP_BYTES,
+    }
 }

@@ -8,7 +8,8 @@ pub mod writing;
 use lent::Tables;
 use nucleus::Rows;
 
-// What writing a dump answers: the refusal, and the dump's length.
+// What writing a dump answers: the refusal, and the dump's length. It is laid out as in C, for the entry of crates/board.
+#[repr(C)]
 pub struct Dumped {
     pub refusal: u8,
     pub length: usize,

@@ -1,0 +1,69 @@
+-- How many bytes the structs take that C code and the library share.
+-- Assumes nothing. What it says of C is the rule that #[repr(C)] names; that the compiler keeps it is not proved.
+use Prim.Native.Nat.{ℕ, _+_, _-_, _*_, _/_}
+use mathlib.Core.List.{List, [], _∷_}
+use lib.Dec.{leb}
+use Rattle.rules.specs.Lists.{if_then_else_}
+use Rattle.board.specs.declared.Sizes.{Sizes}
+
+-- a type in C: its bytes, and the number that its place is a multiple of
+pub record Laid : Type 0 where
+  pub bytes : ℕ
+  pub align : ℕ
+
+-- the next multiple, from n on
+abbrev pub up-to : ℕ → ℕ → ℕ
+up-to align n = (n + (align - 1)) / align * align
+
+-- fields one behind the other, from place n on: where the last one ends
+unfoldable pub end-of : ℕ → List Laid → ℕ
+end-of n [] = n
+end-of n (f ∷ fs) = end-of (up-to (f .align) n + f .bytes) fs
+
+unfoldable pub largest-align : List Laid → ℕ
+largest-align [] = 1
+largest-align (f ∷ fs) = let s = largest-align fs in if leb (f .align) s then s else f .align
+
+-- a struct is filled up to a multiple of the largest of its fields' alignments
+unfoldable pub struct : List Laid → Laid
+struct fs = let s = largest-align fs in record { bytes = up-to s (end-of 0 fs); align = s }
+
+unfoldable pub array : ℕ → Laid → Laid
+array n f = record { bytes = n * f .bytes; align = f .align }
+
+-- the numbers, on a machine of 64 bits
+abbrev pub u8 : Laid
+u8 = record { bytes = 1; align = 1 }
+
+abbrev pub u32 : Laid
+u32 = record { bytes = 4; align = 4 }
+
+abbrev pub usize : Laid
+usize = record { bytes = 8; align = 8 }
+
+-- the structs, field by field (crates/lent/src/lib.rt, crates/rows/src/lib.rt, crates/rules/src/lib.rt, crates/board/src/lib.rt)
+unfoldable pub lent-thread : Laid
+lent-thread = struct (u8 ∷ u8 ∷ u8 ∷ u8 ∷ u8 ∷ u8 ∷ u8 ∷ u8 ∷ u8 ∷ u32 ∷ u32 ∷ [])
+
+unfoldable pub lent-message : Laid
+lent-message = struct (u8 ∷ u8 ∷ u8 ∷ u32 ∷ [])
+
+unfoldable pub held : Laid
+held = struct (u8 ∷ u32 ∷ [])
+
+-- a row of n and its count
+unfoldable pub row : ℕ → Laid → Laid
+row n f = struct (array n f ∷ usize ∷ [])
+
+unfoldable pub lent-tables : Laid
+lent-tables = struct (u8 ∷ u8 ∷ u8 ∷ u8 ∷ u32 ∷ usize ∷ array 20 lent-thread ∷ row 20 u8 ∷ row 20 u8 ∷ row 40 lent-message ∷ row 48 held ∷ [])
+
+unfoldable pub report : Laid
+report = struct (u8 ∷ u8 ∷ u8 ∷ u8 ∷ u8 ∷ u32 ∷ [])
+
+-- "1,241 bytes always suffice" (proofs/DumpRoom.antt)
+abbrev pub enough-for-a-dump : ℕ
+enough-for-a-dump = 1241
+
+unfoldable pub sizes-of : Sizes
+sizes-of = record { tables = lent-tables .bytes; report = report .bytes; dump = enough-for-a-dump }
