@@ -1,0 +1,571 @@
+/* Holds include/nucleus.h to the library, by what the calls do: built and run by tests/board. The last line is 'N passed, M failed'.
+
+   Tables are made through the header, written as a dump by a writer of this file, which knows document 01 alone, and loaded: each
+   field must then be read through the header as it was made. Every call is made with guard bytes around all that is lent to it. */
+#define _POSIX_C_SOURCE 200809L
+#include "nucleus.h"
+
+#include <pthread.h>
+#include <stdio.h>
+#include <string.h>
+
+#define GUARD 0xA5
+#define STRANGER 250       /* a name that no thread has here */
+#define ENOUGH_STACK 65536 /* what docs/BOARD.md says of it */
+
+/* ---- what is lent, with guard bytes around it */
+
+static struct {
+    uint8_t before[64];
+    struct nucleus_tables tables;
+    uint8_t behind[64];
+} room, room_was;
+
+static struct {
+    uint8_t before[61]; /* so that the bytes are not aligned */
+    uint8_t bytes[NUCLEUS_DUMP_BYTES + 100];
+    uint8_t behind[64];
+} buffer, buffer_was;
+
+static struct nucleus_tables *const t = &room.tables;
+static struct nucleus_tables model;
+static unsigned passed, failed;
+static unsigned refusals_met; /* bit n for refusal n */
+
+static void expect(int good, const char *what, unsigned long number)
+{
+    good ? passed++ : failed++;
+    if (!good)
+        printf("FAILED  %s (%lu)\n", what, number);
+}
+
+static void equal(unsigned long found, unsigned long wanted, const char *what, unsigned long number)
+{
+    expect(found == wanted, what, number);
+    if (found != wanted)
+        printf("        found %lu, wanted %lu\n", found, wanted);
+}
+
+static void before_call(void)
+{
+    memcpy(&room_was, &room, sizeof room);
+    memcpy(&buffer_was, &buffer, sizeof buffer);
+}
+
+static int differs(const void *a, const void *b, size_t n)
+{
+    return memcmp(a, b, n) != 0;
+}
+
+/* Behind a call: the guards stand, the tables too where the call may not write them, and the buffer but for what was written. */
+static void after_call(const char *call, unsigned refusal, int tables_stand, size_t written)
+{
+    unsigned long broken = 0; /* a bit for each thing that does not stand */
+    if (refusal > 13 || written > sizeof buffer.bytes) {
+        expect(0, call, refusal);
+        return;
+    }
+    refusals_met |= 1u << refusal;
+    broken |= differs(room.before, room_was.before, sizeof room.before) ? 1 : 0;
+    broken |= differs(room.behind, room_was.behind, sizeof room.behind) ? 2 : 0;
+    broken |= tables_stand && differs(t, &room_was.tables, sizeof *t) ? 4 : 0;
+    broken |= differs(buffer.before, buffer_was.before, sizeof buffer.before) ? 8 : 0;
+    broken |= differs(buffer.behind, buffer_was.behind, sizeof buffer.behind) ? 16 : 0;
+    broken |= differs(buffer.bytes + written, buffer_was.bytes + written, sizeof buffer.bytes - written) ? 32 : 0;
+    expect(broken == 0, call, broken);
+}
+
+static void start(void)
+{
+    before_call();
+    nucleus_start(t);
+    after_call("start", 0, 0, 0);
+}
+
+static struct nucleus_report step(const uint8_t *event, size_t length)
+{
+    memcpy(buffer.bytes, event, length);
+    before_call();
+    struct nucleus_report r = nucleus_step(t, buffer.bytes, length);
+    after_call("step", r.refusal, r.refusal != 0, 0);
+    return r;
+}
+
+static uint8_t check(void)
+{
+    before_call();
+    uint8_t refusal = nucleus_check(t);
+    after_call("check", refusal, 1, 0);
+    return refusal;
+}
+
+static struct nucleus_dumped dump(size_t length)
+{
+    before_call();
+    struct nucleus_dumped d = nucleus_dump(t, buffer.bytes, length);
+    after_call("dump", d.refusal, 1, d.length);
+    return d;
+}
+
+static uint8_t load(const uint8_t *bytes, size_t length)
+{
+    memcpy(buffer.bytes, bytes, length);
+    before_call();
+    uint8_t refusal = nucleus_load(t, buffer.bytes, length);
+    after_call("load", refusal, refusal != 0, 0);
+    return refusal;
+}
+
+/* ---- every field of the tables, by its name in the header */
+
+#define THREAD_FIELDS(F) F(name) F(parent) F(state) F(detail) F(program) F(tlb) F(sysbp) F(kind) F(sender) F(ticks) F(word)
+#define MESSAGE_FIELDS(F) F(to) F(from) F(kind) F(word)
+#define HELD_FIELDS(F) F(device) F(word)
+#define TABLE_FIELDS(F) F(last) F(runner) F(slice) F(since) F(beats) F(count) F(ready.n) F(clock.n) F(messages.n) F(held.n)
+
+/* ENTRY(field, i) for each of them, as far as the model's rows go. */
+#define EACH_FIELD                                                                                                              \
+    TABLE_FIELDS(PLAIN)                                                                                                         \
+    for (size_t i = 0; i < model.count; i++) { THREAD_FIELDS(THREAD) }                                                          \
+    for (size_t i = 0; i < model.ready.n; i++) { ENTRY(ready.row[i], i) }                                                       \
+    for (size_t i = 0; i < model.clock.n; i++) { ENTRY(clock.row[i], i) }                                                       \
+    for (size_t i = 0; i < model.messages.n; i++) { MESSAGE_FIELDS(MESSAGE) }                                                   \
+    for (size_t i = 0; i < model.held.n; i++) { HELD_FIELDS(HELD) }
+#define PLAIN(field) ENTRY(field, 0)
+#define THREAD(field) ENTRY(threads[i].field, i)
+#define MESSAGE(field) ENTRY(messages.row[i].field, i)
+#define HELD(field) ENTRY(held.row[i].field, i)
+
+static int same(unsigned long found, unsigned long wanted, const char *field, size_t i)
+{
+    if (found != wanted)
+        printf("FAILED  %s, i %zu: found %lu, wanted %lu\n", field, i, found, wanted);
+    return found == wanted;
+}
+
+/* The lent tables have the model's fields, and meet the table rules. */
+static void same_as_model(const char *what)
+{
+    int good = 1;
+#define ENTRY(field, i) good &= same(t->field, model.field, #field, i);
+    EACH_FIELD
+#undef ENTRY
+    expect(good, what, 0);
+    equal(check(), 0, what, 1);
+}
+
+/* Puts the model's fields there, into a room that is full of other bits: between the fields and behind the rows they stay. */
+static void put_model(void)
+{
+    memset(t, 0x5A, sizeof *t);
+#define ENTRY(field, i) t->field = model.field;
+    EACH_FIELD
+#undef ENTRY
+}
+
+/* ---- a writer of dumps, from document 01 */
+
+static uint8_t made[NUCLEUS_DUMP_BYTES];
+static size_t made_length;
+
+static void byte(uint8_t b)
+{
+    made[made_length++] = b;
+}
+
+static void word(uint32_t w)
+{
+    for (int shift = 24; shift >= 0; shift -= 8)
+        byte((uint8_t)(w >> shift));
+}
+
+static void head(uint8_t tag, size_t value)
+{
+    byte(tag);
+    byte((uint8_t)(value >> 8));
+    byte((uint8_t)value);
+}
+
+static void thread_field(const struct nucleus_thread *h)
+{
+    head(2, 17);
+    byte(h->name), byte(h->parent), byte(h->state), byte(h->detail);
+    byte(h->program), byte(h->tlb), byte(h->sysbp), word(h->ticks);
+    byte(h->kind), byte(h->sender), word(h->word);
+}
+
+static void names_field(uint8_t tag, const struct nucleus_names *names)
+{
+    head(tag, names->n);
+    for (size_t i = 0; i < names->n; i++)
+        byte(names->row[i]);
+}
+
+static void write_model(uint8_t status)
+{
+    made_length = 0;
+    head(1, 9);
+    byte(status), byte(model.last), byte(model.runner), byte(model.slice), byte(model.since), word(model.beats);
+    for (size_t i = 0; i < model.count; i++)
+        thread_field(&model.threads[i]);
+    names_field(3, &model.ready);
+    names_field(4, &model.clock);
+    for (size_t i = 0; i < model.messages.n; i++) {
+        const struct nucleus_message *m = &model.messages.row[i];
+        head(5, 7);
+        byte(m->to), byte(m->from), byte(m->kind), word(m->word);
+    }
+    for (size_t i = 0; i < model.held.n; i++) {
+        head(6, 5);
+        byte(model.held.row[i].device), word(model.held.row[i].word);
+    }
+}
+
+/* ---- two tables: one with every state and kind, and one as full as can be */
+
+static uint8_t name_of(size_t i)
+{
+    return i % 20 ? (uint8_t)(i % 20 * 11 + 5) : 0;
+}
+
+static void add_message(size_t to, size_t from, uint8_t kind)
+{
+    struct nucleus_message *m = &model.messages.row[model.messages.n];
+    m->to = name_of(to), m->from = name_of(from), m->kind = kind;
+    m->word = 0x81020304u + (uint32_t)model.messages.n++ * 0x01010101u;
+}
+
+static void add_held(uint8_t device)
+{
+    struct nucleus_held *h = &model.held.row[model.held.n++];
+    h->device = device, h->word = 0x91929394u + device * 0x01010101u;
+}
+
+/* Twenty threads with three managers each, in the state and with the detail and answer of these rows. */
+static void make_threads(uint8_t rows[20][4])
+{
+    memset(&model, 0, sizeof model);
+    model.last = 253, model.since = 17, model.beats = 0xC1C2C3C4u, model.count = 20;
+    for (size_t i = 0; i < 20; i++) {
+        struct nucleus_thread *h = &model.threads[i];
+        h->name = name_of(i), h->parent = i ? name_of((i - 1) / 2) : NUCLEUS_NOBODY;
+        h->state = rows[i][0], h->detail = rows[i][1], h->kind = rows[i][2], h->sender = rows[i][3];
+        h->program = name_of(i + 1), h->tlb = name_of(i + 2), h->sysbp = name_of(i + 3);
+        h->ticks = 0xA1A2A3A4u + (uint32_t)i * 0x01010101u;
+        h->word = h->kind == 0 || h->kind == 3 ? 0 : 0xB1B2B3B4u + (uint32_t)i * 0x01010101u;
+    }
+}
+
+static void make_mixed(void)
+{
+    static uint8_t rows[20][4] = {
+        {2, 214, 0, 255}, {1, 0, 0, 255}, {1, 0, 1, 99}, {0, 0, 0, 255}, {1, 0, 2, 77}, {1, 0, 3, 88}, {1, 0, 4, 254},
+        {2, 255, 0, 255}, {2, 27, 0, 255}, {3, 0, 0, 255}, {3, 0, 0, 255}, {3, 0, 0, 255}, {4, 47, 0, 255}, {4, 0, 0, 255},
+        {4, 21, 0, 255}, {5, 0, 0, 255}, {5, 1, 0, 255}, {5, 2, 0, 255}, {5, 0, 0, 255}, {5, 1, 0, 255}};
+    static const uint8_t ready[] = {4, 1, 6, 2, 5}, clock[] = {11, 9, 10};
+    make_threads(rows);
+    model.runner = name_of(3), model.slice = 3;
+    model.threads[1].program = NUCLEUS_NOBODY, model.threads[2].tlb = NUCLEUS_GONE, model.threads[3].sysbp = NUCLEUS_NOBODY;
+    for (size_t i = 0; i < 5; i++)
+        model.ready.row[model.ready.n++] = name_of(ready[i]);
+    for (size_t i = 0; i < 3; i++)
+        model.clock.row[model.clock.n++] = name_of(clock[i]);
+    for (size_t i = 0; i < 20; i++) {
+        if (i != 7)
+            add_message(i, i * 7 + 3, NUCLEUS_MESSAGE);
+        /* a trapped thread's notice is with the manager of its kind */
+        for (size_t k = 15; k < 20; k++)
+            if (name_of(k + 1 + model.threads[k].detail) == name_of(i))
+                add_message(i, k, NUCLEUS_NOTICE);
+    }
+    for (uint8_t d = 1; d < 47; d++)
+        if (d != 21)
+            add_held(d);
+}
+
+/* All are trapped and no notice is read: 40 messages and 48 words. */
+static void make_full(void)
+{
+    static uint8_t rows[20][4];
+    for (size_t i = 0; i < 20; i++)
+        rows[i][0] = NUCLEUS_IS_TRAPPED, rows[i][3] = NUCLEUS_NOBODY;
+    make_threads(rows);
+    model.runner = NUCLEUS_NOBODY, model.slice = 0;
+    for (size_t i = 0; i < 20; i++) {
+        add_message(i, i + 19, NUCLEUS_NOTICE);
+        add_message(i, i + 4, NUCLEUS_MESSAGE);
+    }
+    for (uint8_t d = 0; d < 48; d++)
+        add_held(d);
+}
+
+/* ---- the tests */
+
+static void sizes(void)
+{
+    struct nucleus_sizes s = nucleus_sizes();
+    equal(s.tables, sizeof(struct nucleus_tables), "bytes of tables", 0);
+    equal(s.report, sizeof(struct nucleus_report), "bytes of a report", 0);
+    equal(s.dump, NUCLEUS_DUMP_BYTES, "bytes of a dump", 0);
+}
+
+static void a_start(void)
+{
+    memset(t, 0xFF, sizeof *t);
+    start();
+    memset(&model, 0, sizeof model);
+    model.slice = NUCLEUS_SLICE, model.count = 1;
+    model.threads[0].parent = NUCLEUS_NOBODY, model.threads[0].sender = NUCLEUS_NOBODY;
+    model.threads[0].program = model.threads[0].tlb = model.threads[0].sysbp = NUCLEUS_NOBODY;
+    same_as_model("a start");
+    write_model(NUCLEUS_RUNNING);
+    equal(made_length, 38, "P10's dump", 0);
+    equal(dump(sizeof buffer.bytes).length, 38, "P10's dump", 1);
+    expect(!memcmp(buffer.bytes, made, 38), "P10's dump", 2);
+}
+
+/* The model is loaded as it was made, dumped as it was written, and dumped so too if it is put there through the header. */
+static void there_and_back(const char *what, uint8_t status)
+{
+    write_model(status);
+    memset(t, 0, sizeof *t);
+    equal(load(made, made_length), 0, what, 0);
+    same_as_model(what);
+    for (int way = 0; way < 2; way++) {
+        memset(buffer.bytes, 0x33, sizeof buffer.bytes);
+        struct nucleus_dumped d = dump(made_length);
+        equal(d.refusal, 0, what, 1);
+        equal(d.length, made_length, what, 2);
+        expect(!memcmp(buffer.bytes, made, made_length), what, 3);
+        d = dump(made_length - 1);
+        equal(d.refusal, NUCLEUS_SHORT_BUFFER, what, 4);
+        equal(d.length, 0, what, 5);
+        put_model();
+        same_as_model(what);
+    }
+}
+
+/* The dump just written, cut or changed. Cut behind a whole field 5 or 6 it can be one (docs/DECISIONS.md), not so within a field. */
+static void no_dumps(void)
+{
+    for (size_t n = 0; n < 12; n++)
+        equal(load(made, n), NUCLEUS_NO_DUMP, "a dump cut in field 1", n);
+    equal(load(made, made_length - 1), NUCLEUS_NO_DUMP, "a dump cut short", 0);
+    made[4] = 254;
+    equal(load(made, made_length), NUCLEUS_NO_DUMP, "a name given last that cannot be", 0);
+}
+
+static void reports(const char *what, struct nucleus_report r, const unsigned long wanted[6])
+{
+    equal(r.refusal, wanted[0], what, 0);
+    equal(r.status, wanted[1], what, 1);
+    equal(r.runner, wanted[2], what, 2);
+    equal(r.kind, wanted[3], what, 3);
+    equal(r.sender, wanted[4], what, 4);
+    equal(r.word, wanted[5], what, 5);
+}
+
+/* The tables as they stand are refused by every call that looks at them, and nothing is touched. */
+static void refused_with_11(const char *what)
+{
+    static const uint8_t tick[] = {NUCLEUS_TICK, 0, 0};
+    static const unsigned long wanted[6] = {NUCLEUS_BAD_TABLES, 255, NUCLEUS_NOBODY, 0, NUCLEUS_NOBODY, 0};
+    equal(check(), NUCLEUS_BAD_TABLES, what, 0);
+    reports(what, step(tick, sizeof tick), wanted);
+    struct nucleus_dumped d = dump(sizeof buffer.bytes);
+    equal(d.refusal, NUCLEUS_BAD_TABLES, what, 1);
+    equal(d.length, 0, what, 2);
+}
+
+/* Each field is written through the header with what it cannot be in the mixed tables. */
+static void bad_fields(void)
+{
+#define BAD(field, value)                                                                                                       \
+    put_model();                                                                                                                \
+    t->field = value;                                                                                                           \
+    refused_with_11(#field " = " #value);
+    BAD(last, 254) BAD(runner, NUCLEUS_NOBODY) BAD(slice, 6) BAD(slice, 0) BAD(since, 20)
+    BAD(count, 21) BAD(count, 19) BAD(ready.n, 21) BAD(clock.n, 21) BAD(messages.n, 41) BAD(held.n, 49)
+    BAD(count, (size_t)-1) BAD(ready.n, (size_t)1 << 32) BAD(ready.n, 4) BAD(clock.n, 2) BAD(held.n, (size_t)-1)
+    BAD(threads[19].name, 254) BAD(threads[19].parent, STRANGER) BAD(threads[0].parent, 16) BAD(threads[1].state, 6)
+    BAD(threads[3].detail, 1) BAD(threads[4].program, STRANGER) BAD(threads[4].tlb, STRANGER) BAD(threads[4].sysbp, STRANGER)
+    BAD(threads[1].kind, 5) BAD(threads[1].sender, 254) BAD(threads[1].word, 1) BAD(threads[5].word, 1)
+    BAD(ready.row[4], STRANGER) BAD(clock.row[2], STRANGER)
+    BAD(messages.row[0].to, STRANGER) BAD(messages.row[0].from, STRANGER) BAD(messages.row[0].kind, 3)
+    BAD(held.row[44].device, 48) BAD(held.row[0].device, 0)
+}
+
+
+/* Events, as document 01 writes them, how often, and the report for the last of them. No event: a start. */
+static const struct {
+    const char *hex;
+    unsigned times;
+    unsigned long report[6];
+} events[] = {
+    {NULL, 0, {0}}, /* P1 */
+    {"12 0002 02 00", 1, {0, 0, 0, 4, 254, 1}},
+    {"11 0001 FF", 1, {0, 0, 1, 0, 255, 0}},
+    {"10 0005 00 00000007", 1, {0, 0, 1, 0, 255, 0}},
+    {"12 0002 07 00", 1, {0, 0, 1, 4, 254, 0}},
+    {"12 0002 03 FF", 1, {0, 0, 0, 1, 1, 7}},
+    {"10 0005 01 00000009", 1, {4, 0, 0, 0, 255, 0}},
+    {"12 0002 08 00", 1, {0, 1, 255, 0, 255, 0}},
+    {"10 0005 00 00000001", 1, {3, 1, 255, 0, 255, 0}},
+    {NULL, 0, {0}}, /* P2, and then 1 */
+    {"11 0001 FF", 1, {0, 3, 255, 0, 255, 0}},
+    {"14 0000", 1, {1, 3, 255, 0, 255, 0}},
+    {NULL, 0, {0}}, /* P3 */
+    {"10 0005 00 F1F2F3F4", 20, {0, 0, 0, 0, 255, 0}},
+    {"10 0005 00 00000001", 1, {5, 0, 0, 0, 255, 0}},
+    {"11 0001 00", 1, {0, 0, 0, 1, 0, 0xF1F2F3F4}},
+    {"10 0005 00 00000001", 1, {0, 0, 0, 0, 255, 0}},
+    {NULL, 0, {0}}, /* 7 and P4, P5 */
+    {"12 0002 01 00", 1, {7, 0, 0, 0, 255, 0}},
+    {"12 0002 02 00", 19, {0, 0, 0, 4, 254, 19}},
+    {"12 0002 02 00", 1, {6, 0, 0, 0, 255, 0}},
+    {"14 0000", 94, {0, 0, 18, 0, 255, 0}},
+    {"14 0000", 1, {0, 0, 19, 0, 255, 0}},
+    {NULL, 0, {0}}, /* P6 */
+    {"12 0002 08 00", 1, {0, 1, 255, 0, 255, 0}},
+    {"14 0000", 19, {0, 1, 255, 0, 255, 0}},
+    {"14 0000", 1, {0, 0, 0, 4, 254, 1}},
+    {NULL, 0, {0}}, /* 10, P7, P8; then 0 ends 1 */
+    {"12 0002 04 00", 1, {10, 0, 0, 0, 255, 0}},
+    {"12 0002 02 00", 1, {0, 0, 0, 4, 254, 1}},
+    {"11 0001 FF", 1, {0, 0, 1, 0, 255, 0}},
+    {"12 0002 04 00", 1, {0, 0, 1, 4, 254, 0}},
+    {"13 0005 00 E1E2E3E4", 1, {0, 0, 0, 2, 1, 0xE1E2E3E4}},
+    {"10 0005 01 00000005", 1, {9, 0, 0, 0, 255, 0}},
+    {"10 0005 01 00000001", 1, {0, 0, 0, 0, 255, 0}},
+    {"12 0002 03 01", 1, {4, 0, 0, 0, 255, 0}},
+    {NULL, 0, {0}}, /* 8; two wait for devices, and the lower one is served */
+    {"12 0002 02 00", 1, {0, 0, 0, 4, 254, 1}},
+    {"12 0002 09 05", 1, {0, 0, 1, 0, 255, 0}},
+    {"12 0002 09 05", 1, {8, 0, 1, 0, 255, 0}},
+    {"12 0002 09 2F", 1, {0, 1, 255, 0, 255, 0}},
+    {"15 000C 0000800000000020 D1D2D3D4", 1, {0, 0, 0, 4, 254, 0xD1D2D3D4}},
+    {NULL, 0, {0}}, /* 2; and a receiver whose sender ends */
+    {"", 1, {2, 0, 0, 0, 255, 0}},
+    {"14", 1, {2, 0, 0, 0, 255, 0}},
+    {"14 0000 14 0000", 1, {2, 0, 0, 0, 255, 0}},
+    {"15 000C 0001000000000001 00000000", 1, {2, 0, 0, 0, 255, 0}},
+    {"12 0002 02 00", 1, {0, 0, 0, 4, 254, 1}},
+    {"11 0001 01", 1, {0, 0, 1, 0, 255, 0}},
+    {"13 0005 02 00000001", 1, {0, 0, 0, 3, 1, 0}},
+    {"12 0002 03 FF", 1, {0, 2, 255, 0, 255, 0}},
+    {"", 1, {1, 2, 255, 0, 255, 0}},
+};
+
+static size_t from_hex(const char *hex, uint8_t *bytes)
+{
+    static const char digits[] = "0123456789ABCDEF";
+    size_t n = 0;
+    for (; *hex; hex++)
+        if (*hex != ' ') {
+            bytes[n / 2] = (uint8_t)(bytes[n / 2] * 16 + (strchr(digits, *hex) - digits));
+            n++;
+        }
+    return n / 2;
+}
+
+static void each_event(void)
+{
+    for (size_t i = 0; i < sizeof events / sizeof events[0]; i++) {
+        uint8_t bytes[32] = {0};
+        struct nucleus_report r = {0};
+        if (!events[i].hex) {
+            start();
+            continue;
+        }
+        size_t n = from_hex(events[i].hex, bytes);
+        for (unsigned k = 0; k < events[i].times; k++)
+            r = step(bytes, n);
+        reports(events[i].hex, r, events[i].report);
+        equal(check(), 0, events[i].hex, 6);
+    }
+}
+
+/* A tick changes the fields that it must change, and no others: then the model is changed so too. */
+static void a_tick(void)
+{
+    static const uint8_t tick[] = {NUCLEUS_TICK, 0, 0};
+    static const unsigned long wanted[6] = {0, 0, 38, 0, 255, 0};
+    put_model();
+    reports("a tick", step(tick, sizeof tick), wanted);
+    model.slice--, model.since++, model.threads[3].ticks++;
+    same_as_model("a tick");
+}
+
+/* The deepest ending: 20 threads in one line of parents against the order of names, and the first of them ends. */
+static void the_end_of_all(void)
+{
+    static uint8_t rows[20][4];
+    static const uint8_t end[] = {NUCLEUS_REQUEST, 0, 2, NUCLEUS_TERMINATE, NUCLEUS_NOBODY};
+    static const unsigned long wanted[6] = {0, NUCLEUS_HALTED, NUCLEUS_NOBODY, 0, NUCLEUS_NOBODY, 0};
+    for (size_t i = 0; i < 20; i++)
+        rows[i][0] = i ? NUCLEUS_IS_READY : NUCLEUS_IS_RUNNING, rows[i][3] = NUCLEUS_NOBODY;
+    make_threads(rows);
+    model.runner = 0, model.slice = NUCLEUS_SLICE;
+    for (size_t i = 1; i < 20; i++) {
+        model.threads[i].parent = name_of(i + 1);
+        model.ready.row[model.ready.n++] = name_of(i);
+    }
+    put_model();
+    reports("the end of all", step(end, sizeof end), wanted);
+    equal(t->count, 0, "the end of all", 6);
+}
+
+static void picks(void)
+{
+    static const struct {
+        uint64_t pending;
+        unsigned long refusal, device;
+    } picks[] = {{0, 2, 255}, {1, 0, 0}, {(uint64_t)1 << 47, 0, 47}, {(uint64_t)1 << 48, 2, 255}, {~(uint64_t)0, 2, 255},
+                 {(uint64_t)1 << 40 | 1 << 9 | 1 << 5, 0, 5}, {(uint64_t)1 << 63 | 1, 2, 255}};
+    for (size_t i = 0; i < sizeof picks / sizeof picks[0]; i++) {
+        struct nucleus_picked p = nucleus_pick(picks[i].pending);
+        equal(p.refusal, picks[i].refusal, "refusal of a pick", i);
+        equal(p.device, picks[i].device, "device of a pick", i);
+    }
+}
+
+static void *every_test(void *unused)
+{
+    memset(&room, GUARD, sizeof room);
+    memset(&buffer, GUARD, sizeof buffer);
+    sizes();
+    a_start();
+    make_full();
+    there_and_back("full tables", NUCLEUS_PANICKED);
+    no_dumps();
+    make_mixed();
+    there_and_back("mixed tables", NUCLEUS_RUNNING);
+    no_dumps();
+    bad_fields();
+    a_tick();
+    each_event();
+    the_end_of_all();
+    picks();
+    equal(refusals_met, (1u << 14) - 1, "refusals met, as bits", 0);
+    return unused;
+}
+
+/* All runs on a stack of its own, so that it shows how much of it was written. */
+int main(void)
+{
+    static uint8_t stack[1 << 18];
+    pthread_attr_t with_stack;
+    pthread_t thread;
+    size_t untouched = 0;
+    memset(stack, GUARD, sizeof stack);
+    if (pthread_attr_init(&with_stack) || pthread_attr_setstack(&with_stack, stack, sizeof stack)
+        || pthread_create(&thread, &with_stack, every_test, NULL) || pthread_join(thread, NULL)) {
+        puts("FAILED  no thread with a stack of its own\n0 passed, 1 failed");
+        return 1;
+    }
+    while (untouched < sizeof stack && stack[untouched] == GUARD)
+        untouched++;
+    expect(sizeof stack - untouched <= ENOUGH_STACK, "bytes of stack", sizeof stack - untouched);
+    printf("stack: %zu bytes at the deepest, with the test's own\n%u passed, %u failed\n", sizeof stack - untouched, passed, failed);
+    return failed != 0;
+}
