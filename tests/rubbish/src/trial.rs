@@ -1,0 +1,181 @@
+//! One lent room, handed to every entry. What each answers and what it leaves is held to the independent program, byte by byte.
+
+use crate::events::{self, Known};
+use crate::judge::{judge, written, Ground};
+use crate::lent::{pick, Dumped, Picked, Report, Room, LONGEST};
+use crate::tally::{count, Tally};
+use nucleus::damage::damage;
+use nucleus::random::Random;
+use nucleus::{load, Node};
+use std::fmt::Debug;
+
+/// Refusal 11 of a step: "for 11 both are 255".
+const NO_TABLES: Report = Report { refusal: 11, status: 255, runner: 255, kind: 0, sender: 255, word: 0 };
+/// Events on each lent room, one after the other.
+const EVENTS: u64 = 4;
+/// Bytes on either side of a buffer that must stay.
+const GUARD: usize = 16;
+
+pub struct Trial<'a> {
+    lent: Room,
+    random: &'a mut Random,
+    tally: &'a mut Tally,
+    /// What was answered otherwise.
+    wrong: Vec<String>,
+}
+
+/// Whether the room stands for tables, and what was answered otherwise. `dump` is a dump to be damaged and read.
+pub fn try_room(lent: &Room, dump: &[u8], random: &mut Random, tally: &mut Tally) -> (bool, Vec<String>) {
+    let verdict = judge(lent.tables());
+    tally.note(&verdict);
+    let stands = verdict.is_ok();
+    let mut trial = Trial { lent: *lent, random, tally, wrong: Vec::new() };
+    trial.check(stands);
+    trial.dumps(&verdict);
+    trial.loads(stands, dump);
+    trial.start();
+    trial.pick();
+    trial.steps(verdict);
+    (stands, trial.wrong)
+}
+
+impl Trial<'_> {
+    fn same<T: PartialEq + Debug>(&mut self, what: &str, found: T, expected: T) {
+        if found != expected {
+            self.wrong.push(format!("{what}: expected {expected:?}, found {found:?}"));
+        }
+    }
+
+    fn same_bytes(&mut self, what: &str, found: &[u8], expected: &[u8]) {
+        if found != expected {
+            self.wrong.push(format!("{what}: expected {}, found {}", hex(expected), hex(found)));
+        }
+    }
+
+    /// Every byte of the room, padding and guards too.
+    fn untouched(&mut self, what: &str, room: &Room, before: Room) {
+        if *room != before {
+            let places: Vec<usize> = (0..room.bytes.len()).filter(|&i| room.bytes[i] != before.bytes[i]).collect();
+            let guards = room.guards_stand();
+            self.wrong.push(format!("{what}: the lent bytes changed at {places:?}, the guards stand: {guards}"));
+        }
+    }
+
+    fn check(&mut self, stands: bool) {
+        let mut room = self.lent;
+        let found = room.check();
+        self.same("check", found, if stands { 0 } else { 11 });
+        self.untouched("check", &room, self.lent);
+    }
+
+    /// A buffer that just suffices, a longer one, one a byte short, and any shorter one.
+    fn dumps(&mut self, verdict: &Result<Node, Ground>) {
+        let dump = verdict.as_ref().map(Node::dump).ok();
+        let just = dump.as_ref().map_or(self.random.below(LONGEST as u64 + 1) as usize, Vec::len);
+        let longer = just + self.random.below(60) as usize;
+        let shorter = self.random.below(just as u64 + 1) as usize;
+        for length in [just, longer, just.saturating_sub(1), shorter] {
+            self.dump(dump.as_deref(), length);
+        }
+    }
+
+    /// Into a buffer of this length. Bytes behind the dump stay, and all of them where it is refused.
+    fn dump(&mut self, dump: Option<&[u8]>, length: usize) {
+        let mut out: Vec<u8> = (0..length + 2 * GUARD).map(|_| self.random.byte()).collect();
+        let mut expected = out.clone();
+        let answer = match dump {
+            None => Dumped { refusal: 11, length: 0 },
+            Some(bytes) if bytes.len() > length => Dumped { refusal: 12, length: 0 },
+            Some(bytes) => {
+                expected[GUARD..GUARD + bytes.len()].copy_from_slice(bytes);
+                Dumped { refusal: 0, length: bytes.len() }
+            }
+        };
+        count(&mut self.tally.dumps, answer.refusal);
+        let mut room = self.lent;
+        let found = room.dump(&mut out[GUARD..GUARD + length]);
+        self.same("dump", found, answer);
+        self.same_bytes("the buffer after dump", &out, &expected);
+        self.untouched("dump", &room, self.lent);
+    }
+
+    /// Reading looks at no tables, so any room will do: the bytes that these numbers would be, and a damaged dump.
+    fn loads(&mut self, stands: bool, dump: &[u8]) {
+        if let Some(bytes) = written(self.lent.tables()) {
+            self.load(&bytes, stands);
+        }
+        let (bytes, _) = damage(dump, self.random);
+        self.load(&bytes, load(&bytes).is_some());
+    }
+
+    fn load(&mut self, bytes: &[u8], is_dump: bool) {
+        let mut room = self.lent;
+        let found = room.load(bytes);
+        let answer = if is_dump { 0 } else { 13 };
+        count(&mut self.tally.loads, answer);
+        self.same("load", found, answer);
+        if is_dump {
+            self.shows("load", &mut room, bytes);
+        } else {
+            self.untouched("load", &room, self.lent);
+        }
+    }
+
+    fn start(&mut self) {
+        let mut room = self.lent;
+        room.start();
+        self.shows("start", &mut room, &Node::start().dump());
+    }
+
+    fn pick(&mut self) {
+        let bits = self.random.bits() & self.random.bits() & self.random.bits();
+        let pending = match self.random.below(4) {
+            0 => 0,
+            1 => 1 << self.random.below(64),
+            2 => bits,
+            _ => bits << 16 >> 16,
+        };
+        let (refusal, device) = nucleus::pick(pending);
+        count(&mut self.tally.picks, refusal);
+        self.same("pick", pick(pending), Picked { refusal, device });
+    }
+
+    /// A step leads from the tables that the last one left.
+    fn steps(&mut self, mut verdict: Result<Node, Ground>) {
+        let mut room = self.lent;
+        for _ in 0..EVENTS {
+            let event = events::any(&Known::of(room.tables()), self.random);
+            let before = room;
+            let found = room.step(&event);
+            let expected = verdict.as_mut().map_or(NO_TABLES, |node| node.step(&event).into());
+            count(&mut self.tally.steps, expected.refusal);
+            let known = self.wrong.len();
+            self.same("step", found, expected);
+            match &verdict {
+                Ok(node) if expected.refusal == 0 => self.shows("step", &mut room, &node.dump()),
+                _ => self.untouched("step", &room, before),
+            }
+            if self.wrong.len() > known {
+                self.wrong.insert(known, format!("event {}", hex(&event[..event.len().min(20)])));
+            }
+        }
+    }
+
+    /// The room now stands for the tables of this dump. Its numbers are looked at too, and not by the library's dump alone.
+    fn shows(&mut self, what: &str, room: &mut Room, dump: &[u8]) {
+        let known = self.wrong.len();
+        self.same_bytes("numbers", &written(room.tables()).unwrap_or_default(), dump);
+        let mut out = vec![0; dump.len()];
+        let found = room.dump(&mut out);
+        self.same("dump", found, Dumped { refusal: 0, length: dump.len() });
+        self.same_bytes("bytes of the dump", &out, dump);
+        self.same("guards", room.guards_stand(), true);
+        if self.wrong.len() > known {
+            self.wrong.insert(known, format!("what is left by {what}:"));
+        }
+    }
+}
+
+pub fn hex(bytes: &[u8]) -> String {
+    bytes.iter().map(|byte| format!("{byte:02X}")).collect()
+}
