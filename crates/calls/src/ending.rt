@@ -18,7 +18,7 @@ ghost use Rattle.nucleus.specs.View.{view, Is, Holds, Fits};
 
 // The set closed under dependants: as long as a round adds somebody, another follows.
 // Threads not yet in the set are fewer with each round.
-fn close(set: NameRow, ts: [Thread; 20], n: usize) -> NameRow
+fn close(set: NameRow, ts: [Thread; numbers::THREADS], n: usize) -> NameRow
     requires { ⌜ (n ≤ 20) × (set .n + count (λ t. not (has (t .name) (names-of set))) (take n ts) ≤ 20) ⌝ }
     ensures { λ r. ⌜ NamesAre r (times (count (λ t. not (has (t .name) (names-of set))) (take n ts)) (grow-of (take n ts)) (names-of set)) ⌝ }
 {
@@ -30,12 +30,12 @@ fn close(set: NameRow, ts: [Thread; 20], n: usize) -> NameRow
 }
 
 // The smallest set that holds a live thread and, with each member, its children and those trapped on it.
-pub fn ended_set(ts: [Thread; 20], n: usize, name: u8) -> NameRow
+pub fn ended_set(ts: [Thread; numbers::THREADS], n: usize, name: u8) -> NameRow
     requires { ⌜ (n ≤ 20) × (any (named name) (take n ts) ≡ true) ⌝ }
     ensures { λ r. ⌜ NamesAre r (ended-set-of (take n ts) name) ⌝ }
 {
     let alone = NameRow {
-        row: [name; 20],
+        row: [name; numbers::THREADS],
         n: 1,
     };
     close(alone, ts, n)

@@ -79,7 +79,7 @@ pub fn create(r: Rows, p: Parent) -> Outcome
     }
 }
 
-fn parent_of(ts: [Thread; 20], n: usize, name: u8) -> Parent
+fn parent_of(ts: [Thread; numbers::THREADS], n: usize, name: u8) -> Parent
     requires { ⌜ n ≤ 20 ⌝ }
     ensures { λ p. ⌜ p ≡ of-thread Parentless (λ t. t .parent) name (take n ts) ⌝ }
 {

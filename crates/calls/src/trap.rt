@@ -10,6 +10,7 @@ use rules::MessageKind;
 use rules::State;
 use rules::Thread;
 use rules::TrapKind;
+use rules::numbers;
 ghost use mathlib.Core.Path.{_≡_};
 ghost use Prim.Native.Nat.{ℕ, _≤_, _<_};
 ghost use lib.ListN.{take};
@@ -20,7 +21,7 @@ ghost use Rattle.rules.specs.Trap.{notice as notice-of, trap as trap-of};
 ghost use Rattle.nucleus.specs.View.{view, Is, Stands};
 
 // The manager entry of a kind, of the thread of a name.
-pub fn manager_of(ts: [Thread; 20], n: usize, name: u8, k: TrapKind) -> Manager
+pub fn manager_of(ts: [Thread; numbers::THREADS], n: usize, name: u8, k: TrapKind) -> Manager
     requires { ⌜ n ≤ 20 ⌝ }
     ensures { λ m. ⌜ m ≡ of-thread NoManager (λ t. manager-in k (t .managers)) name (take n ts) ⌝ }
 {

@@ -12,6 +12,7 @@ use rules::MessageKind;
 use rules::Parent;
 use rules::State;
 use rules::Thread;
+use rules::numbers;
 ghost use mathlib.Core.Path.{_≡_};
 ghost use mathlib.Core.Bool.{false};
 ghost use Prim.Native.Nat.{_≤_, _<_};
@@ -24,7 +25,7 @@ ghost use Rattle.dump.specs.Dumping.{RowRead, NamesRead, RowsFound};
 
 // Rows that were read, and the place behind them.
 struct Threads {
-    row: [Thread; 20],
+    row: [Thread; numbers::THREADS],
     n: usize,
     at: usize,
 }
@@ -50,7 +51,7 @@ fn read_threads(bytes: &[u8], from: usize) -> Threads
     ensures { λ r. ⌜ (r .n ≤ 20) × (r .at ≤ length (now (bytes .entry))) × RowRead 20 2 thread-value thread-from (drop from (now (bytes .entry))) (take (r .n) (r .row)) (drop (r .at) (now (bytes .entry))) ⌝ }
 {
     let blank = start::new_thread(0, Parent::NoParent, State::Running);
-    let mut row = [blank; 20];
+    let mut row = [blank; numbers::THREADS];
     let mut n = 0;
     let mut at = from;
     while n < 20 {
@@ -72,7 +73,10 @@ fn no_names(at: usize) -> Names
     ensures { λ r. ⌜ (r .row .n ≡ 0) × (r .at ≡ at) ⌝ }
 {
     Names {
-        row: NameRow { row: [0; 20], n: 0 },
+        row: NameRow {
+            row: [0; numbers::THREADS],
+            n: 0,
+        },
         at,
         good: false,
     }
@@ -93,7 +97,10 @@ fn read_names(bytes: &[u8], from: usize, tag: u8) -> Names
     if !values::opens(&bytes[from..], tag, size as u32) {
         return no_names(from);
     }
-    let mut row = NameRow { row: [0; 20], n: 0 };
+    let mut row = NameRow {
+        row: [0; numbers::THREADS],
+        n: 0,
+    };
     let n = size as usize;
     let start = from + 3;
     let mut i = 0;
@@ -120,7 +127,7 @@ fn read_messages(bytes: &[u8], from: usize) -> Messages
         word: 0,
     };
     let mut row = MessageRow {
-        row: [blank; 40],
+        row: [blank; numbers::MESSAGES],
         n: 0,
     };
     let mut n = 0;
@@ -147,7 +154,7 @@ fn read_held(bytes: &[u8], from: usize) -> Words
 {
     let blank = Held { device: 0, word: 0 };
     let mut row = HeldRow {
-        row: [blank; 48],
+        row: [blank; numbers::HELD],
         n: 0,
     };
     let mut n = 0;

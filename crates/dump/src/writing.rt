@@ -79,7 +79,7 @@ fn write_thread(out: &mut [u8], t: Thread) -> usize
     20
 }
 
-fn write_threads(out: &mut [u8], ts: [Thread; 20], n: usize) -> usize
+fn write_threads(out: &mut [u8], ts: [Thread; numbers::THREADS], n: usize) -> usize
     requires { ⌜ (n ≤ 20) × (20 * n ≤ length (now out)) ⌝ }
     ensures { λ k. ⌜ Puts (each (λ t. field 2 (thread-value t)) (take n ts)) (now (out .entry)) (now (out .exit)) k ⌝ }
 {

@@ -8,6 +8,7 @@ pub mod writing;
 use rows::HeldRow;
 use rows::NameRow;
 use rules::Decision;
+use rules::numbers;
 
 // A thread as numbers: those of field 2 of the dump.
 #[repr(C)]
@@ -36,7 +37,7 @@ pub struct LentMessage {
 
 #[repr(C)]
 pub struct LentMessages {
-    pub row: [LentMessage; 40],
+    pub row: [LentMessage; numbers::MESSAGES],
     pub n: usize,
 }
 
@@ -49,7 +50,7 @@ pub struct Tables {
     pub since: u8,
     pub beats: u32,
     pub count: usize,
-    pub threads: [LentThread; 20],
+    pub threads: [LentThread; numbers::THREADS],
     pub ready: NameRow,
     pub clock: NameRow,
     pub messages: LentMessages,

@@ -65,7 +65,7 @@ fn message_stands(l: LentMessage) -> bool
     codes::message_code(k) == l.kind
 }
 
-fn threads_stand(ls: [LentThread; 20], n: usize) -> bool
+fn threads_stand(ls: [LentThread; numbers::THREADS], n: usize) -> bool
     requires { ⌜ n ≤ 20 ⌝ }
     ensures { λ b. ⌜ b ≡ all thread-stands-of (take n ls) ⌝ }
 {
@@ -176,12 +176,12 @@ fn message_of(l: LentMessage) -> Message
     }
 }
 
-fn read_threads(ls: [LentThread; 20], n: usize) -> [Thread; 20]
+fn read_threads(ls: [LentThread; numbers::THREADS], n: usize) -> [Thread; numbers::THREADS]
     requires { ⌜ n ≤ 20 ⌝ }
     ensures { λ r. ⌜ take n r ≡ map thread-for (take n ls) ⌝ }
 {
     let blank = start::new_thread(0, Parent::NoParent, State::Running);
-    let mut r = [blank; 20];
+    let mut r = [blank; numbers::THREADS];
     let mut i = 0;
     while i < n {
         let l = ls[i];
@@ -202,7 +202,7 @@ fn read_messages(ms: LentMessages) -> MessageRow
         word: 0,
     };
     let mut r = MessageRow {
-        row: [blank; 40],
+        row: [blank; numbers::MESSAGES],
         n: 0,
     };
     let n = ms.n;

@@ -55,7 +55,7 @@ fn message_numbers(m: Message) -> LentMessage
     }
 }
 
-fn write_threads(ts: [Thread; 20], n: usize) -> [LentThread; 20]
+fn write_threads(ts: [Thread; numbers::THREADS], n: usize) -> [LentThread; numbers::THREADS]
     requires { ⌜ n ≤ 20 ⌝ }
     ensures { λ r. ⌜ take n r ≡ map thread-numbers-of (take n ts) ⌝ }
 {
@@ -72,7 +72,7 @@ fn write_threads(ts: [Thread; 20], n: usize) -> [LentThread; 20]
         ticks: 0,
         word: 0,
     };
-    let mut r = [blank; 20];
+    let mut r = [blank; numbers::THREADS];
     let mut i = 0;
     while i < n {
         let t = ts[i];
@@ -93,7 +93,7 @@ fn write_messages(ms: MessageRow) -> LentMessages
         word: 0,
     };
     let mut r = LentMessages {
-        row: [blank; 40],
+        row: [blank; numbers::MESSAGES],
         n: 0,
     };
     let n = ms.n;

@@ -73,7 +73,7 @@ fn put_thread(out: &mut [u8], t: Thread) -> usize
     decimal::put_numbers(out, &row)
 }
 
-fn put_threads(out: &mut [u8], ts: [Thread; 20], n: usize) -> usize
+fn put_threads(out: &mut [u8], ts: [Thread; numbers::THREADS], n: usize) -> usize
     requires { ⌜ (n ≤ 20) × (5060 ≤ length (now out)) ⌝ }
     ensures { λ k. ⌜ Puts (each thread-line (take n ts)) (now (out .entry)) (now (out .exit)) k ⌝ }
 {

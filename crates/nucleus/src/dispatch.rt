@@ -18,7 +18,7 @@ ghost use Rattle.rules.specs.Dispatch.{dispatch as dispatch-of, status as statu
 ghost use Rattle.nucleus.specs.View.{view, shown, Fits, Gives, Holds};
 
 // The answer that waits for the thread of a name.
-fn waiting_answer(ts: [Thread; 20], n: usize, name: u8) -> Answer
+fn waiting_answer(ts: [Thread; numbers::THREADS], n: usize, name: u8) -> Answer
     requires { ⌜ n ≤ 20 ⌝ }
     ensures { λ a. ⌜ a ≡ of-thread NoAnswer (λ t. t .answer) name (take n ts) ⌝ }
 {

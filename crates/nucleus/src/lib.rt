@@ -13,6 +13,7 @@ use rows::NameRow;
 use rules::Answer;
 use rules::Decision;
 use rules::Thread;
+use rules::numbers;
 
 // The tables as rows. The runner is a name or NOBODY, the slice means nothing without a runner. The threads are the first `count` of
 // their array: they stand in no row of their own, so that a single one is written in place.
@@ -23,7 +24,7 @@ pub struct Rows {
     pub since: u8,
     pub beats: u32,
     pub count: usize,
-    pub threads: [Thread; 20],
+    pub threads: [Thread; numbers::THREADS],
     pub ready: NameRow,
     pub clock: NameRow,
     pub messages: MessageRow,

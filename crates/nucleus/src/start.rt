@@ -54,15 +54,21 @@ pub fn start_rows() -> Rows
         since: 0,
         beats: 0,
         count: 1,
-        threads: [first; 20],
-        ready: NameRow { row: [0; 20], n: 0 },
-        clock: NameRow { row: [0; 20], n: 0 },
+        threads: [first; numbers::THREADS],
+        ready: NameRow {
+            row: [0; numbers::THREADS],
+            n: 0,
+        },
+        clock: NameRow {
+            row: [0; numbers::THREADS],
+            n: 0,
+        },
         messages: MessageRow {
-            row: [nothing; 40],
+            row: [nothing; numbers::MESSAGES],
             n: 0,
         },
         held: HeldRow {
-            row: [no_word; 48],
+            row: [no_word; numbers::HELD],
             n: 0,
         },
     }

@@ -10,6 +10,7 @@ use rules::Parent;
 use rules::State;
 use rules::Thread;
 use rules::Wanted;
+use rules::numbers;
 ghost use mathlib.Core.Path.{_≡_};
 ghost use mathlib.Core.Bool.{Bool, true, false, not, _&&_};
 ghost use mathlib.Core.List.{List, [], _∷_, _++_, map};
@@ -26,7 +27,7 @@ ghost use Rattle.rules.specs.declared.Answer.the-variants.{Result as ResultIs};
 ghost use Rattle.rows.specs.Rows.{names-of, threads-of, NamesAre, ThreadsAre, place};
 
 // Where the thread of a name stands, or n.
-pub fn find(ts: [Thread; 20], n: usize, name: u8) -> usize
+pub fn find(ts: [Thread; numbers::THREADS], n: usize, name: u8) -> usize
     requires { ⌜ n ≤ 20 ⌝ }
     ensures { λ r. ⌜ r ≡ place (named name) (take n ts) ⌝ }
 {
@@ -41,7 +42,7 @@ pub fn find(ts: [Thread; 20], n: usize, name: u8) -> usize
     i
 }
 
-pub fn is_live(ts: [Thread; 20], n: usize, name: u8) -> bool
+pub fn is_live(ts: [Thread; numbers::THREADS], n: usize, name: u8) -> bool
     requires { ⌜ n ≤ 20 ⌝ }
     ensures { λ r. ⌜ r ≡ any (named name) (take n ts) ⌝ }
 {
@@ -50,7 +51,7 @@ pub fn is_live(ts: [Thread; 20], n: usize, name: u8) -> bool
 }
 
 // Where the thread stands that waits for a device, or n.
-pub fn find_waiter(ts: [Thread; 20], n: usize, d: u8) -> usize
+pub fn find_waiter(ts: [Thread; numbers::THREADS], n: usize, d: u8) -> usize
     requires { ⌜ n ≤ 20 ⌝ }
     ensures { λ r. ⌜ r ≡ place (waits-for d) (take n ts) ⌝ }
 {
@@ -67,7 +68,7 @@ pub fn find_waiter(ts: [Thread; 20], n: usize, d: u8) -> usize
 }
 
 // Does some thread wait for clock or device?
-pub fn some_wakes(ts: [Thread; 20], n: usize) -> bool
+pub fn some_wakes(ts: [Thread; numbers::THREADS], n: usize) -> bool
     requires { ⌜ n ≤ 20 ⌝ }
     ensures { λ r. ⌜ r ≡ any (λ t. wakes-from-outside (t .state)) (take n ts) ⌝ }
 {
@@ -84,7 +85,7 @@ pub fn some_wakes(ts: [Thread; 20], n: usize) -> bool
 }
 
 // The place of a newcomer's name: where the first thread stands whose name is not below it.
-pub fn find_place(ts: [Thread; 20], n: usize, name: u8) -> usize
+pub fn find_place(ts: [Thread; numbers::THREADS], n: usize, name: u8) -> usize
     requires { ⌜ n ≤ 20 ⌝ }
     ensures { λ r. ⌜ r ≡ place (λ t. not (ltb (t .name) name)) (take n ts) ⌝ }
 {
@@ -100,7 +101,12 @@ pub fn find_place(ts: [Thread; 20], n: usize, name: u8) -> usize
 }
 
 // A thread comes in at a place: each from there on goes one further.
-pub fn open_gap(ts: [Thread; 20], n: usize, at: usize, t: Thread) -> [Thread; 20]
+pub fn open_gap(
+    ts: [Thread; numbers::THREADS],
+    n: usize,
+    at: usize,
+    t: Thread,
+) -> [Thread; numbers::THREADS]
     requires { ⌜ (at ≤ n) × (n < 20) ⌝ }
     ensures { λ r. ⌜ take (n + 1) r ≡ take at (take n ts) ++ t ∷ drop at (take n ts) ⌝ }
 {
@@ -118,7 +124,11 @@ pub fn open_gap(ts: [Thread; 20], n: usize, at: usize, t: Thread) -> [Thread; 20
 }
 
 // The clock waiters become ready with the number of the beat.
-pub fn wake_clock(ts: [Thread; 20], n: usize, beats: u32) -> [Thread; 20]
+pub fn wake_clock(
+    ts: [Thread; numbers::THREADS],
+    n: usize,
+    beats: u32,
+) -> [Thread; numbers::THREADS]
     requires { ⌜ n ≤ 20 ⌝ }
     ensures { λ r. ⌜ take n r ≡ map (λ t. if on-clock (t .state) then in-state ReadyState (ResultIs beats) t else t) (take n ts) ⌝ }
 {
@@ -192,7 +202,7 @@ fn joins(set: NameRow, t: Thread) -> bool
 }
 
 // The set with those added that depend on it.
-pub fn grow(set: NameRow, ts: [Thread; 20], n: usize) -> NameRow
+pub fn grow(set: NameRow, ts: [Thread; numbers::THREADS], n: usize) -> NameRow
     requires { ⌜ (n ≤ 20) × (set .n + count (λ t. depends-of (names-of set) t && not (has-in (t .name) (names-of set))) (take n ts) ≤ 20) ⌝ }
     ensures { λ r. ⌜ NamesAre r (grow-of (take n ts) (names-of set)) ⌝ }
 {
@@ -257,7 +267,7 @@ fn without_managers(set: NameRow, t: Thread) -> Thread
 }
 
 // The threads that are not in the set, closed up, with no manager in it.
-pub fn without(ts: [Thread; 20], n: usize, set: NameRow) -> ThreadRow
+pub fn without(ts: [Thread; numbers::THREADS], n: usize, set: NameRow) -> ThreadRow
     requires { ⌜ (n ≤ 20) × (set .n ≤ 20) ⌝ }
     ensures { λ r. ⌜ ThreadsAre r (map (without-managers-of (names-of set)) (keep (λ t. not (has-in (t .name) (names-of set))) (take n ts))) ⌝ }
 {
@@ -313,7 +323,7 @@ fn told_gone(s: State) -> Answer
 }
 
 // The names of those that receive from one of the set join a queue.
-pub fn join_released(q: NameRow, ts: [Thread; 20], n: usize, set: NameRow) -> NameRow
+pub fn join_released(q: NameRow, ts: [Thread; numbers::THREADS], n: usize, set: NameRow) -> NameRow
     requires { ⌜ (n ≤ 20) × (set .n ≤ 20) × (q .n + count (λ t. misses-of (names-of set) (t .state)) (take n ts) ≤ 20) ⌝ }
     ensures { λ r. ⌜ NamesAre r (names-of q ++ map (λ t. t .name) (keep (λ t. misses-of (names-of set) (t .state)) (take n ts))) ⌝ }
 {
@@ -333,7 +343,7 @@ pub fn join_released(q: NameRow, ts: [Thread; 20], n: usize, set: NameRow) -> Na
 }
 
 // Those that receive from one of the set become ready, told that the sender is gone.
-pub fn release(ts: [Thread; 20], n: usize, set: NameRow) -> [Thread; 20]
+pub fn release(ts: [Thread; numbers::THREADS], n: usize, set: NameRow) -> [Thread; numbers::THREADS]
     requires { ⌜ (n ≤ 20) × (set .n ≤ 20) ⌝ }
     ensures { λ r. ⌜ take n r ≡ map (λ t. if misses-of (names-of set) (t .state) then in-state ReadyState (told-gone-of (t .state)) t else t) (take n ts) ⌝ }
 {

@@ -3,6 +3,9 @@ pub const THREADS: usize = 20;
 
 pub const BLOCKS: usize = 20;
 
+// What inboxes hold at most: an ordinary message in each block, and a notice of each thread.
+pub const MESSAGES: usize = BLOCKS + THREADS;
+
 // Thread names are below this; 254 itself is the service interface.
 pub const NAMES: u8 = 254;
 
@@ -16,3 +19,6 @@ pub const SLICE: u8 = 5;
 pub const BEAT: u8 = 20;
 
 pub const DEVICES: u8 = 48;
+
+// A held word of each device.
+pub const HELD: usize = DEVICES as usize;

@@ -31,12 +31,12 @@ fn device_of(s: State) -> u8
 }
 
 // A mark at each device for which a word is held.
-fn held_marks(hs: HeldRow) -> [u8; 48]
+fn held_marks(hs: HeldRow) -> [u8; numbers::HELD]
     requires { ⌜ (hs .n ≤ 48) × (all (λ h. ltb (h .device) devices) (held-of hs) ≡ true) ⌝ }
     ensures { λ marks. ⌜ Marked devices (λ d. one-if (any (held-for d) (held-of hs))) marks ⌝ }
 {
     let n = hs.n;
-    let mut marks = [0u8; 48];
+    let mut marks = [0u8; numbers::HELD];
     let mut i = 0;
     while i < n {
         let h = hs.row[i];

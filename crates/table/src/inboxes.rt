@@ -77,7 +77,7 @@ pub fn notices_right(r: Rows, at: &[u8; 256]) -> bool
     let ms = r.messages;
     let n = r.count;
     let k = ms.n;
-    let mut seen = [0u8; 20];
+    let mut seen = [0u8; numbers::THREADS];
     let mut i = 0;
     while i < k {
         let m = ms.row[i];

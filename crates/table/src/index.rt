@@ -1,5 +1,6 @@
 // Where each name stands among the threads: a rule then finds a name in one look, and the check stays a few passes.
 use rules::Thread;
+use rules::numbers;
 ghost use Prim.Native.Nat.{_≤_};
 ghost use mathlib.Core.Path.{_≡_};
 ghost use mathlib.Core.List.{List};
@@ -10,7 +11,7 @@ ghost use Rattle.rules.specs.declared.Thread.{Thread as ThreadIs};
 ghost use Rattle.table.specs.Index.{Indexed};
 
 // From the last thread to the first, so that the first of a name stands.
-pub fn index(ts: [Thread; 20], n: usize) -> [u8; 256]
+pub fn index(ts: [Thread; numbers::THREADS], n: usize) -> [u8; 256]
     requires { ⌜ n ≤ 20 ⌝ }
     ensures { λ at. ⌜ Indexed (take n ts) at ⌝ }
 {

@@ -3,6 +3,7 @@ use crate::index;
 use nucleus::Rows;
 use rules::Parent;
 use rules::Thread;
+use rules::numbers;
 ghost use mathlib.Core.Path.{_≡_};
 ghost use mathlib.Core.List.{List};
 ghost use Prim.Native.Nat.{ℕ, _≤_, _<_};
@@ -32,11 +33,11 @@ fn above(at: &[u8; 256], n: usize, i: usize, name: u8, p: Parent) -> usize
 }
 
 // What stands above each thread.
-fn upward(ts: [Thread; 20], n: usize, at: &[u8; 256]) -> [u8; 20]
+fn upward(ts: [Thread; numbers::THREADS], n: usize, at: &[u8; 256]) -> [u8; numbers::THREADS]
     requires { ⌜ (n ≤ 20) × Indexed (take n ts) (now at) ⌝ }
     ensures { λ up. ⌜ Upward (take n ts) up ⌝ }
 {
-    let mut up = [0u8; 20];
+    let mut up = [0u8; numbers::THREADS];
     let mut i = 0;
     while i < n {
         let x = ts[i];
@@ -48,7 +49,7 @@ fn upward(ts: [Thread; 20], n: usize, at: &[u8; 256]) -> [u8; 20]
 }
 
 // Does going up from i come to a place before it, or above all? The rule allows n steps from a parent, and so n + 1 from i.
-fn leads(up: &[u8; 20], n: usize, i: usize) -> bool
+fn leads(up: &[u8; numbers::THREADS], n: usize, i: usize) -> bool
     requires { ⌜ (n ≤ 20) × (i < n) ⌝ }
     ensures { λ b. ⌜ Leads (now (up .entry)) n i b ⌝ }
 {
@@ -68,7 +69,7 @@ fn leads(up: &[u8; 20], n: usize, i: usize) -> bool
 }
 
 // From each place in turn: those before it are known to lead above all.
-fn all_lead(up: &[u8; 20], n: usize) -> bool
+fn all_lead(up: &[u8; numbers::THREADS], n: usize) -> bool
     requires { ⌜ n ≤ 20 ⌝ }
     ensures { λ b. ⌜ AllLead (now (up .entry)) n b ⌝ }
 {

@@ -71,7 +71,7 @@ fn agrees(x: Thread, runner: u8, slice: u8, in_ready: u8, in_clock: u8) -> bool
 }
 
 fn all_agree(
-    ts: [Thread; 20],
+    ts: [Thread; numbers::THREADS],
     n: usize,
     runner: u8,
     slice: u8,

@@ -30,7 +30,7 @@ fn state_in_range(s: State) -> bool
 }
 
 // Counts are in their range by their type.
-fn threads_in_range(ts: [Thread; 20], n: usize) -> bool
+fn threads_in_range(ts: [Thread; numbers::THREADS], n: usize) -> bool
     requires { ⌜ n ≤ 20 ⌝ }
     ensures { λ b. ⌜ b ≡ all (λ t. ltb (t .ticks) wrap && state-in-range-of (t .state)) (take n ts) ⌝ }
 {
@@ -84,7 +84,7 @@ pub fn ranges(r: Rows) -> bool
 }
 
 // Do the names rise?
-fn names_rise(ts: [Thread; 20], n: usize) -> bool
+fn names_rise(ts: [Thread; numbers::THREADS], n: usize) -> bool
     requires { ⌜ n ≤ 20 ⌝ }
     ensures { λ b. ⌜ b ≡ chain (λ t u. ltb (t .name) (u .name)) (take n ts) ⌝ }
 {
@@ -101,7 +101,7 @@ fn names_rise(ts: [Thread; 20], n: usize) -> bool
     true
 }
 
-fn names_low(ts: [Thread; 20], n: usize) -> bool
+fn names_low(ts: [Thread; numbers::THREADS], n: usize) -> bool
     requires { ⌜ n ≤ 20 ⌝ }
     ensures { λ b. ⌜ b ≡ all (λ t. ltb (t .name) names) (take n ts) ⌝ }
 {
