@@ -14,6 +14,8 @@ use borrow.Author.Tests.{lt-ltb, le-ltb, ltb-true, ltb-false, eq-eqb, ne-eqb, eq
 use Rattle.rules.specs.Lists.{if_then_else_, _==_, one-if, missing, pulled, all, any, keep, count, behind, pull, insert, chain}
 use Rattle.rules.specs.Tables.{named, of-thread}
 use Rattle.rules.specs.declared.Thread.{Thread}
+use Rattle.laws.proofs.Counting.{keep-none, none-count, zero-any}
+use Rattle.laws.proofs.Single.{map-none}
 use Rattle.rows.specs.Rows.{place}
 
 module _ {A : Type 0} (p : A → Bool) where
@@ -87,24 +89,6 @@ module _ {A : Type 0} (p : A → Bool) where
 
   -- ---- where none passes
 
-  pub map-none : (f : A → A) (l : List A) → any p l ≡ false → map (λ (x : A). if p x then f x else x) l ≡ l
-  unfolding any
-  map-none f [] e = refl
-  map-none f (x ∷ xs) e = go (map-none f xs) (p x) e
-    where
-      go : (any p xs ≡ false → map (λ (y : A). if p y then f y else y) xs ≡ xs) → (b : Bool) → (b || any p xs) ≡ false → (if b then f x else x) ∷ map (λ (y : A). if p y then f y else y) xs ≡ x ∷ xs
-      go r true e = absurd (true≢false e)
-      go r false e = ap (λ (l : List A). x ∷ l) (r e)
-
-  pub keep-none : (l : List A) → any p l ≡ false → keep p l ≡ []
-  unfolding any keep
-  keep-none [] e = refl
-  keep-none (x ∷ xs) e = go (keep-none xs) (p x) e
-    where
-      go : (any p xs ≡ false → keep p xs ≡ []) → (b : Bool) → (b || any p xs) ≡ false → (if b then x ∷ keep p xs else keep p xs) ≡ []
-      go r true e = absurd (true≢false e)
-      go r false e = r e
-
   pub keep-all : (l : List A) → any p l ≡ false → keep (λ (x : A). not (p x)) l ≡ l
   unfolding any keep
   keep-all [] e = refl
@@ -114,15 +98,6 @@ module _ {A : Type 0} (p : A → Bool) where
       go r true e = absurd (true≢false e)
       go r false e = ap (λ (l : List A). x ∷ l) (r e)
 
-  pub count-none : (l : List A) → count p l ≡ 0 → any p l ≡ false
-  unfolding any count
-  count-none [] e = refl
-  count-none (x ∷ xs) e = go (count-none xs) (p x) e
-    where
-      go : (count p xs ≡ 0 → any p xs ≡ false) → (b : Bool) → one-if b + count p xs ≡ 0 → (b || any p xs) ≡ false
-      go r true e = absurd (omega arith)
-      go r false e = r (omega arith)
-
   -- ---- where one passes at most
 
   pub map-one : (f : A → A) (d : A) (l : List A) → count p l ≤ 1 → place p l < length l → map (λ (x : A). if p x then f x else x) l ≡ set l (place p l) (f (getD l (place p l) d))
@@ -131,7 +106,7 @@ module _ {A : Type 0} (p : A → Bool) where
   map-one f d (x ∷ xs) c h = go (map-one f d xs) (p x) c h
     where
       go : (count p xs ≤ 1 → place p xs < length xs → map (λ (y : A). if p y then f y else y) xs ≡ set xs (place p xs) (f (getD xs (place p xs) d))) → (b : Bool) → one-if b + count p xs ≤ 1 → head-or b xs < suc (length xs) → (if b then f x else x) ∷ map (λ (y : A). if p y then f y else y) xs ≡ set (x ∷ xs) (head-or b xs) (f (getD (x ∷ xs) (head-or b xs) d))
-      go r true c h = ap (λ (l : List A). f x ∷ l) (map-none f xs (count-none xs (omega arith)))
+      go r true c h = ap (λ (l : List A). f x ∷ l) (map-none p f xs (zero-any p xs (omega arith)))
       go r false c h = ap (λ (l : List A). x ∷ l) (r (omega arith) (omega arith))
 
   pub keep-one : (d : A) (l : List A) → count p l ≤ 1 → place p l < length l → keep p l ≡ getD l (place p l) d ∷ []
@@ -140,7 +115,7 @@ module _ {A : Type 0} (p : A → Bool) where
   keep-one d (x ∷ xs) c h = go (keep-one d xs) (p x) c h
     where
       go : (count p xs ≤ 1 → place p xs < length xs → keep p xs ≡ getD xs (place p xs) d ∷ []) → (b : Bool) → one-if b + count p xs ≤ 1 → head-or b xs < suc (length xs) → (if b then x ∷ keep p xs else keep p xs) ≡ getD (x ∷ xs) (head-or b xs) d ∷ []
-      go r true c h = ap (λ (l : List A). x ∷ l) (keep-none xs (count-none xs (omega arith)))
+      go r true c h = ap (λ (l : List A). x ∷ l) (keep-none p xs (omega arith))
       go r false c h = r (omega arith) (omega arith)
 
 -- ---- into its place
@@ -329,7 +304,7 @@ module _ {A : Type 0} (p : A → Bool) (n : ℕ) (r : List A) (i : ℕ) (whole :
   found-keep d c h = keep-one p d (take n r) c (here h) ∙ ap (λ (x : A). x ∷ []) (there d h)
 
   pub no-keep : n ≤ i → keep p (take n r) ≡ []
-  no-keep h = keep-none p (take n r) (no-any h)
+  no-keep h = keep-none p (take n r) (none-count p (take n r) (no-any h))
 
   pub all-kept : n ≤ i → keep (λ (x : A). not (p x)) (take n r) ≡ take n r
   all-kept h = keep-all p (take n r) (no-any h)

@@ -5,7 +5,7 @@ ghost use mathlib.Core.Bool.{not};
 ghost use mathlib.Core.List.{List, [], _∷_, _++_};
 ghost use Prim.Native.Nat.{_+_, _<_, _≤_};
 ghost use lib.ListN.{getD};
-ghost use Rattle.rules.specs.Lists.{has as has-in, keep, times-in as times-of};
+ghost use Rattle.rules.specs.Lists.{has as has-in, keep};
 ghost use Rattle.rows.specs.Rows.{names-of, NamesAre};
 
 // The row with a name at its tail.
@@ -65,25 +65,6 @@ pub fn has(q: NameRow, x: u8) -> bool
         i += 1;
     }
     false
-}
-
-// How often a name stands in a row.
-pub fn times_in(q: NameRow, x: u8) -> usize
-    requires { ⌜ q .n ≤ 20 ⌝ }
-    ensures { λ r. ⌜ r ≡ times-of (names-of q) x ⌝ }
-{
-    let n = q.n;
-    let mut k = 0;
-    let mut i = 0;
-    while i < n {
-        if x == q.row[i] {
-            k += 1;
-            i += 1;
-        } else {
-            i += 1;
-        }
-    }
-    k
 }
 
 // The row without the names of a set, closed up.

@@ -24,7 +24,6 @@ use Rattle.laws.proofs.Tests.{and-left, and-right, and-false, not-true, _&_}
 use Rattle.laws.proofs.Counting.{none-any, not-any, all-of, all-at}
 use Rattle.laws.proofs.Single.{getD-member}
 use Rattle.rows.specs.Rows.{place}
-use Rattle.rows.proofs.Found.{any-place}
 use Rattle.rows.proofs.MessageRow as MessagesT
 use Rattle.rows.proofs.MessageRow.Laws as MessagesL
 use Rattle.nucleus.specs.View.{view, Fits}
@@ -33,6 +32,7 @@ use Rattle.nucleus.proofs.Rows as R
 use Rattle.nucleus.proofs.Rows.Laws as R′
 use Rattle.nucleus.proofs.Sizes.{threads-whole, threads-count, messages-whole}
 use Rattle.table.specs.Index.{Indexed}
+use Rattle.table.proofs.Indexing.{look-live}
 use Rattle.table.proofs.Looking.{found-and, no-and}
 use Rattle.table.proofs.Wraps.{all-typed, all-take}
 
@@ -107,7 +107,7 @@ module _ (r : Rows) (vs : List Val) (is : Is R.the-row r vs) (fits : Fits r) (at
 
   -- a name is live exactly if its place is below the number of threads
   live-is : (n : ℕ) → n < 256 → ltb (getD at n 0) (r .count) ≡ live n (view r)
-  live-is n h = ap₂ ltb (indexed .finds n h) (sym (threads-count r vs is fits)) ∙ sym (any-place (named n) (view r .threads))
+  live-is n h = look-live (view r .threads) at indexed n h (getD at n 0) (r .count) refl (threads-count r vs is fits)
 
   pub ends-live : all (λ m. ltb (getD at (m .to) 0) (r .count) && ltb (getD at (m .from) 0) (r .count)) (view r .messages)
       ≡ all (λ m. live (m .to) (view r) && live (m .from) (view r)) (view r .messages)
