@@ -1,5 +1,5 @@
 -- What follows from the promise of the entry that reads a dump: it is that of `load_value`, of the tables at exit and the number, so the laws of
--- crates/dump (proofs/Promises.antt) speak of it. The promise of the entry that writes one is word for word `Dumps` there.
+-- crates/load (proofs/Promises.antt) speak of it. The promise of the entry that writes one is word for word `Dumps` there.
 -- Assumes nothing.
 use Prim.Native.Nat.{ℕ}
 use mathlib.Core.Path.{_≡_, ap}
@@ -8,9 +8,9 @@ use mathlib.Core.List.{List}
 use Rattle.rules.specs.Dump.{dump}
 use Rattle.lent.specs.Lent.{tables-of}
 use Rattle.lent.specs.declared.Tables.{Tables as Lent}
-use Rattle.dump.specs.Dumping.{Loads}
-use Rattle.dump.specs.declared.Loaded.{Loaded as Left}
-use Rattle.dump.proofs.Promises.{load-value-determined}
+use Rattle.load.specs.Reading.{Loads}
+use Rattle.load.specs.declared.Loaded.{Loaded as Left}
+use Rattle.load.proofs.Promises.{load-value-determined}
 use Rattle.board.specs.Dumps.{LoadsInto}
 
 pub as-loads : (before : Lent) (bytes : List ℕ) (after : Lent) (n : ℕ) → LoadsInto before bytes after n → Loads before bytes (record { tables = after; refusal = n })

@@ -11,7 +11,7 @@ use Rattle.rules.specs.Tables.{Tables}
 use Rattle.rules.specs.Load.{loaded, load}
 use Rattle.lent.specs.Lent.{tables-of, valid}
 use Rattle.lent.specs.declared.Tables.{Tables as Lent}
-use Rattle.dump.specs.Dumping.{load-refusal}
+use Rattle.load.specs.Reading.{load-refusal}
 
 -- a dump read into the tables that are lent: what stands behind the reference at entry and at exit, and the number returned; refused, it is the same value, whole
 pub record LoadsInto (before : Lent) (bytes : List ℕ) (after : Lent) (n : ℕ) : Type 0 where

@@ -3,7 +3,6 @@
 pub mod values;
 
 use dump::Dumped;
-use dump::load;
 use lent::Tables;
 use lent::step;
 use rules::Picked;
@@ -81,7 +80,7 @@ pub extern "C" fn nucleus_dump(t: &Tables, out: &mut [u8]) -> Dumped
 pub extern "C" fn nucleus_load(t: &mut Tables, bytes: &[u8]) -> u8
     ensures { λ n. ⌜ LoadsInto (now (t .entry)) (now (bytes .entry)) (now (t .exit)) n ⌝ }
 {
-    let l = load::load_value(*t, bytes);
+    let l = load::load::load_value(*t, bytes);
     *t = l.tables;
     l.refusal
 }

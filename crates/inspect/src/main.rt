@@ -1,5 +1,4 @@
 // Reads a dump on standard input. First line: 0, or the refusal. Then a line for each field: the tag, and its values in decimal.
-use dump::load;
 use lines::Span;
 use lines::decimal;
 use lines::tables;
@@ -55,7 +54,7 @@ fn main() {
         }
     }
     let held = w.held;
-    let found = load::load_rows(&input[..held]);
+    let found = load::load::load_rows(&input[..held]);
     if !found.good {
         print_number(13, &mut out);
         return;

@@ -1,6 +1,5 @@
 // Functions for the programs of bench/, which time them. They only measure: a contract here says no more than its function needs to be proved safe and
 // to end. What a step does is promised where the step stands.
-use dump::load;
 use dump::writing;
 use lent::Tables;
 use nucleus::Rows;
@@ -134,7 +133,7 @@ pub extern "C" fn meter_load(bytes: &[u8]) -> u64 {
     let mut good: u64 = 0;
     let mut i: u32 = 0;
     while i < 1000 {
-        let found = load::load_rows(bytes);
+        let found = load::load::load_rows(bytes);
         if found.good {
             good += 1;
         }
@@ -146,7 +145,7 @@ pub extern "C" fn meter_load(bytes: &[u8]) -> u64 {
 // Reads the bytes, and writes what was read into the buffer: the length, or 0 where they are no dump or the buffer is too short.
 #[no_mangle]
 pub extern "C" fn meter_again(bytes: &[u8], out: &mut [u8]) -> usize {
-    let found = load::load_rows(bytes);
+    let found = load::load::load_rows(bytes);
     if !found.good {
         return 0;
     }

@@ -8,12 +8,12 @@ use lib.Seq.{length-take-le}
 use borrow.Author.Tests.{not-false}
 use borrow.Author.Needs.{needs}
 use Rattle.stream.proofs.Placed.{put-within}
-use Rattle.dump.proofs.Accepted.{accepted-stands}
+use Rattle.load.proofs.Accepted.{accepted-stands}
 use Rattle.inspect.proofs.main.Statement.{statement}
 use Rattle.inspect.proofs.main.Tie as tie
 use Rattle.inspect.proofs.main.Reads as reads
 use Rattle.inspect.proofs.main.Lts as lts
-use Rattle.dump.proofs.load.load_rows.Reads as load-rows-reads
+use Rattle.load.proofs.load.load_rows.Reads as load-rows-reads
 use Rattle.inspect.proofs.print.Reads as print-reads
 use Rattle.inspect.proofs.print_number.Reads as print-number-reads
 use Rattle.inspect.proofs.say.Reads as say-reads

@@ -5,13 +5,13 @@ use borrow.Author.Tests.{not-false}
 use Rattle.laws.proofs.Sound.{ruled-tested}
 use Rattle.laws.proofs.DumpLength.{dump-fits-small}
 use Rattle.nucleus.specs.View.{view}
-use Rattle.dump.proofs.Accepted.{accepted-stands}
+use Rattle.load.proofs.Accepted.{accepted-stands}
 use borrow.Author.Needs.{needs}
 use Rattle.meter.proofs.meter_again.Statement.{statement}
 use Rattle.meter.proofs.meter_again.Tie as tie
 use Rattle.meter.proofs.meter_again.Reads as reads
 use Rattle.meter.proofs.meter_again.Lts as lts
-use Rattle.dump.proofs.load.load_rows.Reads as load-rows-reads
+use Rattle.load.proofs.load.load_rows.Reads as load-rows-reads
 use Rattle.dump.proofs.writing.dump_rows.Reads as dump-rows-reads
 
 -- src/lib.rt:149:9

@@ -8,7 +8,7 @@ use Rattle.meter.proofs.meter_load.Statement.{statement}
 use Rattle.meter.proofs.meter_load.Tie as tie
 use Rattle.meter.proofs.meter_load.Reads as reads
 use Rattle.meter.proofs.meter_load.Lts as lts
-use Rattle.dump.proofs.load.load_rows.Reads as load-rows-reads
+use Rattle.load.proofs.load.load_rows.Reads as load-rows-reads
 
 abbrev Inv-loop : tie.InvT-loop
 Inv-loop bytes good₀ i₀ good i = (good ≤ i) × (i ≤ 1000)
