@@ -1,5 +1,5 @@
--- Determinacy of the step on lent tables: any two outcomes that its promise allows agree. For start, check, dump, pick and sizes the promise is an
--- equality, or that of the function by value (crates/lent/proofs/Determined.antt, crates/load/proofs/Promises.antt); for load see Loading.antt.
+-- Determinacy of the step on lent tables: any two outcomes that its promise allows agree. For start, check, dump, load, pick and sizes the promise is an
+-- equality, or that of the function by value (crates/lent/proofs/Determined.antt, crates/load/proofs/Promises.antt).
 -- Assumes nothing.
 use Prim.Native.Nat.{ℕ}
 use mathlib.Core.Path.{_≡_, refl, sym, ap, _∙_}

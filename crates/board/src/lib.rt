@@ -14,8 +14,8 @@ ghost use Rattle.rules.specs.Tables.{start as start-of};
 ghost use Rattle.rules.specs.Pick.{pick as pick-of};
 ghost use Rattle.lent.specs.Lent.{tables-of, valid};
 ghost use Rattle.dump.specs.Dumping.{dumped, buffer-after};
+ghost use Rattle.load.specs.Reading.{Loads};
 ghost use Rattle.board.specs.Board.{Steps, check-of};
-ghost use Rattle.board.specs.Dumps.{LoadsInto};
 ghost use Rattle.board.specs.Layout.{sizes-of};
 
 // A decision as numbers.
@@ -78,7 +78,7 @@ pub extern "C" fn nucleus_dump(t: &Tables, out: &mut [u8]) -> Dumped
 // Nothing looks at the tables that came: `load_value` is handed them so that a refused reading stores them back as they were.
 #[no_mangle]
 pub extern "C" fn nucleus_load(t: &mut Tables, bytes: &[u8]) -> u8
-    ensures { λ n. ⌜ LoadsInto (now (t .entry)) (now (bytes .entry)) (now (t .exit)) n ⌝ }
+    ensures { λ n. ⌜ Loads (now (t .entry)) (now (bytes .entry)) (record { tables = now (t .exit); refusal = n }) ⌝ }
 {
     let l = load::load::load_value(*t, bytes);
     *t = l.tables;

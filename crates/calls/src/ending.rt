@@ -30,7 +30,7 @@ fn close(set: NameRow, ts: [Thread; numbers::THREADS], n: usize) -> NameRow
 }
 
 // The smallest set that holds a live thread and, with each member, its children and those trapped on it.
-pub fn ended_set(ts: [Thread; numbers::THREADS], n: usize, name: u8) -> NameRow
+fn ended_set(ts: [Thread; numbers::THREADS], n: usize, name: u8) -> NameRow
     requires { ⌜ (n ≤ 20) × (any (named name) (take n ts) ≡ true) ⌝ }
     ensures { λ r. ⌜ NamesAre r (ended-set-of (take n ts) name) ⌝ }
 {

@@ -38,7 +38,7 @@ fn successor(name: u8) -> u8
 }
 
 // The first name behind the one given last that no thread has.
-pub fn next_name(r: Rows) -> u8
+fn next_name(r: Rows) -> u8
     requires { ⌜ Holds r × (r .count < 20) ⌝ }
     ensures { λ n. ⌜ n ≡ next-name-of (view r) ⌝ }
 {
@@ -58,7 +58,7 @@ pub fn next_name(r: Rows) -> u8
 }
 
 // A newcomer, ready at the tail. The result is its name.
-pub fn create(r: Rows, p: Parent) -> Outcome
+fn create(r: Rows, p: Parent) -> Outcome
     requires { ⌜ Holds r × (r .count < 20) ⌝ }
     ensures { λ o. ⌜ Gives o (create-of p (view r)) ⌝ }
 {

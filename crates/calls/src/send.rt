@@ -17,7 +17,7 @@ ghost use Rattle.rules.specs.Send.{message as message-of, decides as decides-of
 ghost use Rattle.nucleus.specs.View.{view, Is, Holds};
 
 // Is the receiver trapped, and the sender the manager that it waits for?
-pub fn decides(r: Rows, me: u8, to: u8) -> bool
+fn decides(r: Rows, me: u8, to: u8) -> bool
     requires { ⌜ Holds r ⌝ }
     ensures { λ b. ⌜ b ≡ decides-of me to (view r) ⌝ }
 {
@@ -31,7 +31,7 @@ pub fn decides(r: Rows, me: u8, to: u8) -> bool
     }
 }
 
-pub fn message(to: u8, me: u8, word: u32) -> Message
+fn message(to: u8, me: u8, word: u32) -> Message
     ensures { λ m. ⌜ m ≡ message-of to me word ⌝ }
 {
     Message {

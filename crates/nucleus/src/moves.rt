@@ -67,7 +67,7 @@ pub fn queue(r: Rows, m: Message) -> Rows
 }
 
 // Does the receiver wait for this message?
-pub fn is_awaited(r: Rows, m: Message) -> bool
+fn is_awaited(r: Rows, m: Message) -> bool
     requires { ⌜ Holds r ⌝ }
     ensures { λ b. ⌜ b ≡ any (accepts m) (view r .threads) ⌝ }
 {
