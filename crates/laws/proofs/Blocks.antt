@@ -158,7 +158,7 @@ trap-balance m k c T = go (entry-of k m T)
         delivered = omega (arith, deliver-balance (notice n m c) (stop m (Trapped k) T), no-set (stop m (Trapped k) T))
     go Gone = end-balance m T
 
-tick-messages : (T : Tables) → tick T .messages ≡ T .messages
+pub tick-messages : (T : Tables) → tick T .messages ≡ T .messages
 unfolding tick
 tick-messages T = turned (beat (charge T)) ∙ beaten (charge T) ∙ charged T
   where

@@ -112,7 +112,7 @@ sure-gives L es e r = record {
 
 module _ (L : Limits) (es : Input) (n : ℕ) (dead : live n (run L start es) ≡ false) where
   -- the last event came after that time
-  last-since : (ds : Input) (c : List ℕ) (gs : Input) → ds ++ (c ∷ []) ≡ es ++ gs → live n (run L start (ds ++ (c ∷ []))) ≡ true → (hs : Input) × (ds ≡ es ++ hs) × (gs ≡ hs ++ (c ∷ []))
+  pub last-since : (ds : Input) (c : List ℕ) (gs : Input) → ds ++ (c ∷ []) ≡ es ++ gs → live n (run L start (ds ++ (c ∷ []))) ≡ true → (hs : Input) × (ds ≡ es ++ hs) × (gs ≡ hs ++ (c ∷ []))
   last-since ds c gs i l =
       ⊎-elim (λ e. absurd (clash l (ap (λ (x : Input). live n (run L start x)) (i ∙ ap (λ (x : Input). es ++ x) e ∙ append-nil es) ∙ dead)))
       (λ r.

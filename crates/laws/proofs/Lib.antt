@@ -36,7 +36,15 @@ pub mod Counts
 pub mod Blocks
 pub mod Passing
 pub mod Late
+pub mod Handed
+pub mod Due
+pub mod Inboxes
 pub mod Rounds
 pub mod Naming
 pub mod Single
 pub mod Room
+pub mod Requests
+pub mod Lives
+pub mod Flaws
+pub mod Entries
+pub mod Said

@@ -308,7 +308,7 @@ dispatch-names o u = by-dispatch (λ (U : Tables). List·Memᴰ u (U .threads) �
 -- ---- runs from a start
 
 -- the decision names the runner that the tables have
-decision-runner : (L : Limits) (T : Tables) (bytes : List ℕ) → step L T bytes .decision .runner ≡ me (step L T bytes .tables .runner)
+pub decision-runner : (L : Limits) (T : Tables) (bytes : List ℕ) → step L T bytes .decision .runner ≡ me (step L T bytes .tables .runner)
 unfolding step settle
 decision-runner L T bytes = go (refusal L T (decode bytes))
   where

@@ -1,6 +1,6 @@
 -- "Benches to prove": P1 to P10 as a single list under a single claim. Each starts at a start and goes through the bytes of its events.
 -- Assumes nothing.
-use Prim.Native.Nat.{ℕ, _-_}
+use Prim.Native.Nat.{ℕ, _-_, _/_}
 use mathlib.Core.Path.{_≡_, refl}
 use mathlib.Core.List.{List, [], _∷_, _++_, map}
 use lib.ListN.{length, replicate, drop}
@@ -28,6 +28,10 @@ trapping k c = 0x13 ∷ 0 ∷ 5 ∷ k ∷ four-bytes c
 abbrev pub ticks : ℕ → Input
 ticks n = replicate n (0x14 ∷ 0 ∷ 0 ∷ [])
 
+-- "21 interrupt (pending devices 8, bit n for device n; status 4)"
+abbrev pub interrupting : ℕ → ℕ → List ℕ
+interrupting p w = 0x15 ∷ 0 ∷ 12 ∷ (four-bytes (p / 4294967296) ++ (four-bytes p ++ four-bytes w))
+
 -- ---- a bench: its events, and the last of the lines that they give: refusal, status, runner, kind, sender, word
 
 pub record Bench : Type 0 where
@@ -42,6 +46,9 @@ on n = 0 ∷ 0 ∷ n ∷ 0 ∷ 255 ∷ 0 ∷ []
 
 abbrev pub idle : List ℕ
 idle = 0 ∷ 1 ∷ 255 ∷ 0 ∷ 255 ∷ 0 ∷ []
+
+abbrev pub halted : List ℕ
+halted = 0 ∷ 2 ∷ 255 ∷ 0 ∷ 255 ∷ 0 ∷ []
 
 abbrev pub panicked : List ℕ
 panicked = 0 ∷ 3 ∷ 255 ∷ 0 ∷ 255 ∷ 0 ∷ []
