@@ -1,0 +1,65 @@
+-- `at_device` answers as the rule, state by state.
+-- Assumes nothing.
+use Rattle.rules.specs.States.{at-device}
+use borrow.Author.Needs.{needs}
+use Rattle.words.proofs.states.at_device.Statement.{statement}
+use Rattle.words.proofs.states.at_device.Tie as tie
+
+enum-told : tie.Need-enum-told
+enum-told c = search needs
+
+enum-told-2 : tie.Need-enum-told-2
+enum-told-2 c = search needs
+
+enum-told-3 : tie.Need-enum-told-3
+enum-told-3 c = search needs
+
+enum-told-4 : tie.Need-enum-told-4
+enum-told-4 c = search needs
+
+enum-known-s : tie.Need-enum-known-s
+enum-known-s c = search needs
+
+enum-told-5 : tie.Need-enum-told-5
+enum-told-5 c = search needs
+
+returns : tie.Need-returns
+unfolding at-device
+returns c = search needs
+
+returns-2 : tie.Need-returns-2
+unfolding at-device
+returns-2 c = search needs
+
+returns-3 : tie.Need-returns-3
+unfolding at-device
+returns-3 c = search needs
+
+returns-4 : tie.Need-returns-4
+unfolding at-device
+returns-4 c = search needs
+
+returns-5 : tie.Need-returns-5
+unfolding at-device
+returns-5 c = rw (c .before .s .given .1)
+
+returns-6 : tie.Need-returns-6
+unfolding at-device
+returns-6 c = search needs
+
+pub at-device-spec : {M : Type 1} → statement M
+at-device-spec =
+    tie.close
+    (tie.spec
+    enum-told
+    enum-told-2
+    enum-told-3
+    enum-told-4
+    enum-known-s
+    enum-told-5
+    returns
+    returns-2
+    returns-3
+    returns-4
+    returns-5
+    returns-6)

@@ -1,0 +1,3 @@
+// What the words of the memory say, and the tests of the rules on what they say.
+pub mod saying;
+pub mod states;
