@@ -1,0 +1,64 @@
+-- `memory::memory::receiver_at` meets its contract.
+-- Assumes nothing.
+use mathlib.Core.Path.{sym, ap, _∙_}
+use native.Mathlib.Omega.{arith}
+use borrow.Author.Needs.{needs}
+use Rattle.laws.proofs.Words.{Message}
+use Rattle.memory.specs.Memory.{rows-of}
+use Rattle.memory.proofs.Fields.{message-entry}
+use Rattle.memory.proofs.memory.receiver_at.Statement.{statement}
+use Rattle.memory.proofs.memory.receiver_at.Tie as tie
+
+shared-slice-read-at : tie.Need-shared-slice-read-at
+unfolding rows-of
+shared-slice-read-at c = omega arith
+
+cast-at : tie.Need-cast-at
+unfolding rows-of
+cast-at c = omega (arith, c .shared-slice-known2 .given 0)
+
+mul-at : tie.Need-mul-at
+unfolding rows-of
+mul-at c = omega arith
+
+add-at : tie.Need-add-at
+unfolding rows-of
+add-at c = omega arith
+
+mul-at-2 : tie.Need-mul-at-2
+mul-at-2 c = search needs
+
+add-at-2 : tie.Need-add-at-2
+unfolding rows-of
+add-at-2 c = omega arith
+
+mul-byte : tie.Need-mul-byte
+unfolding rows-of
+mul-byte c = omega arith
+
+shared-slice-read-byte : tie.Need-shared-slice-read-byte
+unfolding rows-of
+shared-slice-read-byte c = omega arith
+
+byte-requires : tie.Need-byte-requires
+byte-requires c κs = search needs
+
+returns : tie.Need-returns
+unfolding rows-of
+returns c = let s = c .before .before .before .before in
+    c .byte .ensures ∙ ap (λ (x : Message). x .to) (sym (message-entry (s .args .m .now) (s .args .i) (s .pre .1)))
+
+pub receiver-at-spec : {M : Type 1} → statement M
+receiver-at-spec =
+    tie.close
+    (tie.spec
+    shared-slice-read-at
+    cast-at
+    mul-at
+    add-at
+    mul-at-2
+    add-at-2
+    mul-byte
+    shared-slice-read-byte
+    byte-requires
+    returns)

@@ -1,0 +1,25 @@
+-- `memory::memory::set_count` meets its contract.
+-- Assumes nothing.
+use native.Mathlib.Omega.{arith}
+use borrow.Author.Needs.{needs}
+use Rattle.memory.specs.Memory.{rows-of}
+use Rattle.memory.proofs.Changes.{head-put}
+use Rattle.memory.proofs.memory.set_count.Statement.{statement}
+use Rattle.memory.proofs.memory.set_count.Tie as tie
+
+cast-m : tie.Need-cast-m
+cast-m c = search needs
+
+slice-write-m : tie.Need-slice-write-m
+unfolding rows-of
+slice-write-m c = omega arith
+
+same-length : tie.Need-same-length
+same-length c = search needs
+
+returns : tie.Need-returns
+unfolding rows-of
+returns c = head-put (c .args .m .now) 7 (c .args .n) (omega arith) (omega arith) (omega arith)
+
+pub set-count-spec : {M : Type 1} → statement M
+set-count-spec = tie.close (tie.spec cast-m slice-write-m same-length returns)
