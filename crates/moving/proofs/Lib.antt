@@ -1,0 +1,4 @@
+pub mod Found
+pub mod Loops
+pub mod Sets
+pub mod Steps
