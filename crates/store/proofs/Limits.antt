@@ -1,0 +1,29 @@
+-- What the store's users know of a memory that is Shaped, and of a search by name.
+-- Assumes nothing.
+use Prim.Native.Nat.{ℕ, _<_}
+use mathlib.Core.Path.{_≡_, refl}
+use mathlib.Core.Bool.{Bool, true, false, _||_, not}
+use mathlib.Core.List.{List, [], _∷_}
+use native.Mathlib.Omega.{arith}
+use borrow.Author.Tests.{eq-eqb, ne-eqb}
+use Rattle.rules.specs.Lists.{if_then_else_, _==_, any}
+use Rattle.rules.specs.Numbers.{names, nobody}
+use Rattle.rules.specs.Tables.{named}
+use Rattle.laws.proofs.Words.{Thread}
+use Rattle.laws.proofs.Tests.{or-left, or-right}
+use Rattle.store.specs.Store.{limits, Shaped, name-where}
+
+-- there is a name left for a newcomer
+pub names-left : (m : List ℕ) → Shaped m → limits m .threads < names
+unfolding Shaped limits
+names-left m s = s .roomy .low
+
+-- names are below 254, so that 255 says that nobody passes
+pub nobody-passes : (p : Thread → Bool) (ts : List Thread) → ((n : ℕ) → any (named n) ts ≡ true → n < names) → (name-where p ts == nobody) ≡ not (any p ts)
+unfolding name-where any
+nobody-passes p [] low = refl
+nobody-passes p (t ∷ ts) low = go (nobody-passes p ts (λ n h. low n (or-right (n == t .name) (any (named n) ts) h))) (p t)
+  where
+    go : (name-where p ts == nobody) ≡ not (any p ts) → (b : Bool) → ((if b then t .name else name-where p ts) == nobody) ≡ not (b || any p ts)
+    go rest true = ne-eqb (t .name) nobody (λ e. omega (arith, e, low (t .name) (or-left (t .name == t .name) (any (named (t .name)) ts) (eq-eqb (t .name) (t .name) refl))))
+    go rest false = rest

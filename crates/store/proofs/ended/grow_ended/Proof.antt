@@ -1,0 +1,27 @@
+-- `ended::grow_ended` meets its contract.
+-- Assumes nothing.
+use native.Mathlib.Omega.{arith}
+use borrow.Author.Needs.{needs}
+use Rattle.store.specs.Store.{limits, tables, Shaped, found}
+use Rattle.memory.proofs.Sizes.{members-count}
+use Rattle.store.proofs.Written.{found-are}
+use Rattle.store.proofs.ended.grow_ended.Statement.{statement}
+use Rattle.store.proofs.ended.grow_ended.Tie as tie
+
+grow-requires : tie.Need-grow-requires
+unfolding limits tables Shaped found
+grow-requires c κs =
+    let s = c .before .before in
+    (s .pre .0 .holding .shaped .roomy, s .pre .0 .holding .shaped .threads, omega (arith, s .pre .1, members-count (s .args .m .now) (s .pre .0 .low)))
+
+same-length : tie.Need-same-length
+same-length c = search needs
+
+returns : tie.Need-returns
+unfolding tables found
+returns c =
+    let s = c .before .before .before .before .before in
+    found-are (s .pre .0 .holding) (c .before .before .grow .ensures)
+
+pub grow-ended-spec : {M : Type 1} → statement M
+grow-ended-spec = tie.close (tie.spec grow-requires same-length returns)
