@@ -1,0 +1,26 @@
+-- `end` meets its contract: what the ended set leaves, with those released that miss a member.
+-- Assumes nothing.
+use mathlib.Core.Path.{_∙_}
+use Rattle.serving.proofs.Ends.{release-room, ended}
+use Rattle.serving.proofs.ending.end.Statement.{statement}
+use Rattle.serving.proofs.ending.end.Tie as tie
+
+ended-set-requires : tie.Need-ended-set-requires
+ended-set-requires c κs = c .before .before .pre
+
+remove-ended-requires : tie.Need-remove-ended-requires
+remove-ended-requires c κs = c .before .before .before .ended-set .ensures .finding
+
+release-ended-requires : tie.Need-release-ended-requires
+release-ended-requires c κs =
+    let s = c .before .before .before .before .before .before .before .before .before .before in
+    (c .before .before .before .remove-ended .ensures .finding, release-room (s .args .name) (c .before .before .before .before .before .before .before .ended-set .ensures) (c .before .before .before .remove-ended .ensures) (s .pre .0 .inv))
+
+same-length : tie.Need-same-length
+same-length c = c .before .m3 .given ∙ (c .before .before .before .before .before .m2 .given ∙ c .before .before .before .before .before .before .before .before .before .m .given)
+
+returns : tie.Need-returns
+returns c = ended (c .before .before .before .before .before .before .before .before .before .before .before .before .before .args .name) (c .before .before .before .before .before .before .before .before .before .before .ended-set .ensures) (c .before .before .before .before .before .before .remove-ended .ensures) (c .before .before .release-ended .ensures)
+
+pub end-spec : {M : Type 1} → statement M
+end-spec = tie.close (tie.spec ended-set-requires remove-ended-requires release-ended-requires same-length returns)
