@@ -1,0 +1,20 @@
+-- `step::decided` meets its contract: the status and the runner are those of the tables.
+-- Assumes nothing.
+use borrow.Author.Needs.{needs}
+use Rattle.stepping.proofs.step.decided.Statement.{statement}
+use Rattle.stepping.proofs.step.decided.Tie as tie
+
+status-requires : tie.Need-status-requires
+status-requires c κs = c .before .pre
+
+status-code-requires : tie.Need-status-code-requires
+status-code-requires c κs = search needs
+
+runner-name-requires : tie.Need-runner-name-requires
+runner-name-requires c κs = c .before .before .before .pre
+
+returns : tie.Need-returns
+returns c = rw (c .before .status-code .ensures, c .before .before .status .ensures, c .runner-name .ensures)
+
+pub decided-spec : {M : Type 1} → statement M
+decided-spec = tie.close (tie.spec status-requires status-code-requires runner-name-requires returns)
