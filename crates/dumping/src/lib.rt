@@ -1,0 +1,2 @@
+// The dump: a memory's tables as bytes in a lent buffer.
+pub mod writing;

@@ -1,0 +1,226 @@
+// The fields of a dump, each written into the rest of the buffer behind the last one.
+use handling::dispatch;
+use rules::Answer;
+use rules::Message;
+use rules::Thread;
+use rules::numbers;
+use store;
+ghost use mathlib.Core.Path.{_≡_};
+ghost use Prim.Native.Nat.{_+_, _*_, _<_, _≤_};
+ghost use lib.ListN.{length};
+ghost use Rattle.rules.specs.Lists.{each};
+ghost use Rattle.rules.specs.Numbers.{devices};
+ghost use Rattle.rules.specs.Dump.{field, head-value, answer-value, thread-value, message-value, held-value, dump};
+ghost use Rattle.store.specs.Store.{tables, Shaped};
+ghost use Rattle.buffer.specs.Puts.{Puts};
+ghost use Rattle.dumping.specs.Dumping.{Dumpable, held-at};
+
+// Field 1.
+fn write_head(m: &[u32], out: &mut [u8]) -> usize
+    requires { ⌜ Shaped (now m) × (12 ≤ length (now out)) ⌝ }
+    ensures { λ n. ⌜ Puts (field 1 (head-value (tables (now (m .entry))))) (now (out .entry)) (now (out .exit)) n ⌝ }
+{
+    let s = dispatch::status(m);
+    let r = store::runner(m);
+    let status = codes::status_code(s);
+    let runner = codes::runner_code(r);
+    let slice = codes::slice_code(r);
+    let last = store::last(m);
+    let since = store::since(m);
+    let beats = store::beats(m);
+    buffer::put_head(out, 1, 9);
+    buffer::put_three(&mut out[3..], status, last, runner);
+    buffer::put_two(&mut out[6..], slice, since);
+    buffer::put_word(&mut out[8..], beats);
+    12
+}
+
+// The answer that waits for a thread: the end of field 2.
+fn write_answer(a: Answer, out: &mut [u8]) -> usize
+    requires { ⌜ 6 ≤ length (now out) ⌝ }
+    ensures { λ n. ⌜ Puts (answer-value a) (now (out .entry)) (now (out .exit)) n ⌝ }
+{
+    buffer::put_two(out, codes::kind_code(a), codes::sender_code(a));
+    buffer::put_word(&mut out[2..], codes::word_code(a));
+    6
+}
+
+// Field 2.
+fn write_thread(t: Thread, out: &mut [u8]) -> usize
+    requires { ⌜ 20 ≤ length (now out) ⌝ }
+    ensures { λ n. ⌜ Puts (field 2 (thread-value t)) (now (out .entry)) (now (out .exit)) n ⌝ }
+{
+    let parent = t.parent;
+    let s = t.state;
+    let g = t.managers;
+    let a = t.answer;
+    let program = g.program;
+    let tlb = g.tlb;
+    let sysbp = g.sysbp;
+    buffer::put_head(out, 2, 17);
+    buffer::put_four(
+        &mut out[3..],
+        t.name,
+        codes::parent_code(parent),
+        codes::state_code(s),
+        codes::detail_code(s),
+    );
+    buffer::put_three(
+        &mut out[7..],
+        codes::manager_code(program),
+        codes::manager_code(tlb),
+        codes::manager_code(sysbp),
+    );
+    buffer::put_word(&mut out[10..], t.ticks);
+    write_answer(a, &mut out[14..]);
+    20
+}
+
+fn write_threads(m: &[u32], out: &mut [u8]) -> usize
+    requires { ⌜ Shaped (now m) × (20 * length (tables (now m) .threads) ≤ length (now out)) ⌝ }
+    ensures { λ k. ⌜ Puts (each (λ t. field 2 (thread-value t)) (tables (now (m .entry)) .threads)) (now (out .entry)) (now (out .exit)) k ⌝ }
+{
+    let n = store::thread_count(m);
+    let mut at = 0;
+    let mut i = 0;
+    while i < n {
+        let t = store::thread_at(m, i);
+        at += write_thread(t, &mut out[at..]);
+        i += 1;
+    }
+    at
+}
+
+// Field 3: the ready names, front first.
+fn write_ready(m: &[u32], out: &mut [u8]) -> usize
+    requires { ⌜ Shaped (now m) × (3 + length (tables (now m) .ready) ≤ length (now out)) ⌝ }
+    ensures { λ k. ⌜ Puts (field 3 (tables (now (m .entry)) .ready)) (now (out .entry)) (now (out .exit)) k ⌝ }
+{
+    let n = store::ready_count(m);
+    buffer::put_head(out, 3, n as u8);
+    let mut i = 0;
+    while i < n {
+        out[3 + i] = store::ready_at(m, i);
+        i += 1;
+    }
+    3 + n
+}
+
+// Field 4: who waits for the clock, in order.
+fn write_clock(m: &[u32], out: &mut [u8]) -> usize
+    requires { ⌜ Shaped (now m) × (3 + length (tables (now m) .clock) ≤ length (now out)) ⌝ }
+    ensures { λ k. ⌜ Puts (field 4 (tables (now (m .entry)) .clock)) (now (out .entry)) (now (out .exit)) k ⌝ }
+{
+    let n = store::clock_count(m);
+    buffer::put_head(out, 4, n as u8);
+    let mut i = 0;
+    while i < n {
+        out[3 + i] = store::clock_at(m, i);
+        i += 1;
+    }
+    3 + n
+}
+
+// Field 5.
+fn write_message(x: Message, out: &mut [u8]) -> usize
+    requires { ⌜ 10 ≤ length (now out) ⌝ }
+    ensures { λ n. ⌜ Puts (field 5 (message-value x)) (now (out .entry)) (now (out .exit)) n ⌝ }
+{
+    let kind = x.kind;
+    buffer::put_head(out, 5, 7);
+    buffer::put_three(&mut out[3..], x.to, x.from, codes::message_code(kind));
+    buffer::put_word(&mut out[6..], x.word);
+    10
+}
+
+fn write_messages(m: &[u32], out: &mut [u8]) -> usize
+    requires { ⌜ Shaped (now m) × (10 * length (tables (now m) .messages) ≤ length (now out)) ⌝ }
+    ensures { λ k. ⌜ Puts (each (λ x. field 5 (message-value x)) (tables (now (m .entry)) .messages)) (now (out .entry)) (now (out .exit)) k ⌝ }
+{
+    let n = store::message_count(m);
+    let mut at = 0;
+    let mut i = 0;
+    while i < n {
+        let x = store::message_at(m, i);
+        at += write_message(x, &mut out[at..]);
+        i += 1;
+    }
+    at
+}
+
+// Field 6, if a word is held for the device.
+fn write_word(m: &[u32], d: u8, out: &mut [u8]) -> usize
+    requires { ⌜ Shaped (now m) × (d < devices) × (8 * length (held-at d (tables (now m) .held)) ≤ length (now out)) ⌝ }
+    ensures { λ n. ⌜ Puts (each (λ h. field 6 (held-value h)) (held-at d (tables (now (m .entry)) .held))) (now (out .entry)) (now (out .exit)) n ⌝ }
+{
+    if !store::is_held(m, d) {
+        return 0;
+    }
+    let word = store::held_word(m, d);
+    buffer::put_four(out, 6, 0, 5, d);
+    buffer::put_word(&mut out[4..], word);
+    8
+}
+
+// Held words by rising device.
+fn write_held(m: &[u32], out: &mut [u8]) -> usize
+    requires { ⌜ Dumpable (now m) × (8 * length (tables (now m) .held) ≤ length (now out)) ⌝ }
+    ensures { λ k. ⌜ Puts (each (λ h. field 6 (held-value h)) (tables (now (m .entry)) .held)) (now (out .entry)) (now (out .exit)) k ⌝ }
+{
+    let mut at = 0;
+    let mut d = 0;
+    while d < numbers::DEVICES {
+        at += write_word(m, d, &mut out[at..]);
+        d += 1;
+    }
+    at
+}
+
+// 1 if a word is held for the device, 0 if none.
+fn count_word(m: &[u32], d: u8) -> usize
+    requires { ⌜ Shaped (now m) × (d < devices) ⌝ }
+    ensures { λ n. ⌜ n ≡ length (held-at d (tables (now (m .entry)) .held)) ⌝ }
+{
+    if store::is_held(m, d) { 1 } else { 0 }
+}
+
+// How many words are held.
+fn count_held(m: &[u32]) -> usize
+    requires { ⌜ Dumpable (now m) ⌝ }
+    ensures { λ n. ⌜ n ≡ length (tables (now (m .entry)) .held) ⌝ }
+{
+    let mut n = 0;
+    let mut d = 0;
+    while d < numbers::DEVICES {
+        n += count_word(m, d);
+        d += 1;
+    }
+    n
+}
+
+// How long a buffer has to be.
+pub fn dump_length(m: &[u32]) -> usize
+    requires { ⌜ Dumpable (now m) ⌝ }
+    ensures { λ n. ⌜ n ≡ length (dump (tables (now (m .entry)))) ⌝ }
+{
+    let threads = store::thread_count(m);
+    let ready = store::ready_count(m);
+    let clock = store::clock_count(m);
+    let messages = store::message_count(m);
+    let held = count_held(m);
+    18 + 20 * threads + ready + clock + 10 * messages + 8 * held
+}
+
+// The whole dump. The buffer is long enough.
+pub fn write_dump(m: &[u32], out: &mut [u8]) -> usize
+    requires { ⌜ Dumpable (now m) × (length (dump (tables (now m))) ≤ length (now out)) ⌝ }
+    ensures { λ n. ⌜ Puts (dump (tables (now (m .entry)))) (now (out .entry)) (now (out .exit)) n ⌝ }
+{
+    let mut at = write_head(m, out);
+    at += write_threads(m, &mut out[at..]);
+    at += write_ready(m, &mut out[at..]);
+    at += write_clock(m, &mut out[at..]);
+    at += write_messages(m, &mut out[at..]);
+    at += write_held(m, &mut out[at..]);
+    at
+}
