@@ -1,0 +1,4 @@
+// Reading a dump: bytes as tables in a lent memory, or the refusal.
+pub mod load;
+mod reading;
+mod values;
