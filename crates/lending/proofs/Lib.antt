@@ -1,0 +1,3 @@
+pub mod Standing
+pub mod Determined
+pub mod Runs
