@@ -1,0 +1,4 @@
+pub mod Text
+pub mod Printing
+pub mod Input
+pub mod Listing
