@@ -23,19 +23,28 @@ extern "C" {
     fn meter_check(bytes: *const u8, length: usize) -> u64;
 }
 
+#[link(name = "gauge", kind = "static")]
+extern "C" {
+    fn gauge_step(bytes: *const u8, length: usize) -> u64;
+    fn gauge_lent(bytes: *const u8, length: usize) -> u64;
+    fn gauge_check(bytes: *const u8, length: usize) -> u64;
+}
+
 const CHECKS: u32 = 1000;
 
-const RUNS: [(&str, Run); 6] = [
+const RUNS: [(&str, Run); 8] = [
     ("plain", plain),
     ("independent", independent),
     ("rows", rows),
+    ("memory", memory),
     ("plain-checked", plain_checked),
     ("independent-lent", independent_lent),
     ("values", values),
+    ("memory-lent", memory_lent),
 ];
 
 /// From here on RUNS work on lent tables, which are checked at each event.
-const LENT: usize = 3;
+const LENT: usize = 4;
 
 fn rows(bytes: &[u8]) -> u64 {
     // Any bytes will do: the function has no `requires`.
@@ -48,6 +57,19 @@ fn values(bytes: &[u8]) -> u64 {
 
 fn check(bytes: &[u8]) -> u64 {
     unsafe { meter_check(bytes.as_ptr(), bytes.len()) }
+}
+
+/// The proved step in one memory.
+fn memory(bytes: &[u8]) -> u64 {
+    unsafe { gauge_step(bytes.as_ptr(), bytes.len()) }
+}
+
+fn memory_lent(bytes: &[u8]) -> u64 {
+    unsafe { gauge_lent(bytes.as_ptr(), bytes.len()) }
+}
+
+fn memory_check(bytes: &[u8]) -> u64 {
+    unsafe { gauge_check(bytes.as_ptr(), bytes.len()) }
 }
 
 /// Plain Rust, on rows that it keeps and changes in place.
@@ -107,28 +129,29 @@ fn compare_steps(rounds: usize, files: &[(String, Vec<u8>)]) {
     }
 }
 
-/// The time of one check, by plain Rust and by the proved nucleus. The run up to the tables is taken off.
-fn one_check(rounds: usize, filled: &Filled) -> [f64; 2] {
-    for (name, check) in [("plain", plain_check as Run), ("the proved check", check)] {
+/// The time of one check, by plain Rust, by the proved check of rows and by that of a memory. The run up to the tables is taken off.
+fn one_check(rounds: usize, filled: &Filled) -> [f64; 3] {
+    for (name, check) in [("plain", plain_check as Run), ("the proved check", check), ("the proved check of a memory", memory_check)] {
         assert_eq!(check(&filled.events), CHECKS.into(), "{name} finds a fault in {}", filled.name);
     }
-    let [mine, run, proved, run_proved] = best(rounds, [plain_check, plain, check, rows], &filled.events);
-    [mine - run, proved - run_proved].map(|time| time / f64::from(CHECKS))
+    let [mine, run, proved, run_proved, in_place, run_in_place] =
+        best(rounds, [plain_check, plain, check, rows, memory_check, memory], &filled.events);
+    [mine - run, proved - run_proved, in_place - run_in_place].map(|time| time / f64::from(CHECKS))
 }
 
 fn compare_checks(rounds: usize, all: &[Filled]) {
     println!("\ncheck by itself, ns each: lent numbers read into rows, and the table rules");
-    println!("{} {:>7} {:>7} {:>6}", tables::fill_head(), "plain", "proved", "ratio");
+    println!("{} {:>7} {:>7} {:>6} {:>7} {:>6}", tables::fill_head(), "plain", "rows", "ratio", "memory", "ratio");
     for filled in all {
-        let [mine, proved] = one_check(rounds, filled);
-        println!("{} {:>7.1} {:>7.1} {:>6.2}", filled.fill(), mine * 1e9, proved * 1e9, proved / mine);
+        let [mine, proved, memory] = one_check(rounds, filled).map(|time| time * 1e9);
+        println!("{} {mine:>7.1} {proved:>7.1} {:>6.2} {memory:>7.1} {:>6.2}", filled.fill(), proved / mine, memory / mine);
     }
 }
 
 fn main() -> ExitCode {
     let arguments: Vec<String> = std::env::args().skip(1).collect();
     if let [word, name, file] = &arguments[..] {
-        let others: [(&str, Run); 2] = [("check", check), ("plain-check", plain_check)];
+        let others: [(&str, Run); 3] = [("check", check), ("plain-check", plain_check), ("memory-check", memory_check)];
         let found = RUNS.iter().chain(&others).find(|(other, _)| other == name);
         if let ("only", Some((_, run))) = (word.as_str(), found) {
             println!("{}", run(&timing::read(file)));
