@@ -1,19 +1,19 @@
 // All the table rules. Orders, ranges and names come first: later tests rest on them. The index of names is made once, and lent.
-use crate::answers;
-use crate::devices;
-use crate::inboxes;
-use crate::index;
-use crate::managers;
-use crate::parents;
-use crate::places;
-use crate::ranges;
+use agreeing::answers;
+use ranging::devices;
+use agreeing::inboxes;
+use indexing::index;
+use agreeing::managers;
+use ranging::parents;
+use agreeing::places;
+use ranging::ranges;
 ghost use mathlib.Core.Path.{_≡_};
 ghost use mathlib.Core.Bool.{_&&_};
 ghost use Prim.Native.Nat.{ℕ, _≤_};
 ghost use Rattle.rules.specs.Lists.{_==_, count};
 ghost use Rattle.rules.specs.TableRules.{names-live, trapped-right, answers-right, inboxes-right, messages-right, notices-right, table-rules};
 ghost use Rattle.store.specs.Store.{Shaped, tables, limits};
-ghost use Rattle.checking.specs.Index.{Indexed};
+ghost use Rattle.indexing.specs.Index.{Indexed};
 
 // The rules on threads by themselves.
 fn threads_right(m: &[u32], at: &[u8; 256]) -> bool

@@ -1,18 +1,17 @@
-// The loop that the programs share, a round at a time: the fields that have been read are served (crates/lines), and where none is left
-// that is all there, more is read. No contract can say what is read or written: what a turn does to the bytes is promised by `turn`.
-use lines::Span;
-use lines::turn;
-use lines::window;
-use nucleus::Rows;
-use nucleus::start;
+// The loop that the programs share, a round at a time: the fields that have been read are served (crates/printing), and where none is left
+// that is all there, more is read. What is written and what is left to serve is promised exactly, but for the bytes that a read gives.
+use printing::Span;
+use printing::turn;
+use printing::window;
 ghost use mathlib.Core.Path.{_≡_};
-ghost use Prim.Native.Nat.{ℕ, _+_, _≤_};
+ghost use Prim.Native.Nat.{_+_, _≤_};
 ghost use lib.ListN.{length};
-ghost use Rattle.stream.specs.Stream.{Right};
+ghost use Rattle.rules.specs.Numbers.{small};
+ghost use Rattle.memory.specs.Layout.{size};
+ghost use Rattle.stream.specs.Stream.{Right, Begins, Serves, Reads, Rounds};
 
-// The window over the input's buffer, the tables, the number of the next line, and how many bytes of lines wait to be written.
+// The window over the input's buffer, the number of the next line, and how many bytes of lines wait to be written.
 pub struct Run {
-    pub rows: Rows,
     pub line: u64,
     pub at: usize,
     pub held: usize,
@@ -28,12 +27,19 @@ pub fn input_buffer() -> [u8; 131072]
     [0; 131072]
 }
 
-pub fn begin() -> Run
-    ensures { λ r. ⌜ ((n m : ℕ) → Right r n m) × (r .line ≡ 1) ⌝ }
+// Room for tables of 20 threads and 20 blocks.
+pub fn room() -> [u32; 656]
+    ensures { λ r. ⌜ 656 ≡ length r ⌝ }
 {
-    let rows = start::start_rows();
+    [0; 656]
+}
+
+pub fn begin(m: &mut [u32]) -> Run
+    requires { ⌜ size small ≤ length (now m) ⌝ }
+    ensures { λ r. ⌜ Begins (now (m .exit)) r ⌝ }
+{
+    lending::start::start_in(m);
     Run {
-        rows,
         line: 1,
         at: 0,
         held: 0,
@@ -44,17 +50,14 @@ pub fn begin() -> Run
 }
 
 // The fields in the window are served. `last`: nothing comes behind them.
-pub fn serve(r: Run, last: bool, input: &[u8], out: &mut [u8]) -> Run
-    requires { ⌜ Right r (length (now input)) (length (now out)) × (r .line + length (now input) ≤ 9223372036854775808) ⌝ }
-    ensures { λ v. ⌜ Right v (length (now (input .entry))) (length (now (out .entry))) × (v .line ≤ r .line + length (now (input .entry))) × (length (now (out .exit)) ≡ length (now (out .entry))) ⌝ }
+pub fn serve(m: &mut [u32], r: Run, last: bool, input: &[u8], out: &mut [u8]) -> Run
+    requires { ⌜ Right (now m) r (length (now input)) (length (now out)) × (r .line + length (now input) ≤ 9223372036854775808) ⌝ }
+    ensures { λ v. ⌜ Serves (now (m .entry)) r last (now (input .entry)) (now (out .entry)) (now (out .exit)) (now (m .exit)) v ⌝ }
 {
-    let rows = r.rows;
     let at = r.at;
     let held = r.held;
-    let t = turn::turn(rows, r.line, &input[at..held], last, out);
-    let after = t.rows;
+    let t = turn::turn(m, r.line, &input[at..held], last, out);
     Run {
-        rows: after,
         line: t.line,
         at: at + t.used,
         held,
@@ -67,7 +70,7 @@ pub fn serve(r: Run, last: bool, input: &[u8], out: &mut [u8]) -> Run
 // More is read behind the window.
 pub fn read_more(r: Run, input: &mut [u8]) -> Run
     requires { ⌜ (r .at ≤ r .held) × (r .held ≤ length (now input)) ⌝ }
-    ensures { λ v. ⌜ (v .rows ≡ r .rows) × (v .line ≡ r .line) × (v .filled ≡ r .filled) × (v .at ≤ v .held) × (v .held ≤ length (now (input .entry))) × (length (now (input .exit)) ≡ length (now (input .entry))) ⌝ }
+    ensures { λ v. ⌜ Reads r (now (input .entry)) (now (input .exit)) v ⌝ }
 {
     let w = window::refill(
         input,
@@ -78,9 +81,7 @@ pub fn read_more(r: Run, input: &mut [u8]) -> Run
             failed: r.failed,
         },
     );
-    let rows = r.rows;
     Run {
-        rows,
         line: r.line,
         at: w.at,
         held: w.held,
@@ -91,11 +92,11 @@ pub fn read_more(r: Run, input: &mut [u8]) -> Run
 }
 
 // One round: lines to be written, or more read.
-pub fn round(r: Run, input: &mut [u8], out: &mut [u8]) -> Run
-    requires { ⌜ Right r (length (now input)) (length (now out)) × (r .line + length (now input) ≤ 9223372036854775808) ⌝ }
-    ensures { λ v. ⌜ Right v (length (now (input .entry))) (length (now (out .entry))) × (v .line ≤ r .line + length (now (input .entry))) × (length (now (input .exit)) ≡ length (now (input .entry))) × (length (now (out .exit)) ≡ length (now (out .entry))) ⌝ }
+pub fn round(m: &mut [u32], r: Run, input: &mut [u8], out: &mut [u8]) -> Run
+    requires { ⌜ Right (now m) r (length (now input)) (length (now out)) × (r .line + length (now input) ≤ 9223372036854775808) ⌝ }
+    ensures { λ v. ⌜ Rounds (now (m .entry)) r (now (input .entry)) (now (out .entry)) (now (m .exit)) (now (input .exit)) (now (out .exit)) v ⌝ }
 {
-    let v = serve(r, false, input, out);
+    let v = serve(m, r, false, input, out);
     if 0 < v.filled {
         return v;
     }

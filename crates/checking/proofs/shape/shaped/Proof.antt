@@ -3,7 +3,7 @@
 use borrow.Author.Needs.{needs}
 use borrow.Author.Tests.{le-leb, lt-leb, eq-eqb, ne-eqb}
 use Rattle.checking.specs.Stands.{shaped}
-use Rattle.checking.proofs.Both.{fails-at, passes, ends}
+use Rattle.indexing.proofs.Both.{fails-at, passes, ends}
 use Rattle.checking.proofs.shape.shaped.Statement.{statement}
 use Rattle.checking.proofs.shape.shaped.Tie as tie
 

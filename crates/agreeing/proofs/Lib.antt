@@ -1,0 +1,3 @@
+pub mod Inboxing
+pub mod Noticing
+pub mod Widths

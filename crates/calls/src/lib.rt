@@ -1,6 +1,0 @@
-// What a runner asks for (rules::Call): send, receive, trap, the requests, and the ending that they can cause.
-pub mod ending;
-pub mod receive;
-pub mod requests;
-pub mod send;
-pub mod trap;

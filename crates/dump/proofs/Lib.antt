@@ -1,3 +1,0 @@
-pub mod PutLoops
-pub mod Parts
-pub mod DumpExits

@@ -1,0 +1,9 @@
+pub mod Both
+pub mod Chains
+pub mod Indexing
+pub mod Looking
+pub mod Marking
+pub mod Passing
+pub mod Standing
+pub mod Tallying
+pub mod Wraps

@@ -1,0 +1,2 @@
+// The index of names that a table check makes once, and passes over the rows of a memory.
+pub mod index;

@@ -1,6 +1,0 @@
-pub mod Cutting
-pub mod Finding
-pub mod Comparing
-pub mod Loading
-pub mod Promises
-pub mod Accepted

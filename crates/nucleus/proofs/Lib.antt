@@ -1,4 +1,0 @@
-pub mod Sizes
-pub mod Exits
-pub mod Sending
-pub mod Ticks

@@ -1,0 +1,5 @@
+pub mod Climbing
+pub mod Leading
+pub mod Raising
+pub mod Rising
+pub mod Waiters

@@ -1,4 +1,0 @@
-pub mod Found
-pub mod Joining
-pub mod Loops
-pub mod Sizes
