@@ -1,2 +1,3 @@
 pub mod DumpRoom
 pub mod Determined
+pub mod Runs

@@ -31,32 +31,16 @@ struct fs = let s = largest-align fs in record { bytes = up-to s (end-of 0 fs); 
 unfoldable pub array : ℕ → Laid → Laid
 array n f = record { bytes = n * f .bytes; align = f .align }
 
--- the numbers, on a machine of 64 bits
+-- the numbers
 abbrev pub u8 : Laid
 u8 = record { bytes = 1; align = 1 }
 
 abbrev pub u32 : Laid
 u32 = record { bytes = 4; align = 4 }
 
-abbrev pub usize : Laid
-usize = record { bytes = 8; align = 8 }
-
--- the structs, field by field (crates/lent/src/lib.rt, crates/rows/src/lib.rt, crates/rules/src/lib.rt, crates/board/src/lib.rt)
-unfoldable pub lent-thread : Laid
-lent-thread = struct (u8 ∷ u8 ∷ u8 ∷ u8 ∷ u8 ∷ u8 ∷ u8 ∷ u8 ∷ u8 ∷ u32 ∷ u32 ∷ [])
-
-unfoldable pub lent-message : Laid
-lent-message = struct (u8 ∷ u8 ∷ u8 ∷ u32 ∷ [])
-
-unfoldable pub held : Laid
-held = struct (u8 ∷ u32 ∷ [])
-
--- a row of n and its count
-unfoldable pub row : ℕ → Laid → Laid
-row n f = struct (array n f ∷ usize ∷ [])
-
+-- the structs, field by field (crates/lending/src/lib.rt, crates/board/src/lib.rt)
 unfoldable pub lent-tables : Laid
-lent-tables = struct (u8 ∷ u8 ∷ u8 ∷ u8 ∷ u32 ∷ usize ∷ array 20 lent-thread ∷ row 20 u8 ∷ row 20 u8 ∷ row 40 lent-message ∷ row 48 held ∷ [])
+lent-tables = struct (array 656 u32 ∷ [])
 
 unfoldable pub report : Laid
 report = struct (u8 ∷ u8 ∷ u8 ∷ u8 ∷ u8 ∷ u32 ∷ [])

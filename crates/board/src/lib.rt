@@ -1,21 +1,21 @@
 // The nucleus for a board, whose C code lends the tables. An entry takes the value behind the reference, calls a function by value and stores
-// what that gives. The contract speaks of what stands behind the reference at entry and at exit.
+// what that gives. The contract speaks of the words that stand behind the reference at entry and at exit.
 pub mod values;
 
-use dump::Dumped;
-use lent::Tables;
-use lent::step;
+use lending::Dumped;
+use lending::Tables;
+use lending::check;
+use lending::dump;
+use lending::load;
+use lending::start;
 use rules::Picked;
 use rules::pick;
 ghost use mathlib.Core.Path.{_≡_};
-ghost use mathlib.Core.Bool.{true};
 ghost use lib.ListN.{length};
-ghost use Rattle.rules.specs.Tables.{start as start-of};
 ghost use Rattle.rules.specs.Pick.{pick as pick-of};
-ghost use Rattle.lent.specs.Lent.{tables-of, valid};
-ghost use Rattle.dump.specs.Dumping.{dumped, buffer-after};
-ghost use Rattle.load.specs.Reading.{Loads};
-ghost use Rattle.board.specs.Board.{Steps, check-of};
+ghost use Rattle.loading.specs.Loading.{Loads};
+ghost use Rattle.lending.specs.Lent.{Started, check-of, dumped, buffer-after};
+ghost use Rattle.board.specs.Board.{Steps};
 ghost use Rattle.board.specs.Layout.{sizes-of};
 
 // A decision as numbers.
@@ -46,14 +46,14 @@ pub struct Sizes {
 // Starting is never refused, and looks at nothing that stood there.
 #[no_mangle]
 pub extern "C" fn nucleus_start(t: &mut Tables)
-    ensures { λ _. ⌜ (valid (now (t .exit)) ≡ true) × (tables-of (now (t .exit)) ≡ start-of) ⌝ }
+    ensures { λ _. ⌜ Started (now (t .exit) .words) ⌝ }
 {
-    *t = step::start_value();
+    *t = start::start_value();
 }
 
 #[no_mangle]
 pub extern "C" fn nucleus_step(t: &mut Tables, event: &[u8]) -> Report
-    ensures { λ r. ⌜ Steps (now (t .entry)) (now (event .entry)) (now (t .exit)) r ⌝ }
+    ensures { λ r. ⌜ Steps (now (t .entry) .words) (now (event .entry)) (now (t .exit) .words) r ⌝ }
 {
     let r = values::step_numbers(*t, event);
     *t = r.tables;
@@ -63,24 +63,24 @@ pub extern "C" fn nucleus_step(t: &mut Tables, event: &[u8]) -> Report
 // 11 if the tables stand for none that meet the table rules, else 0.
 #[no_mangle]
 pub extern "C" fn nucleus_check(t: &Tables) -> u8
-    ensures { λ n. ⌜ n ≡ check-of (now (t .entry)) ⌝ }
+    ensures { λ n. ⌜ n ≡ check-of (now (t .entry) .words) ⌝ }
 {
-    values::check_value(*t)
+    check::check_value(*t)
 }
 
 #[no_mangle]
 pub extern "C" fn nucleus_dump(t: &Tables, out: &mut [u8]) -> Dumped
-    ensures { λ d. ⌜ (d ≡ dumped (now (t .entry)) (length (now (out .entry)))) × (now (out .exit) ≡ buffer-after (now (t .entry)) (now (out .entry))) ⌝ }
+    ensures { λ d. ⌜ (d ≡ dumped (now (t .entry) .words) (length (now (out .entry)))) × (now (out .exit) ≡ buffer-after (now (t .entry) .words) (now (out .entry))) ⌝ }
 {
-    dump::dump::dump_value(*t, out)
+    dump::dump_value(*t, out)
 }
 
 // Nothing looks at the tables that came: `load_value` is handed them so that a refused reading stores them back as they were.
 #[no_mangle]
 pub extern "C" fn nucleus_load(t: &mut Tables, bytes: &[u8]) -> u8
-    ensures { λ n. ⌜ Loads (now (t .entry)) (now (bytes .entry)) (record { tables = now (t .exit); refusal = n }) ⌝ }
+    ensures { λ n. ⌜ Loads (now (t .entry) .words) (now (bytes .entry)) (now (t .exit) .words) n ⌝ }
 {
-    let l = load::load::load_value(*t, bytes);
+    let l = load::load_value(*t, bytes);
     *t = l.tables;
     l.refusal
 }

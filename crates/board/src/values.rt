@@ -1,14 +1,11 @@
-// The by-value functions under the entries, with decisions as numbers.
+// The step by value under its entry, its decision as numbers, and the sizes.
 use crate::Report;
 use crate::Served;
-use lent::Tables;
-use lent::codes;
-use lent::reading;
-use lent::step;
+use lending::Tables;
+use lending::step;
 use rules::Decision;
-use table::rules_met;
 ghost use mathlib.Core.Path.{_≡_};
-ghost use Rattle.board.specs.Board.{report-of, Steps, check-of};
+ghost use Rattle.board.specs.Board.{report-of, Steps};
 
 fn report(d: Decision) -> Report
     ensures { λ r. ⌜ r ≡ report-of d ⌝ }
@@ -25,7 +22,7 @@ fn report(d: Decision) -> Report
 }
 
 pub fn step_numbers(t: Tables, event: &[u8]) -> Served
-    ensures { λ s. ⌜ Steps t (now (event .entry)) (s .tables) (s .report) ⌝ }
+    ensures { λ s. ⌜ Steps (t .words) (now (event .entry)) (s .tables .words) (s .report) ⌝ }
 {
     let s = step::step_value(t, event);
     let tables = s.tables;
@@ -37,24 +34,8 @@ pub fn step_numbers(t: Tables, event: &[u8]) -> Served
     }
 }
 
-// Refusal 11.
-const NO_TABLES: u8 = 11;
-
-pub fn check_value(t: Tables) -> u8
-    ensures { λ n. ⌜ n ≡ check-of t ⌝ }
-{
-    if !reading::stands(t) {
-        return NO_TABLES;
-    }
-    let r = reading::read(t);
-    if !rules_met::rules_met(r) {
-        return NO_TABLES;
-    }
-    0
-}
-
 // The language has no size_of. These are numbers, and specs/Layout.antt adds the first two up field by field.
-pub const TABLES_BYTES: u32 = 1200;
+pub const TABLES_BYTES: u32 = 2624;
 
 pub const REPORT_BYTES: u32 = 12;
 

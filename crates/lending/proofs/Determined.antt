@@ -1,5 +1,5 @@
 -- Determinacy on a lent memory: any two results that a public operation's promise allows agree, in decision and in dump. By value too: what is
--- promised of a struct is promised of its words.
+-- promised of a struct is promised of its words. The promises of check and dump are equalities.
 -- Assumes nothing.
 use Prim.Native.Nat.{ℕ}
 use mathlib.Core.Path.{_≡_, refl, sym, ap, _∙_}
@@ -15,7 +15,11 @@ use Rattle.laws.proofs.Determinacy.{determined}
 use Rattle.laws.proofs.Dump.{dump-tells}
 use Rattle.store.specs.Store.{tables}
 use Rattle.checking.specs.Stands.{shaped, stands}
+use Rattle.loading.specs.Loading.{Loads}
+use Rattle.loading.proofs.Promises.{load-in-determined}
 use Rattle.lending.specs.Lent.{valid, Answered, Started}
+use Rattle.lending.specs.declared.Tables.{Tables as Lent}
+use Rattle.lending.specs.declared.Loaded.{Loaded}
 
 -- A memory that stands for no tables is kept, every word: 11 is a refusal.
 pub broken-are-kept : {m bytes a : List ℕ} {d : Decision} → Answered m bytes a d → valid m ≡ false → a ≡ m
@@ -53,3 +57,12 @@ pub lent-dump-tells : (a b : List ℕ) → valid a ≡ true → valid b ≡ true
 unfolding stands
 lent-dump-tells a b v w e =
     dump-tells small (tables a) (tables b) (and-right (shaped small a) _ v) (and-right (shaped small b) _ w) e
+
+-- Any two results of load_value that its promise allows agree: in the refusal; in the tables and their dump, where the bytes are accepted; in
+-- every word, where they are not.
+pub load-value-determined : (t : Lent) (bytes : List ℕ) (l k : Loaded) →
+    Loads (t .words) bytes (l .tables .words) (l .refusal) → Loads (t .words) bytes (k .tables .words) (k .refusal) →
+    (l .refusal ≡ k .refusal)
+    × (l .refusal ≡ 0 → (tables (l .tables .words) ≡ tables (k .tables .words)) × (dump (tables (l .tables .words)) ≡ dump (tables (k .tables .words))))
+    × (l .refusal ≢ 0 → l .tables .words ≡ k .tables .words)
+load-value-determined t bytes l k p q = load-in-determined (t .words) bytes _ _ _ _ p q

@@ -1,3 +1,4 @@
 pub mod Standing
+pub mod DumpExits
 pub mod Determined
 pub mod Runs

@@ -1,11 +1,14 @@
-// The public operations on lent tables: a memory of any length and contents gets its answer.
+// The public operations on lent tables: a memory of any length and contents gets its answer. Reading a dump in place is loading::load::load_in.
+pub mod check;
+pub mod dump;
+pub mod load;
 pub mod start;
 pub mod step;
 
 use rules::Decision;
 
 // The words that tables of 20 threads and 20 blocks need.
-pub const WORDS: usize = 656;
+pub const WORDS: usize = loading::load::WORDS;
 
 // The tables as a struct: the same memory. Every bit pattern is a value.
 #[repr(C)]
@@ -17,4 +20,17 @@ pub struct Tables {
 pub struct Stepped {
     pub tables: Tables,
     pub decision: Decision,
+}
+
+// What writing a dump answers: the refusal, and the dump's length. It is laid out as in C, for the entry of crates/board.
+#[repr(C)]
+pub struct Dumped {
+    pub refusal: u8,
+    pub length: usize,
+}
+
+// What reading a dump into lent tables leaves.
+pub struct Loaded {
+    pub tables: Tables,
+    pub refusal: u8,
 }

@@ -18,7 +18,7 @@ ghost use Rattle.loading.specs.Reading.{Accepts};
 ghost use Rattle.loading.specs.Loading.{Loads};
 
 // The words that tables of 20 threads and 20 blocks need.
-const WORDS: usize = 656;
+pub const WORDS: usize = 656;
 
 // A dump has at most so many bytes.
 const LONGEST: usize = 1241;

@@ -36,14 +36,14 @@ use denote.Triple.Table.{entered, cited}
 use denote.Triple.Walked.{says, Stays, stay-none-ref, walkOf, AllGo, goes-none-ref, Walks, ends-at, walked, walk-meets}
 use denote.Exit.{yes}
 use denote.Triple.Clauses.{ensured, lasts}
-use Rattle.lent.specs.declared.Tables.{Tables}
-use Rattle.lent.proofs.Tables as T
-use Rattle.lent.proofs.Tables.Laws as T′
-use Rattle.board.specs.Board.{check-of}
-use Rattle.board.proofs.values.check_value as value
-use Rattle.board.proofs.values.check_value.Symbol as value-def
-use Rattle.board.proofs.values.check_value.Symbol.{name as #check-value}
-use Rattle.board.proofs.values.check_value.Met as value-thm
+use Rattle.lending.specs.declared.Tables.{Tables}
+use Rattle.lending.proofs.Tables as T
+use Rattle.lending.proofs.Tables.Laws as T′
+use Rattle.lending.specs.Lent.{check-of}
+use Rattle.lending.proofs.check.check_value as value
+use Rattle.lending.proofs.check.check_value.Symbol as value-def
+use Rattle.lending.proofs.check.check_value.Symbol.{name as #check-value}
+use Rattle.lending.proofs.check.check_value.Met as value-thm
 use Rattle.board.proofs.nucleus_check.Key.{name as #check}
 use Rattle.board.proofs.nucleus_check as check
 use Rattle.board.proofs.nucleus_check.Statement as stated
@@ -73,7 +73,7 @@ module _ {M : Type 1} (𝓤 : URA M) (H : Heap 𝓤) (A : Atoms 𝓤) (W : Given
 
   -- what the call promises, and the entry passes on
   abbrev Found : ℕ → Type 0
-  Found n = n ≡ check-of h
+  Found n = n ≡ check-of (h .words)
 
   abbrev Post : Val → SProp 𝓤
   Post = walkOf 𝓤 H A check.ended stayed (check.clauses 𝓤 H A at-mem run) .post (((κ, tt), (q, tt), tt, x, at), tt)
@@ -139,4 +139,4 @@ nucleus-check-spec 𝓤 H 𝓜 𝓖 𝓡 =
     entered 𝓤 H (tripleOf 𝓤 H (𝓖 .A) check.signature (check.spec 𝓤 H (𝓖 .A) (𝓜 .mem) (𝓡 .run)))
     (tables 𝓤 H 𝓜 𝓡 code.env .C) (tables 𝓤 H 𝓜 𝓡 code.env .Λ) #check code.function (code.unfolded 𝓤 H 𝓜 𝓡)
     (check-meets 𝓤 H (𝓖 .A) (givenOf 𝓤 H 𝓜 𝓖) (𝓜 .mem) (𝓡 .run) (tablesOf 𝓤 H 𝓜 (tables 𝓤 H 𝓜 𝓡 code.env))
-    (cited 𝓤 H (Value 𝓤 H (𝓖 .A) (𝓜 .mem) (𝓡 .run)) 𝓜 𝓡 code.env #check-value value-def.routine code.calls-board·values·check-value (value-thm.met 𝓤 H 𝓜 𝓖 𝓡)))
+    (cited 𝓤 H (Value 𝓤 H (𝓖 .A) (𝓜 .mem) (𝓡 .run)) 𝓜 𝓡 code.env #check-value value-def.routine code.calls-lending·check·check-value (value-thm.met 𝓤 H 𝓜 𝓖 𝓡)))

@@ -39,17 +39,17 @@ use denote.Triple.Table.{entered, cited}
 use denote.Triple.Walked.{says, Stays, stay-none-ref, gave-slice, walkOf, AllGo, goes-none-ref, goes-gave-slice, Walks, ends-at, walked, walk-meets}
 use denote.Exit.{yes}
 use denote.Triple.Clauses.{ensured, lasts, Lasts}
-use Rattle.lent.specs.declared.Tables.{Tables}
-use Rattle.dump.specs.Dumping.{dumped, buffer-after}
-use Rattle.dump.specs.declared.Dumped.{Dumped}
-use Rattle.lent.proofs.Tables as T
-use Rattle.lent.proofs.Tables.Laws as T′
-use Rattle.dump.proofs.Dumped as D
-use Rattle.dump.proofs.Dumped.Laws as D′
-use Rattle.dump.proofs.dump.dump_value as value
-use Rattle.dump.proofs.dump.dump_value.Symbol as value-def
-use Rattle.dump.proofs.dump.dump_value.Symbol.{name as #dump-value}
-use Rattle.dump.proofs.dump.dump_value.Met as value-thm
+use Rattle.lending.specs.declared.Tables.{Tables}
+use Rattle.lending.specs.Lent.{dumped, buffer-after}
+use Rattle.lending.specs.declared.Dumped.{Dumped}
+use Rattle.lending.proofs.Tables as T
+use Rattle.lending.proofs.Tables.Laws as T′
+use Rattle.lending.proofs.Dumped as D
+use Rattle.lending.proofs.Dumped.Laws as D′
+use Rattle.lending.proofs.dump.dump_value as value
+use Rattle.lending.proofs.dump.dump_value.Symbol as value-def
+use Rattle.lending.proofs.dump.dump_value.Symbol.{name as #dump-value}
+use Rattle.lending.proofs.dump.dump_value.Met as value-thm
 use Rattle.board.proofs.nucleus_dump.Key.{name as #dump}
 use Rattle.board.proofs.nucleus_dump as entry
 use Rattle.board.proofs.nucleus_dump.Statement as stated
@@ -87,7 +87,7 @@ module _ {M : Type 1} (𝓤 : URA M) (H : Heap 𝓤) (A : Atoms 𝓤) (W : Given
 
   -- what the call promises, and the entry passes on: of the answer, and of the buffer's last bytes
   abbrev Said : Dumped → List ℕ → Type 0
-  Said d zs = (d ≡ dumped h (length os)) × (zs ≡ buffer-after h os)
+  Said d zs = (d ≡ dumped (h .words) (length os)) × (zs ≡ buffer-after (h .words) os)
 
   abbrev Post : Val → SProp 𝓤
   Post = walkOf 𝓤 H A entry.ended stayed (entry.clauses 𝓤 H A at-mem run) .post (((κ, (κ′, tt)), (q, (q′, tt)), tt, x, at), tt)
@@ -173,4 +173,4 @@ nucleus-dump-spec 𝓤 H 𝓜 𝓖 𝓡 =
     entered 𝓤 H (tripleOf 𝓤 H (𝓖 .A) entry.signature (entry.spec 𝓤 H (𝓖 .A) (𝓜 .mem) (𝓡 .run)))
     (tables 𝓤 H 𝓜 𝓡 code.env .C) (tables 𝓤 H 𝓜 𝓡 code.env .Λ) #dump code.function (code.unfolded 𝓤 H 𝓜 𝓡)
     (dump-meets 𝓤 H (𝓖 .A) (givenOf 𝓤 H 𝓜 𝓖) (𝓜 .mem) (𝓡 .run) (tablesOf 𝓤 H 𝓜 (tables 𝓤 H 𝓜 𝓡 code.env))
-    (cited 𝓤 H (Value 𝓤 H (𝓖 .A) (𝓜 .mem) (𝓡 .run)) 𝓜 𝓡 code.env #dump-value value-def.routine code.calls-dump·dump·dump-value (value-thm.met 𝓤 H 𝓜 𝓖 𝓡)))
+    (cited 𝓤 H (Value 𝓤 H (𝓖 .A) (𝓜 .mem) (𝓡 .run)) 𝓜 𝓡 code.env #dump-value value-def.routine code.calls-lending·dump·dump-value (value-thm.met 𝓤 H 𝓜 𝓖 𝓡)))

@@ -41,17 +41,17 @@ use denote.Triple.Table.{entered, cited}
 use denote.Triple.Walked.{says, Stays, stay-ref, stay-none-slice, walkOf, AllGo, goes-ref, goes-none-slice, Walks, ends-at, walked, walk-meets}
 use denote.Exit.{yes}
 use denote.Triple.Clauses.{ensured, lasts}
-use Rattle.lent.specs.declared.Tables.{Tables}
-use Rattle.load.specs.Reading.{Loads}
-use Rattle.load.specs.declared.Loaded.{Loaded}
-use Rattle.lent.proofs.Tables as T
-use Rattle.lent.proofs.Tables.Laws as T′
-use Rattle.load.proofs.Loaded as L
-use Rattle.load.proofs.Loaded.Laws as L′
-use Rattle.load.proofs.load.load_value as value
-use Rattle.load.proofs.load.load_value.Symbol as value-def
-use Rattle.load.proofs.load.load_value.Symbol.{name as #load-value}
-use Rattle.load.proofs.load.load_value.Met as value-thm
+use Rattle.lending.specs.declared.Tables.{Tables}
+use Rattle.loading.specs.Loading.{Loads}
+use Rattle.lending.specs.declared.Loaded.{Loaded}
+use Rattle.lending.proofs.Tables as T
+use Rattle.lending.proofs.Tables.Laws as T′
+use Rattle.lending.proofs.Loaded as L
+use Rattle.lending.proofs.Loaded.Laws as L′
+use Rattle.lending.proofs.load.load_value as value
+use Rattle.lending.proofs.load.load_value.Symbol as value-def
+use Rattle.lending.proofs.load.load_value.Symbol.{name as #load-value}
+use Rattle.lending.proofs.load.load_value.Met as value-thm
 use Rattle.board.proofs.nucleus_load.Key.{name as #load}
 use Rattle.board.proofs.nucleus_load as entry
 use Rattle.board.proofs.nucleus_load.Statement as stated
@@ -92,7 +92,7 @@ module _ {M : Type 1} (𝓤 : URA M) (H : Heap 𝓤) (A : Atoms 𝓤) (W : Given
 
   -- what the call promises, and the entry passes on
   abbrev Found : Loaded → Type 0
-  Found r = Loads h (now s) r
+  Found r = Loads (h .words) (now s) (r .tables .words) (r .refusal)
 
   abbrev Post : Val → SProp 𝓤
   Post = walkOf 𝓤 H A entry.ended stayed (entry.clauses 𝓤 H A at-mem run) .post (((κ, (κ′, tt)), (q, (q′, tt)), tt, x, at), tt)
@@ -177,4 +177,4 @@ nucleus-load-spec 𝓤 H 𝓜 𝓖 𝓡 =
     entered 𝓤 H (tripleOf 𝓤 H (𝓖 .A) entry.signature (entry.spec 𝓤 H (𝓖 .A) (𝓜 .mem) (𝓡 .run)))
     (tables 𝓤 H 𝓜 𝓡 code.env .C) (tables 𝓤 H 𝓜 𝓡 code.env .Λ) #load code.function (code.unfolded 𝓤 H 𝓜 𝓡)
     (load-meets 𝓤 H (𝓖 .A) (givenOf 𝓤 H 𝓜 𝓖) (𝓜 .mem) (𝓡 .run) (tablesOf 𝓤 H 𝓜 (tables 𝓤 H 𝓜 𝓡 code.env))
-    (cited 𝓤 H (Value 𝓤 H (𝓖 .A) (𝓜 .mem) (𝓡 .run)) 𝓜 𝓡 code.env #load-value value-def.routine code.calls-load·load·load-value (value-thm.met 𝓤 H 𝓜 𝓖 𝓡)))
+    (cited 𝓤 H (Value 𝓤 H (𝓖 .A) (𝓜 .mem) (𝓡 .run)) 𝓜 𝓡 code.env #load-value value-def.routine code.calls-lending·load·load-value (value-thm.met 𝓤 H 𝓜 𝓖 𝓡)))

@@ -40,12 +40,12 @@ use denote.Triple.Table.{entered, cited}
 use denote.Triple.Walked.{says, Stays, stay-ref, stay-none-slice, walkOf, AllGo, goes-ref, goes-none-slice, Walks, ends-at, walked, walk-meets}
 use denote.Exit.{yes}
 use denote.Triple.Clauses.{ensured, lasts}
-use Rattle.lent.specs.declared.Tables.{Tables}
+use Rattle.lending.specs.declared.Tables.{Tables}
 use Rattle.board.specs.Board.{Steps}
 use Rattle.board.specs.declared.Report.{Report}
 use Rattle.board.specs.declared.Served.{Served}
-use Rattle.lent.proofs.Tables as T
-use Rattle.lent.proofs.Tables.Laws as T′
+use Rattle.lending.proofs.Tables as T
+use Rattle.lending.proofs.Tables.Laws as T′
 use Rattle.board.proofs.Report as D
 use Rattle.board.proofs.Report.Laws as D′
 use Rattle.board.proofs.Served as S
@@ -100,7 +100,7 @@ module _ {M : Type 1} (𝓤 : URA M) (H : Heap 𝓤) (A : Atoms 𝓤) (W : Given
 
   -- what the call promises, and the entry passes on
   abbrev Found : Served → Type 0
-  Found r = Steps h (now s) (r .tables) (r .report)
+  Found r = Steps (h .words) (now s) (r .tables .words) (r .report)
 
   abbrev Post : Val → SProp 𝓤
   Post = walkOf 𝓤 H A step.ended stayed (step.clauses 𝓤 H A at-mem run) .post (((κ, (κ′, tt)), (q, (q′, tt)), tt, x, at), tt)

@@ -6,20 +6,13 @@ use Rattle.board.specs.Board.{report-of}
 use borrow.Author.Needs.{needs}
 use Rattle.board.proofs.values.step_numbers.Statement.{statement}
 use Rattle.board.proofs.values.step_numbers.Tie as tie
-use Rattle.board.proofs.values.step_numbers.Reads as reads
-use Rattle.board.proofs.values.step_numbers.Lts as lts
-use Rattle.board.proofs.values.report.Reads as report-reads
-use Rattle.lent.proofs.step.step_value.Reads as step-value-reads
 
--- src/values.rt:32:9
 step-value-requires : tie.Need-step-value-requires
 step-value-requires c κs = search needs
 
--- src/values.rt:35:9
 report-requires : tie.Need-report-requires
 report-requires c κs = search needs
 
--- src/values.rt:29:1
 returns : tie.Need-returns
 unfolding report-of
 returns c =
