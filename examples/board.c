@@ -1,6 +1,6 @@
 /* A node in plain C, for a board's engineer to copy from; docs/BOARD.md says how to build it.
    It starts a node, feeds it the events of document 01's listing and prints what the event program prints for them.
-   Then it takes a dump, loads it into other tables, and compares a dump of those. Every answer is checked. */
+   Then it takes a dump, reads a few things there, loads it into other tables, and compares a dump of those. Every answer is checked. */
 #include "nucleus.h"
 
 #include <inttypes.h>
@@ -72,14 +72,48 @@ static int run_listing(void)
     return 0;
 }
 
+/* The value of the next field with this tag, from *at on, or NULL. *at goes behind it. The bytes are a dump. */
+static const uint8_t *next_field(const uint8_t *bytes, size_t length, size_t *at, uint8_t tag)
+{
+    while (*at < length) {
+        const uint8_t *field = bytes + *at;
+        *at += 3 + (size_t)field[1] * 256 + field[2];
+        if (field[0] == tag)
+            return field + 3;
+    }
+    return NULL;
+}
+
+/* The state of the thread of this name, or 255 if there is none. */
+static uint8_t state_of(const uint8_t *bytes, size_t length, uint8_t name)
+{
+    size_t at = 0;
+    const uint8_t *thread;
+    while ((thread = next_field(bytes, length, &at, NUCLEUS_FIELD_THREAD)) != NULL)
+        if (thread[0] == name)
+            return thread[2];
+    return NUCLEUS_NOBODY;
+}
+
+static void print_dump(const uint8_t *bytes, size_t length)
+{
+    size_t at = 0;
+    const uint8_t *of_node = next_field(bytes, length, &at, NUCLEUS_FIELD_NODE);
+    printf("dump of %zu bytes:", length);
+    for (size_t i = 0; i < length; i++)
+        printf(" %02X", bytes[i]);
+    printf("\nin the dump: status %u, runner %u", of_node[0], of_node[2]);
+    for (uint8_t name = 0; name < 2; name++)
+        printf(", thread %u in state %u", name, state_of(bytes, length, name));
+    putchar('\n');
+}
+
 static int dump_and_load(void)
 {
     struct nucleus_dumped first = nucleus_dump(&node, dump, sizeof dump);
     if (first.refusal)
         return failed("no dump", first.refusal);
-    printf("dump of %zu bytes:", first.length);
-    for (size_t i = 0; i < first.length; i++)
-        printf(" %02X", dump[i]);
+    print_dump(dump, first.length);
     uint8_t refusal = nucleus_load(&other, dump, first.length);
     if (refusal)
         return failed("the dump is not read", refusal);
@@ -91,7 +125,7 @@ static int dump_and_load(void)
         return failed("no dump of the loaded tables", second.refusal);
     if (second.length != first.length || memcmp(dump, again, first.length) != 0)
         return failed("the loaded tables have another dump", 0);
-    puts("\nloaded into other tables and dumped again: the same bytes");
+    puts("loaded into other tables and dumped again: the same bytes");
     return 0;
 }
 

@@ -1,5 +1,5 @@
 /* The nucleus for a board's C code: C99, or C++. docs/BOARD.md says how to build and link it, and what a caller must keep.
-   Words in quotes are document 01's. The layouts are those of crates/lent and crates/board; tests/board holds this file to them. */
+   Words in quotes are document 01's. The sizes are those of crates/lending and crates/board; tests/board holds this file to them. */
 #ifndef NUCLEUS_H
 #define NUCLEUS_H
 
@@ -14,7 +14,6 @@ extern "C" {
 
 #define NUCLEUS_THREADS 20   /* threads at most */
 #define NUCLEUS_BLOCKS 20    /* ordinary messages in inboxes at most */
-#define NUCLEUS_MESSAGES 40  /* with a notice of each thread */
 #define NUCLEUS_DEVICES 48   /* devices 0 to 47 */
 #define NUCLEUS_SLICE 5      /* ticks of a full slice */
 #define NUCLEUS_BEAT 20      /* ticks from one beat to the next */
@@ -24,7 +23,8 @@ extern "C" {
 
 #define NUCLEUS_DUMP_BYTES 1241   /* a buffer of so many bytes is long enough for every dump */
 #define NUCLEUS_EVENT_BYTES 15    /* the longest event, an interrupt: tag 1, length 2, value 12 */
-#define NUCLEUS_TABLES_BYTES 1200 /* what struct nucleus_tables takes */
+#define NUCLEUS_TABLES_WORDS 656  /* the numbers in struct nucleus_tables */
+#define NUCLEUS_TABLES_BYTES 2624 /* what it takes */
 #define NUCLEUS_REPORT_BYTES 12   /* what struct nucleus_report takes */
 
 /* An event is one field: a tag byte, a two-byte length, then the value; "numbers are big-endian". Each tag with its value. */
@@ -93,64 +93,26 @@ enum nucleus_kind {
     NUCLEUS_RESULT = 4       /* of a service: sender 254, and the result */
 };
 
+/* Fields of a dump, in this order: tag, length and value as in an event. A dump is how a board reads a single thing of its tables. */
+enum nucleus_field {
+    NUCLEUS_FIELD_NODE = 1,    /* status 1, "name given last" 1, runner 1 or 255, "slice left" 1, "ticks since the beat" 1, beats 4 */
+    NUCLEUS_FIELD_THREAD = 2,  /* "per thread by rising name": name 1, parent 1 or 255, state 1, detail 1, managers for program, TLB and
+                                  SYS/Bp traps 1 each ("255 none, 254 gone"), tick count 4, answer "waiting": kind 1, sender 1, word 4.
+                                  The detail: receiving: "wanted name or 255"; at a device: which; trapped: the kind; else 0 */
+    NUCLEUS_FIELD_READY = 3,   /* "ready names, front first", 1 each */
+    NUCLEUS_FIELD_CLOCK = 4,   /* "clock waiters, in order", 1 each */
+    NUCLEUS_FIELD_MESSAGE = 5, /* "per message by rising receiver, oldest first": receiver 1, sender 1, kind 1, word 4 */
+    NUCLEUS_FIELD_HELD = 6     /* "per held status by rising device": device 1, word 4 */
+};
+
 /* ---- The tables that a board lends
 
-   Only the nucleus writes them. A board may read them between calls; a dump shows the same. Every bit pattern is allowed: what
-   does not meet the table rules is answered with 11. Rows are the first n entries of an array; what stands behind means nothing. */
-
-struct nucleus_thread {
-    uint8_t name;    /* 0 to 253 */
-    uint8_t parent;  /* its name, or 255: thread 0 has none */
-    uint8_t state;
-    uint8_t detail;  /* receiving: "wanted name or 255"; at a device: which; trapped: the kind; else 0 */
-    uint8_t program; /* manager for program traps: "255 none, 254 gone" */
-    uint8_t tlb;     /* for TLB traps */
-    uint8_t sysbp;   /* for SYS/Bp traps */
-    uint8_t kind;    /* of the answer "not yet handed over" */
-    uint8_t sender;  /* of that answer */
-    uint32_t ticks;  /* tick count; goes "from 4,294,967,295 to 0" */
-    uint32_t word;   /* of that answer */
-};
-
-struct nucleus_message {
-    uint8_t to;   /* receiver */
-    uint8_t from; /* sender */
-    uint8_t kind; /* 1 message, 2 notice */
-    uint32_t word;
-};
-
-struct nucleus_held {
-    uint8_t device;
-    uint32_t word; /* the status word that nobody waited for */
-};
-
-struct nucleus_names {
-    uint8_t row[NUCLEUS_THREADS]; /* front first */
-    size_t n;
-};
-
-struct nucleus_messages {
-    struct nucleus_message row[NUCLEUS_MESSAGES]; /* "by rising receiver, oldest first" */
-    size_t n;
-};
-
-struct nucleus_held_words {
-    struct nucleus_held row[NUCLEUS_DEVICES]; /* "by rising device" */
-    size_t n;
-};
-
+   Room for all that the nucleus keeps. Only the nucleus writes it, and what a single word says is no part of this header: it may change
+   with the library, and some words say nothing. What a board may rely on: every bit pattern is allowed, and one that stands for no
+   tables that meet the table rules is answered with 11; a refused call changes no bit; no word is an address, so tables may be copied
+   and moved between calls. Whoever wants to know something of the tables takes a dump. */
 struct nucleus_tables {
-    uint8_t last;   /* "name given last" */
-    uint8_t runner; /* or 255 */
-    uint8_t slice;  /* "slice left (0 with no runner)" */
-    uint8_t since;  /* "ticks since the beat (0 to 19)" */
-    uint32_t beats; /* beats; goes "from 4,294,967,295 to 0" */
-    size_t count;   /* of threads */
-    struct nucleus_thread threads[NUCLEUS_THREADS]; /* "by rising name" */
-    struct nucleus_names ready;                     /* the ready queue */
-    struct nucleus_names clock;                     /* "clock waiters, in order" */
-    struct nucleus_messages messages;               /* all inboxes */
-    struct nucleus_held_words held;                 /* held status words */
+    uint32_t words[NUCLEUS_TABLES_WORDS];
 };
 
 /* ---- What the calls answer */
@@ -181,9 +143,10 @@ struct nucleus_sizes {
     uint32_t dump;   /* bytes that suffice for every dump */
 };
 
-/* Whoever compiles this for another width, or packs structs, is told here. */
+/* Whoever compiles this for another width, or packs structs, is told here. A length in the library has 64 bits. */
 typedef char nucleus_tables_fit[sizeof(struct nucleus_tables) == NUCLEUS_TABLES_BYTES ? 1 : -1];
 typedef char nucleus_report_fits[sizeof(struct nucleus_report) == NUCLEUS_REPORT_BYTES ? 1 : -1];
+typedef char nucleus_lengths_fit[sizeof(size_t) == 8 && sizeof(struct nucleus_dumped) == 16 ? 1 : -1];
 
 /* ---- The calls
 

@@ -1,7 +1,7 @@
 /* Holds include/nucleus.h to the library, by what the calls do: built and run by tests/board. The last line is 'N passed, M failed'.
 
-   Tables are made through the header, written as a dump by a writer of this file, which knows document 01 alone, and loaded: each
-   field must then be read through the header as it was made. Every call is made with guard bytes around all that is lent to it. */
+   Tables are made as a model of this file, which knows document 01 alone, written as a dump and loaded. Every call is made with guard
+   bytes around all that is lent to it, and on a stack of its own, which shows how much of it was written. */
 #define _POSIX_C_SOURCE 200809L
 #include "nucleus.h"
 
@@ -10,8 +10,7 @@
 #include <string.h>
 
 #define GUARD 0xA5
-#define STRANGER 250       /* a name that no thread has here */
-#define ENOUGH_STACK 65536 /* what docs/BOARD.md says of it */
+#define ENOUGH_STACK 16384 /* what docs/BOARD.md says of it */
 
 /* ---- what is lent, with guard bytes around it */
 
@@ -28,7 +27,6 @@ static struct {
 } buffer, buffer_was;
 
 static struct nucleus_tables *const t = &room.tables;
-static struct nucleus_tables model;
 static unsigned passed, failed;
 static unsigned refusals_met; /* bit n for refusal n */
 
@@ -75,10 +73,55 @@ static void after_call(const char *call, unsigned refusal, int tables_stand, siz
     expect(broken == 0, call, broken);
 }
 
+/* ---- each call, on a stack of its own */
+
+enum call { NO_CALL, START, STEP, CHECK, DUMP, LOAD, CALLS };
+static const char *const call_names[] = {"no call", "start", "step", "check", "dump", "load"};
+static size_t deepest[CALLS]; /* bytes of stack */
+
+static struct {
+    size_t length; /* of the event, of the buffer or of the dump */
+    struct nucleus_report report;
+    struct nucleus_dumped dumped;
+    uint8_t refusal;
+} now;
+
+static void *make_call(void *which)
+{
+    switch (*(enum call *)which) {
+    case START: nucleus_start(t); break;
+    case STEP: now.report = nucleus_step(t, buffer.bytes, now.length); break;
+    case CHECK: now.refusal = nucleus_check(t); break;
+    case DUMP: now.dumped = nucleus_dump(t, buffer.bytes, now.length); break;
+    case LOAD: now.refusal = nucleus_load(t, buffer.bytes, now.length); break;
+    default: break;
+    }
+    return NULL;
+}
+
+/* What a thread takes of a stack by itself is what it takes with no call. */
+static void call(enum call which, size_t length)
+{
+    static uint8_t stack[1 << 17];
+    pthread_attr_t with_stack;
+    pthread_t thread;
+    size_t untouched = 0;
+    now.length = length;
+    memset(stack, GUARD, sizeof stack);
+    if (pthread_attr_init(&with_stack) || pthread_attr_setstack(&with_stack, stack, sizeof stack)
+        || pthread_create(&thread, &with_stack, make_call, &which) || pthread_join(thread, NULL))
+        expect(0, "no thread with a stack of its own", which);
+    pthread_attr_destroy(&with_stack);
+    while (untouched < sizeof stack && stack[untouched] == GUARD)
+        untouched++;
+    if (deepest[which] < sizeof stack - untouched)
+        deepest[which] = sizeof stack - untouched;
+}
+
 static void start(void)
 {
     before_call();
-    nucleus_start(t);
+    call(START, 0);
     after_call("start", 0, 0, 0);
 }
 
@@ -86,82 +129,63 @@ static struct nucleus_report step(const uint8_t *event, size_t length)
 {
     memcpy(buffer.bytes, event, length);
     before_call();
-    struct nucleus_report r = nucleus_step(t, buffer.bytes, length);
-    after_call("step", r.refusal, r.refusal != 0, 0);
-    return r;
+    call(STEP, length);
+    after_call("step", now.report.refusal, now.report.refusal != 0, 0);
+    return now.report;
 }
 
 static uint8_t check(void)
 {
     before_call();
-    uint8_t refusal = nucleus_check(t);
-    after_call("check", refusal, 1, 0);
-    return refusal;
+    call(CHECK, 0);
+    after_call("check", now.refusal, 1, 0);
+    return now.refusal;
 }
 
 static struct nucleus_dumped dump(size_t length)
 {
     before_call();
-    struct nucleus_dumped d = nucleus_dump(t, buffer.bytes, length);
-    after_call("dump", d.refusal, 1, d.length);
-    return d;
+    call(DUMP, length);
+    after_call("dump", now.dumped.refusal, 1, now.dumped.length);
+    return now.dumped;
 }
 
 static uint8_t load(const uint8_t *bytes, size_t length)
 {
     memcpy(buffer.bytes, bytes, length);
     before_call();
-    uint8_t refusal = nucleus_load(t, buffer.bytes, length);
-    after_call("load", refusal, refusal != 0, 0);
-    return refusal;
+    call(LOAD, length);
+    after_call("load", now.refusal, now.refusal != 0, 0);
+    return now.refusal;
 }
 
-/* ---- every field of the tables, by its name in the header */
+/* ---- tables as this file knows them */
 
-#define THREAD_FIELDS(F) F(name) F(parent) F(state) F(detail) F(program) F(tlb) F(sysbp) F(kind) F(sender) F(ticks) F(word)
-#define MESSAGE_FIELDS(F) F(to) F(from) F(kind) F(word)
-#define HELD_FIELDS(F) F(device) F(word)
-#define TABLE_FIELDS(F) F(last) F(runner) F(slice) F(since) F(beats) F(count) F(ready.n) F(clock.n) F(messages.n) F(held.n)
+#define MESSAGES (NUCLEUS_BLOCKS + NUCLEUS_THREADS) /* with a notice of each thread */
 
-/* ENTRY(field, i) for each of them, as far as the model's rows go. */
-#define EACH_FIELD                                                                                                              \
-    TABLE_FIELDS(PLAIN)                                                                                                         \
-    for (size_t i = 0; i < model.count; i++) { THREAD_FIELDS(THREAD) }                                                          \
-    for (size_t i = 0; i < model.ready.n; i++) { ENTRY(ready.row[i], i) }                                                       \
-    for (size_t i = 0; i < model.clock.n; i++) { ENTRY(clock.row[i], i) }                                                       \
-    for (size_t i = 0; i < model.messages.n; i++) { MESSAGE_FIELDS(MESSAGE) }                                                   \
-    for (size_t i = 0; i < model.held.n; i++) { HELD_FIELDS(HELD) }
-#define PLAIN(field) ENTRY(field, 0)
-#define THREAD(field) ENTRY(threads[i].field, i)
-#define MESSAGE(field) ENTRY(messages.row[i].field, i)
-#define HELD(field) ENTRY(held.row[i].field, i)
+struct names {
+    size_t n;
+    uint8_t row[NUCLEUS_THREADS];
+};
 
-static int same(unsigned long found, unsigned long wanted, const char *field, size_t i)
-{
-    if (found != wanted)
-        printf("FAILED  %s, i %zu: found %lu, wanted %lu\n", field, i, found, wanted);
-    return found == wanted;
-}
-
-/* The lent tables have the model's fields, and meet the table rules. */
-static void same_as_model(const char *what)
-{
-    int good = 1;
-#define ENTRY(field, i) good &= same(t->field, model.field, #field, i);
-    EACH_FIELD
-#undef ENTRY
-    expect(good, what, 0);
-    equal(check(), 0, what, 1);
-}
-
-/* Puts the model's fields there, into a room that is full of other bits: between the fields and behind the rows they stay. */
-static void put_model(void)
-{
-    memset(t, 0x5A, sizeof *t);
-#define ENTRY(field, i) t->field = model.field;
-    EACH_FIELD
-#undef ENTRY
-}
+static struct {
+    uint8_t last, runner, slice, since;
+    uint32_t beats;
+    size_t count, letters, words;
+    struct thread {
+        uint8_t name, parent, state, detail, program, tlb, sysbp, kind, sender;
+        uint32_t ticks, word;
+    } threads[NUCLEUS_THREADS];
+    struct names ready, clock;
+    struct message {
+        uint8_t to, from, kind;
+        uint32_t word;
+    } messages[MESSAGES];
+    struct held {
+        uint8_t device;
+        uint32_t word;
+    } held[NUCLEUS_DEVICES];
+} model;
 
 /* ---- a writer of dumps, from document 01 */
 
@@ -186,15 +210,15 @@ static void head(uint8_t tag, size_t value)
     byte((uint8_t)value);
 }
 
-static void thread_field(const struct nucleus_thread *h)
+static void thread_field(const struct thread *h)
 {
-    head(2, 17);
+    head(NUCLEUS_FIELD_THREAD, 17);
     byte(h->name), byte(h->parent), byte(h->state), byte(h->detail);
     byte(h->program), byte(h->tlb), byte(h->sysbp), word(h->ticks);
     byte(h->kind), byte(h->sender), word(h->word);
 }
 
-static void names_field(uint8_t tag, const struct nucleus_names *names)
+static void names_field(uint8_t tag, const struct names *names)
 {
     head(tag, names->n);
     for (size_t i = 0; i < names->n; i++)
@@ -204,20 +228,20 @@ static void names_field(uint8_t tag, const struct nucleus_names *names)
 static void write_model(uint8_t status)
 {
     made_length = 0;
-    head(1, 9);
+    head(NUCLEUS_FIELD_NODE, 9);
     byte(status), byte(model.last), byte(model.runner), byte(model.slice), byte(model.since), word(model.beats);
     for (size_t i = 0; i < model.count; i++)
         thread_field(&model.threads[i]);
-    names_field(3, &model.ready);
-    names_field(4, &model.clock);
-    for (size_t i = 0; i < model.messages.n; i++) {
-        const struct nucleus_message *m = &model.messages.row[i];
-        head(5, 7);
+    names_field(NUCLEUS_FIELD_READY, &model.ready);
+    names_field(NUCLEUS_FIELD_CLOCK, &model.clock);
+    for (size_t i = 0; i < model.letters; i++) {
+        const struct message *m = &model.messages[i];
+        head(NUCLEUS_FIELD_MESSAGE, 7);
         byte(m->to), byte(m->from), byte(m->kind), word(m->word);
     }
-    for (size_t i = 0; i < model.held.n; i++) {
-        head(6, 5);
-        byte(model.held.row[i].device), word(model.held.row[i].word);
+    for (size_t i = 0; i < model.words; i++) {
+        head(NUCLEUS_FIELD_HELD, 5);
+        byte(model.held[i].device), word(model.held[i].word);
     }
 }
 
@@ -230,14 +254,14 @@ static uint8_t name_of(size_t i)
 
 static void add_message(size_t to, size_t from, uint8_t kind)
 {
-    struct nucleus_message *m = &model.messages.row[model.messages.n];
+    struct message *m = &model.messages[model.letters];
     m->to = name_of(to), m->from = name_of(from), m->kind = kind;
-    m->word = 0x81020304u + (uint32_t)model.messages.n++ * 0x01010101u;
+    m->word = 0x81020304u + (uint32_t)model.letters++ * 0x01010101u;
 }
 
 static void add_held(uint8_t device)
 {
-    struct nucleus_held *h = &model.held.row[model.held.n++];
+    struct held *h = &model.held[model.words++];
     h->device = device, h->word = 0x91929394u + device * 0x01010101u;
 }
 
@@ -247,7 +271,7 @@ static void make_threads(uint8_t rows[20][4])
     memset(&model, 0, sizeof model);
     model.last = 253, model.since = 17, model.beats = 0xC1C2C3C4u, model.count = 20;
     for (size_t i = 0; i < 20; i++) {
-        struct nucleus_thread *h = &model.threads[i];
+        struct thread *h = &model.threads[i];
         h->name = name_of(i), h->parent = i ? name_of((i - 1) / 2) : NUCLEUS_NOBODY;
         h->state = rows[i][0], h->detail = rows[i][1], h->kind = rows[i][2], h->sender = rows[i][3];
         h->program = name_of(i + 1), h->tlb = name_of(i + 2), h->sysbp = name_of(i + 3);
@@ -305,43 +329,66 @@ static void sizes(void)
 {
     struct nucleus_sizes s = nucleus_sizes();
     equal(s.tables, sizeof(struct nucleus_tables), "bytes of tables", 0);
+    equal(s.tables, NUCLEUS_TABLES_BYTES, "bytes of tables", 1);
+    equal(sizeof t->words / sizeof t->words[0], NUCLEUS_TABLES_WORDS, "words of tables", 0);
     equal(s.report, sizeof(struct nucleus_report), "bytes of a report", 0);
     equal(s.dump, NUCLEUS_DUMP_BYTES, "bytes of a dump", 0);
 }
 
-static void a_start(void)
+/* The lent tables are the model's: they meet the table rules, and have its dump. The buffer just suffices, or is a byte short. */
+static void same_as_model(const char *what, uint8_t status)
 {
-    memset(t, 0xFF, sizeof *t);
-    start();
+    write_model(status);
+    equal(check(), 0, what, 0);
+    memset(buffer.bytes, 0x33, sizeof buffer.bytes);
+    struct nucleus_dumped d = dump(made_length);
+    equal(d.refusal, 0, what, 1);
+    equal(d.length, made_length, what, 2);
+    expect(!memcmp(buffer.bytes, made, made_length), what, 3);
+    d = dump(made_length - 1);
+    equal(d.refusal, NUCLEUS_SHORT_BUFFER, what, 4);
+    equal(d.length, 0, what, 5);
+}
+
+/* What a room may hold before: bytes all the same, and words that are all different. */
+static const int fillings[] = {0x00, 0xFF, 0x5A, 0x14, -1};
+#define FILLINGS (sizeof fillings / sizeof fillings[0])
+
+static void fill(int filling)
+{
+    memset(t, filling, sizeof *t);
+    for (uint32_t i = 0; filling < 0 && i < NUCLEUS_TABLES_WORDS; i++)
+        t->words[i] = (i + 1) * 0x9E3779B9u;
+}
+
+/* A start looks at nothing that stood there. */
+static void starts(void)
+{
     memset(&model, 0, sizeof model);
     model.slice = NUCLEUS_SLICE, model.count = 1;
     model.threads[0].parent = NUCLEUS_NOBODY, model.threads[0].sender = NUCLEUS_NOBODY;
     model.threads[0].program = model.threads[0].tlb = model.threads[0].sysbp = NUCLEUS_NOBODY;
-    same_as_model("a start");
-    write_model(NUCLEUS_RUNNING);
+    for (size_t i = 0; i < FILLINGS; i++) {
+        fill(fillings[i]);
+        start();
+        same_as_model("a start", NUCLEUS_RUNNING);
+    }
     equal(made_length, 38, "P10's dump", 0);
-    equal(dump(sizeof buffer.bytes).length, 38, "P10's dump", 1);
-    expect(!memcmp(buffer.bytes, made, 38), "P10's dump", 2);
 }
 
-/* The model is loaded as it was made, dumped as it was written, and dumped so too if it is put there through the header. */
-static void there_and_back(const char *what, uint8_t status)
+static void put_model(const char *what, uint8_t status)
 {
     write_model(status);
-    memset(t, 0, sizeof *t);
-    equal(load(made, made_length), 0, what, 0);
-    same_as_model(what);
-    for (int way = 0; way < 2; way++) {
-        memset(buffer.bytes, 0x33, sizeof buffer.bytes);
-        struct nucleus_dumped d = dump(made_length);
-        equal(d.refusal, 0, what, 1);
-        equal(d.length, made_length, what, 2);
-        expect(!memcmp(buffer.bytes, made, made_length), what, 3);
-        d = dump(made_length - 1);
-        equal(d.refusal, NUCLEUS_SHORT_BUFFER, what, 4);
-        equal(d.length, 0, what, 5);
-        put_model();
-        same_as_model(what);
+    equal(load(made, made_length), 0, what, 6);
+}
+
+/* The model is loaded into any room, and dumped as it was written. */
+static void there_and_back(const char *what, uint8_t status)
+{
+    for (size_t i = 0; i < FILLINGS; i++) {
+        fill(fillings[i]);
+        put_model(what, status);
+        same_as_model(what, status);
     }
 }
 
@@ -365,36 +412,31 @@ static void reports(const char *what, struct nucleus_report r, const unsigned lo
     equal(r.word, wanted[5], what, 5);
 }
 
-/* The tables as they stand are refused by every call that looks at them, and nothing is touched. */
-static void refused_with_11(const char *what)
+/* A room that was never started is refused by every call that looks at tables, and nothing is touched. tests/lent tries many more. */
+static void no_tables(int filling)
 {
     static const uint8_t tick[] = {NUCLEUS_TICK, 0, 0};
     static const unsigned long wanted[6] = {NUCLEUS_BAD_TABLES, 255, NUCLEUS_NOBODY, 0, NUCLEUS_NOBODY, 0};
-    equal(check(), NUCLEUS_BAD_TABLES, what, 0);
-    reports(what, step(tick, sizeof tick), wanted);
+    fill(filling);
+    equal(check(), NUCLEUS_BAD_TABLES, "no tables", 0);
+    reports("no tables", step(tick, sizeof tick), wanted);
     struct nucleus_dumped d = dump(sizeof buffer.bytes);
-    equal(d.refusal, NUCLEUS_BAD_TABLES, what, 1);
-    equal(d.length, 0, what, 2);
+    equal(d.refusal, NUCLEUS_BAD_TABLES, "no tables", 1);
+    equal(d.length, 0, "no tables", 2);
 }
 
-/* Each field is written through the header with what it cannot be in the mixed tables. */
-static void bad_fields(void)
+/* Tables may be copied: the copy goes on as they would have. */
+static void a_copy(void)
 {
-#define BAD(field, value)                                                                                                       \
-    put_model();                                                                                                                \
-    t->field = value;                                                                                                           \
-    refused_with_11(#field " = " #value);
-    BAD(last, 254) BAD(runner, NUCLEUS_NOBODY) BAD(slice, 6) BAD(slice, 0) BAD(since, 20)
-    BAD(count, 21) BAD(count, 19) BAD(ready.n, 21) BAD(clock.n, 21) BAD(messages.n, 41) BAD(held.n, 49)
-    BAD(count, (size_t)-1) BAD(ready.n, (size_t)1 << 32) BAD(ready.n, 4) BAD(clock.n, 2) BAD(held.n, (size_t)-1)
-    BAD(threads[19].name, 254) BAD(threads[19].parent, STRANGER) BAD(threads[0].parent, 16) BAD(threads[1].state, 6)
-    BAD(threads[3].detail, 1) BAD(threads[4].program, STRANGER) BAD(threads[4].tlb, STRANGER) BAD(threads[4].sysbp, STRANGER)
-    BAD(threads[1].kind, 5) BAD(threads[1].sender, 254) BAD(threads[1].word, 1) BAD(threads[5].word, 1)
-    BAD(ready.row[4], STRANGER) BAD(clock.row[2], STRANGER)
-    BAD(messages.row[0].to, STRANGER) BAD(messages.row[0].from, STRANGER) BAD(messages.row[0].kind, 3)
-    BAD(held.row[44].device, 48) BAD(held.row[0].device, 0)
+    static struct nucleus_tables copy;
+    static const uint8_t create[] = {NUCLEUS_REQUEST, 0, 2, NUCLEUS_CREATESON, 0};
+    static const unsigned long wanted[6] = {0, 0, 0, 4, 254, 1};
+    start();
+    copy = *t;
+    reports("before the copy", step(create, sizeof create), wanted);
+    *t = copy;
+    reports("the copy", step(create, sizeof create), wanted);
 }
-
 
 /* Events, as document 01 writes them, how often, and the report for the last of them. No event: a start. */
 static const struct {
@@ -485,15 +527,15 @@ static void each_event(void)
     }
 }
 
-/* A tick changes the fields that it must change, and no others: then the model is changed so too. */
+/* A tick changes what it must change in the mixed tables, and nothing else: then the model is changed so too. */
 static void a_tick(void)
 {
     static const uint8_t tick[] = {NUCLEUS_TICK, 0, 0};
     static const unsigned long wanted[6] = {0, 0, 38, 0, 255, 0};
-    put_model();
+    put_model("a tick", NUCLEUS_RUNNING);
     reports("a tick", step(tick, sizeof tick), wanted);
     model.slice--, model.since++, model.threads[3].ticks++;
-    same_as_model("a tick");
+    same_as_model("a tick", NUCLEUS_RUNNING);
 }
 
 /* The deepest ending: 20 threads in one line of parents against the order of names, and the first of them ends. */
@@ -510,9 +552,10 @@ static void the_end_of_all(void)
         model.threads[i].parent = name_of(i + 1);
         model.ready.row[model.ready.n++] = name_of(i);
     }
-    put_model();
+    put_model("the end of all", NUCLEUS_RUNNING);
     reports("the end of all", step(end, sizeof end), wanted);
-    equal(t->count, 0, "the end of all", 6);
+    model.runner = NUCLEUS_NOBODY, model.slice = 0, model.count = 0, model.ready.n = 0;
+    same_as_model("the end of all", NUCLEUS_HALTED);
 }
 
 static void picks(void)
@@ -529,43 +572,40 @@ static void picks(void)
     }
 }
 
-static void *every_test(void *unused)
+/* By itself the thread takes some stack too, which is not counted. */
+static void stacks(void)
+{
+    call(NO_CALL, 0);
+    printf("bytes of stack at the deepest:");
+    for (int which = START; which < CALLS; which++) {
+        size_t taken = deepest[which] - deepest[NO_CALL];
+        expect(taken <= ENOUGH_STACK, call_names[which], taken);
+        printf(" %s %zu", call_names[which], taken);
+    }
+    putchar('\n');
+}
+
+int main(void)
 {
     memset(&room, GUARD, sizeof room);
     memset(&buffer, GUARD, sizeof buffer);
     sizes();
-    a_start();
+    for (size_t i = 0; i < FILLINGS; i++)
+        no_tables(fillings[i]);
+    starts();
+    a_copy();
     make_full();
     there_and_back("full tables", NUCLEUS_PANICKED);
     no_dumps();
     make_mixed();
     there_and_back("mixed tables", NUCLEUS_RUNNING);
     no_dumps();
-    bad_fields();
     a_tick();
     each_event();
     the_end_of_all();
     picks();
     equal(refusals_met, (1u << 14) - 1, "refusals met, as bits", 0);
-    return unused;
-}
-
-/* All runs on a stack of its own, so that it shows how much of it was written. */
-int main(void)
-{
-    static uint8_t stack[1 << 18];
-    pthread_attr_t with_stack;
-    pthread_t thread;
-    size_t untouched = 0;
-    memset(stack, GUARD, sizeof stack);
-    if (pthread_attr_init(&with_stack) || pthread_attr_setstack(&with_stack, stack, sizeof stack)
-        || pthread_create(&thread, &with_stack, every_test, NULL) || pthread_join(thread, NULL)) {
-        puts("FAILED  no thread with a stack of its own\n0 passed, 1 failed");
-        return 1;
-    }
-    while (untouched < sizeof stack && stack[untouched] == GUARD)
-        untouched++;
-    expect(sizeof stack - untouched <= ENOUGH_STACK, "bytes of stack", sizeof stack - untouched);
-    printf("stack: %zu bytes at the deepest, with the test's own\n%u passed, %u failed\n", sizeof stack - untouched, passed, failed);
+    stacks();
+    printf("%u passed, %u failed\n", passed, failed);
     return failed != 0;
 }

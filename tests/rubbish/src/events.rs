@@ -1,8 +1,10 @@
 //! Events for lent tables, good or spoilt: well-formed ones and malformed ones.
 
-use crate::lent::Tables;
+use crate::layout::{self, Words};
 use nucleus::event::bytes;
 use nucleus::random::Random;
+use nucleus::tables::state;
+use nucleus::Tables as Numbers;
 
 /// What an event may name.
 pub struct Known {
@@ -12,12 +14,18 @@ pub struct Known {
 }
 
 impl Known {
-    /// What stands in the rows, whatever it is.
-    pub fn of(tables: &Tables) -> Known {
-        let threads = &tables.threads[..tables.count.min(20)];
-        let waiters = threads.iter().filter(|thread| thread.state == 4);
+    pub fn of(numbers: &Numbers) -> Known {
+        let waiters = numbers.threads.iter().filter(|thread| thread.state == state::DEVICE);
         let devices = waiters.map(|thread| thread.detail).collect();
-        Known { names: threads.iter().map(|thread| thread.name).collect(), devices }
+        Known { names: numbers.threads.iter().map(|thread| thread.name).collect(), devices }
+    }
+
+    /// What stands in the threads' records, whatever it is.
+    pub fn in_words(words: &Words) -> Known {
+        let places: Vec<usize> = (0..words[layout::COUNT].min(20) as usize).map(layout::thread_place).collect();
+        let waiters = places.iter().filter(|&&at| words[at + 2] == state::DEVICE.into());
+        let devices = waiters.map(|&at| words[at + 3] as u8).collect();
+        Known { names: places.iter().map(|&at| words[at] as u8).collect(), devices }
     }
 
     /// A name of these, or seldom any byte.

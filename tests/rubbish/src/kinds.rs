@@ -1,7 +1,10 @@
 //! The kinds of tables that are lent.
 
-use crate::lent::{Room, Tables, SIZE};
+use crate::judge;
+use crate::layout::{self, Limits, Words, COUNTS, WORDS};
+use crate::lent::Room;
 use crate::plausible;
+use crate::rows;
 use crate::source::Source;
 use nucleus::breaks::{break_rule, RULES};
 use nucleus::dump;
@@ -16,60 +19,78 @@ pub enum Kind {
     EveryBit,
     OneBit,
     FewBits,
+    FewWords,
     Rows,
+    Edges,
     Limits,
     Rule,
-    Behind,
+    Silent,
 }
 
-pub const KINDS: [Kind; 10] = [
+pub const KINDS: [Kind; 12] = [
     Kind::AllBits,
     Kind::Counts,
     Kind::Ranges,
     Kind::EveryBit,
     Kind::OneBit,
     Kind::FewBits,
+    Kind::FewWords,
     Kind::Rows,
+    Kind::Edges,
     Kind::Limits,
     Kind::Rule,
-    Kind::Behind,
+    Kind::Silent,
 ];
 
 impl fmt::Display for Kind {
     fn fmt(&self, out: &mut fmt::Formatter) -> fmt::Result {
         out.pad(match self {
             Kind::AllBits => "all bits random",
-            Kind::Counts => "random, counts within the arrays",
+            Kind::Counts => "random, limits and counts right",
             Kind::Ranges => "random, numbers in their ranges",
             Kind::EveryBit => "each bit of whole tables flipped",
-            Kind::OneBit => "one bit flipped",
+            Kind::OneBit => "one bit of a word that counts flipped",
             Kind::FewBits => "two to six bits flipped",
+            Kind::FewWords => "one to five words set to anything",
             Kind::Rows => "rows swapped, copied, put in, lost",
-            Kind::Limits => "one to three numbers at a limit",
+            Kind::Edges => "one to three words at an edge",
+            Kind::Limits => "other limits",
             Kind::Rule => "one table rule broken",
-            Kind::Behind => "rubbish behind counts, in padding",
+            Kind::Silent => "rubbish where a word says nothing",
         })
     }
 }
 
 /// The bits of the lent room.
-pub const BITS: u64 = SIZE as u64 * 8;
-/// Goes round all bits, since the two have no common divisor.
-const STRIDE: u64 = 7919;
+pub const BITS: u64 = WORDS as u64 * 32;
 
 /// So many tables are tried beside one dump.
 const DUMP_FOR: u64 = 8;
 
+/// Tables whose bits are flipped one after the other.
+pub struct Whole {
+    room: Room,
+    /// Which words count.
+    pub counts: [bool; WORDS],
+    pub dump: Vec<u8>,
+}
+
+impl Whole {
+    fn of(room: Room) -> Whole {
+        let said = room.read();
+        Whole { room, counts: said.counts, dump: judge::written(&said).unwrap_or_default() }
+    }
+}
+
 pub struct Maker {
     source: Source,
-    /// The tables whose bits are flipped one after the other.
-    whole: Room,
+    pub whole: Whole,
     dump: Vec<u8>,
 }
 
 impl Maker {
     pub fn new(seed: u64) -> Maker {
-        Maker { source: Source::new(seed), whole: Room::filled(|| 0), dump: Vec::new() }
+        Maker { source: Source::new(seed), whole: Whole::of(Room::filled(|| 0)), dump: Vec::new() }
     }
 
     /// A dump to be damaged.
@@ -87,28 +108,26 @@ impl Maker {
             Kind::Counts => any_with_counts(self.source.random()),
             Kind::Ranges => Room::of(&plausible::numbers(self.source.random()), || 0),
             Kind::EveryBit => self.with_next_bit(number),
+            Kind::Limits => self.with_other_limits(),
             Kind::Rule => self.with_broken_rule(),
-            Kind::Behind => {
-                let numbers = self.source.tables();
-                let random = self.source.random();
-                Room::of(&numbers, || random.byte())
-            }
+            Kind::Silent => self.good(),
             _ => {
                 let mut room = self.good();
-                spoil(&mut room, kind, number, self.source.random());
+                spoil(&mut room.words, kind, self.source.random());
                 room
             }
         }
     }
 
-    /// Tables that meet the rules, with bytes of some kind behind the counts and in the padding.
+    /// Tables that meet the rules, with words of some kind where a word says nothing: small ones would be hints that lead astray.
     fn good(&mut self) -> Room {
         let numbers = self.source.tables();
         let random = self.source.random();
-        match random.below(3) {
+        match random.below(4) {
             0 => Room::of(&numbers, || 0),
-            1 => Room::of(&numbers, || 255),
-            _ => Room::of(&numbers, || random.byte()),
+            1 => Room::of(&numbers, || u32::MAX),
+            2 => Room::of(&numbers, || random.below(24) as u32),
+            _ => Room::of(&numbers, || random.bits() as u32),
         }
     }
 
@@ -116,10 +135,24 @@ impl Maker {
         if number % BITS == 0 {
             let numbers = self.source.telling_tables(number / BITS);
             let random = self.source.random();
-            self.whole = Room::of(&numbers, || random.byte());
+            self.whole = Whole::of(Room::of(&numbers, || random.below(24) as u32));
         }
-        let mut room = self.whole;
-        flip(&mut room, number % BITS);
+        let mut room = self.whole.room;
+        flip(&mut room.words, number % BITS);
+        room
+    }
+
+    /// Good tables whose head has other limits, or which are laid out for other limits.
+    fn with_other_limits(&mut self) -> Room {
+        let numbers = self.source.tables();
+        let random = self.source.random();
+        let mut room = Room::of(&numbers, || random.below(24) as u32);
+        let limits = other_limits(random);
+        if random.one_in(2) && limits.0 < 30 {
+            layout::put(&mut room.words, &numbers, limits);
+        } else {
+            (room.words[layout::THREAD_LIMIT], room.words[layout::BLOCK_LIMIT]) = limits;
+        }
         room
     }
 
@@ -130,136 +163,109 @@ impl Maker {
             let random = self.source.random();
             let rule = RULES[random.below(RULES.len() as u64) as usize];
             if rule != nucleus::Rule::Status && break_rule(&mut numbers, rule, random).is_some() {
-                return Room::of(&numbers, || random.byte());
+                return Room::of(&numbers, || random.bits() as u32);
             }
         }
     }
 }
 
 fn any_bits(random: &mut Random) -> Room {
-    Room::filled(|| random.byte())
+    Room::filled(|| random.bits() as u32)
 }
 
 fn any_with_counts(random: &mut Random) -> Room {
     let mut room = any_bits(random);
-    let tables = room.tables_mut();
-    tables.count = random.below(21) as usize;
-    tables.ready.n = random.below(21) as usize;
-    tables.clock.n = random.below(21) as usize;
-    tables.messages.n = random.below(41) as usize;
-    tables.held.n = random.below(49) as usize;
+    (room.words[layout::THREAD_LIMIT], room.words[layout::BLOCK_LIMIT]) = layout::LIMITS;
+    for (place, most) in COUNTS {
+        room.words[place] = random.below(u64::from(most) + 1) as u32;
+    }
     room
 }
 
-fn spoil(room: &mut Room, kind: Kind, number: u64, random: &mut Random) {
+/// Fewer threads and more blocks, as the room has place for; at an edge; or any small ones. Never 20 and 20.
+fn other_limits(random: &mut Random) -> Limits {
+    let edges = [0, 1, 2, 19, 20, 20, 20, 21, 24, 25, 40, 253, 254, 255, 256, 65_535, 65_536, 1 << 31, u32::MAX];
+    loop {
+        let limits = match random.below(3) {
+            0 => (random.choose(&[19, 18, 16]).unwrap_or(0), random.choose(&[25, 30, 40]).unwrap_or(0)),
+            1 => (random.choose(&edges).unwrap_or(0), random.choose(&edges).unwrap_or(0)),
+            _ => (random.below(40) as u32, random.below(40) as u32),
+        };
+        if limits != layout::LIMITS {
+            return limits;
+        }
+    }
+}
+
+fn spoil(words: &mut Words, kind: Kind, random: &mut Random) {
     match kind {
-        Kind::OneBit => flip(room, number * STRIDE % BITS),
-        Kind::FewBits => (0..2 + random.below(5)).for_each(|_| flip_any(room, random)),
-        Kind::Rows => spoil_rows(room.tables_mut(), random),
-        _ => (0..1 + random.below(3)).for_each(|_| set_limit(room.tables_mut(), random)),
+        Kind::OneBit => flip_telling(words, random),
+        Kind::FewBits => (0..2 + random.below(5)).for_each(|_| flip_any(words, random)),
+        Kind::FewWords => (0..1 + random.below(5)).for_each(|_| set_any(words, random)),
+        Kind::Rows => rows::spoil(words, random),
+        _ => (0..1 + random.below(3)).for_each(|_| set_edge(words, random)),
     }
 }
 
-fn flip(room: &mut Room, bit: u64) {
-    room.bytes[(bit / 8) as usize] ^= 1 << (bit % 8);
+fn flip(words: &mut Words, bit: u64) {
+    words[(bit / 32) as usize] ^= 1 << (bit % 32);
 }
 
-/// Half of the time in a number of one byte, since most bits stand in words.
-fn flip_any(room: &mut Room, random: &mut Random) {
+/// A word that counts, as far as the words can be read.
+fn telling_place(words: &Words, random: &mut Random) -> usize {
+    let counts = layout::read(words).counts;
+    let places: Vec<usize> = (0..WORDS).filter(|&place| counts[place]).collect();
+    random.choose(&places).unwrap_or(0)
+}
+
+/// Mostly one of the last nine bits, in which most words differ.
+fn flip_telling(words: &mut Words, random: &mut Random) {
+    let bits = if random.one_in(4) { 32 } else { 9 };
+    words[telling_place(words, random)] ^= 1 << random.below(bits);
+}
+
+fn flip_any(words: &mut Words, random: &mut Random) {
     if random.one_in(2) {
-        return flip(room, random.below(BITS));
-    }
-    let mut numbers = small_numbers(room.tables_mut());
-    let place = random.below(numbers.len() as u64) as usize;
-    *numbers[place] ^= 1 << random.below(8);
-}
-
-fn spoil_rows(tables: &mut Tables, random: &mut Random) {
-    match random.below(5) {
-        0 => spoil_row(&mut tables.threads, &mut tables.count, random),
-        1 => spoil_row(&mut tables.ready.row, &mut tables.ready.n, random),
-        2 => spoil_row(&mut tables.clock.row, &mut tables.clock.n, random),
-        3 => spoil_row(&mut tables.messages.row, &mut tables.messages.n, random),
-        _ => spoil_row(&mut tables.held.row, &mut tables.held.n, random),
+        flip(words, random.below(BITS));
+    } else {
+        flip_telling(words, random);
     }
 }
 
-/// In an empty row, what stands behind the count is counted.
-fn spoil_row<T: Copy>(row: &mut [T], n: &mut usize, random: &mut Random) {
-    if *n == 0 {
-        *n = 1;
-        return;
-    }
-    let (one, other) = (random.below(*n as u64) as usize, random.below(*n as u64) as usize);
-    match random.below(5) {
-        0 => row.swap(one, other),
-        1 => row.swap(one, (one + 1) % *n),
-        2 => row[one] = row[other],
-        3 => {
-            // Twice, one behind the other.
-            row.copy_within(one..row.len() - 1, one + 1);
-            *n += 1;
-        }
-        _ => {
-            row[one..*n].rotate_left(1);
-            *n -= 1;
-        }
-    }
+/// To any number, a small one, or what another word is.
+fn set_any(words: &mut Words, random: &mut Random) {
+    let place = telling_place(words, random);
+    words[place] = match random.below(3) {
+        0 => random.bits() as u32,
+        1 => random.below(260) as u32,
+        _ => words[telling_place(words, random)],
+    };
 }
 
-const LIMITS: [u8; 20] = [0, 1, 2, 3, 4, 5, 6, 19, 20, 21, 39, 40, 41, 47, 48, 49, 252, 253, 254, 255];
+const EDGES: [u32; 28] = [
+    0, 1, 2, 3, 4, 5, 6, 19, 20, 21, 39, 40, 41, 47, 48, 49, 252, 253, 254, 255, 256, 257, 258, 511, 512, 65536,
+    2147483648, 4294967295,
+];
 
-fn set_limit(tables: &mut Tables, random: &mut Random) {
-    let limit = LIMITS[random.below(LIMITS.len() as u64) as usize];
+/// A count; one of the name given last, the runner, its slice and the ticks since the beat; a word for no name, which a dump has as 255 or
+/// 254; or any word that counts.
+fn set_edge(words: &mut Words, random: &mut Random) {
+    let edge = EDGES[random.below(EDGES.len() as u64) as usize];
     match random.below(6) {
         0 => {
-            let mut counts = counts(tables);
-            let count = &mut counts[random.below(5) as usize];
-            let near =
-                [count.wrapping_sub(1), count.wrapping_add(1), limit.into(), 1 << 32, u32::MAX as usize, usize::MAX];
-            **count = random.choose(&near).unwrap_or(0);
+            let (place, most) = COUNTS[random.below(4) as usize];
+            let near = [words[place].wrapping_sub(1), words[place].wrapping_add(1), most, most + 1, edge];
+            words[place] = random.choose(&near).unwrap_or(0);
         }
-        1 => {
-            let mut words = words(tables);
-            let place = random.below(words.len() as u64) as usize;
-            *words[place] = if random.one_in(2) { limit.into() } else { u32::MAX };
+        1 => words[layout::LAST + random.below(4) as usize] = edge,
+        2 => {
+            let counts = layout::read(words).counts;
+            let no_name = |&place: &usize| counts[place] && (256..258).contains(&words[place]);
+            let places: Vec<usize> = (0..WORDS).filter(no_name).collect();
+            if let Some(place) = random.choose(&places) {
+                words[place] = random.choose(&[0, 254, 255, 256, 257, 258]).unwrap_or(0);
+            }
         }
-        _ => {
-            let mut numbers = small_numbers(tables);
-            let place = random.below(numbers.len() as u64) as usize;
-            *numbers[place] = limit;
-        }
+        _ => words[telling_place(words, random)] = edge,
     }
-}
-
-fn counts(tables: &mut Tables) -> [&mut usize; 5] {
-    let Tables { count, ready, clock, messages, held, .. } = tables;
-    [count, &mut ready.n, &mut clock.n, &mut messages.n, &mut held.n]
-}
-
-/// The numbers of four bytes in counted rows. A count may be spoilt already, here and below.
-fn words(tables: &mut Tables) -> Vec<&mut u32> {
-    let mut all = vec![&mut tables.beats];
-    for thread in tables.threads.iter_mut().take(tables.count) {
-        all.extend([&mut thread.ticks, &mut thread.word]);
-    }
-    all.extend(tables.messages.row.iter_mut().take(tables.messages.n).map(|message| &mut message.word));
-    all.extend(tables.held.row.iter_mut().take(tables.held.n).map(|held| &mut held.word));
-    all
-}
-
-/// The numbers of one byte in counted rows.
-fn small_numbers(tables: &mut Tables) -> Vec<&mut u8> {
-    let mut all = vec![&mut tables.last, &mut tables.runner, &mut tables.slice, &mut tables.since];
-    for t in tables.threads.iter_mut().take(tables.count) {
-        all.extend([&mut t.name, &mut t.parent, &mut t.state, &mut t.detail, &mut t.kind, &mut t.sender]);
-        all.extend(&mut t.managers);
-    }
-    all.extend(tables.ready.row.iter_mut().take(tables.ready.n));
-    all.extend(tables.clock.row.iter_mut().take(tables.clock.n));
-    for m in tables.messages.row.iter_mut().take(tables.messages.n) {
-        all.extend([&mut m.to, &mut m.from, &mut m.kind]);
-    }
-    all.extend(tables.held.row.iter_mut().take(tables.held.n).map(|held| &mut held.device));
-    all
 }

@@ -1,7 +1,6 @@
 //! Tables that meet the table rules: from long runs, built at random, and the fullest there are.
 
 use crate::events::{self, Known};
-use crate::lent::Room;
 use nucleus::event::bytes;
 use nucleus::random::Random;
 use nucleus::valid::Dumps;
@@ -26,8 +25,7 @@ impl Source {
             let place = random.below(self.ends.len() as u64) as usize;
             let mut node = self.ends[place].clone();
             for _ in 0..random.below(4) {
-                let room = Room::of(&node.tables(), || 0);
-                node.step(&events::good(&Known::of(room.tables()), random));
+                node.step(&events::good(&Known::of(&node.tables()), random));
             }
             return node.tables();
         }

@@ -15,8 +15,20 @@ pub struct Counted {
     pub failed: u64,
 }
 
+/// Bits of whole tables, flipped one after the other.
+#[derive(Clone, Copy, Debug, Default)]
+pub struct Bits {
+    /// Of words that count: refused with 11.
+    pub found: u64,
+    /// Of words that count: other tables.
+    pub other: u64,
+    /// Of words that say nothing.
+    pub silent: u64,
+}
+
 #[derive(Default)]
 pub struct Tally {
+    pub bits: Bits,
     pub grounds: BTreeMap<Ground, u64>,
     /// How full those are that meet the rules.
     pub filled: BTreeMap<&'static str, u64>,
@@ -27,11 +39,19 @@ pub struct Tally {
 }
 
 /// In a run of this many tables each ground, filling and refusal comes up this often at least.
-pub const FIXED: u64 = 40_000;
+pub const FIXED: u64 = 102_000;
 const REACHED: u64 = 20;
 
-const FILLED: [&str; 8] =
-    ["20 threads", "20 ordinary messages", "40 messages", "48 held words", "running", "idle", "halted", "panicked"];
+const FILLED: [&str; 8] = [
+    "20 threads",
+    "20 ordinary messages",
+    "40 messages",
+    "48 held words",
+    "running",
+    "idle",
+    "halted",
+    "panicked",
+];
 
 pub fn count<T: Ord>(counts: &mut BTreeMap<T, u64>, what: T) {
     *counts.entry(what).or_default() += 1;
@@ -63,6 +83,12 @@ impl Tally {
     }
 
     pub fn print(&self) {
+        let Bits { found, other, silent } = self.bits;
+        println!(
+            "bits of words that count, each flipped: {}, of them {found} found and {other} other tables",
+            found + other
+        );
+        println!("bits of words that say nothing, each flipped: {silent}");
         println!("no tables, by ground: {}", listed(&self.grounds));
         println!("tables that stand: {}", listed(&self.filled));
         println!("answers to steps: {}", listed(&self.steps));
@@ -74,7 +100,7 @@ impl Tally {
     /// What a fixed run has to meet and did not.
     pub fn missing(&self) -> Vec<String> {
         let alone = RULES.into_iter().filter(|&rule| rule != Rule::Status).map(Ground::Alone);
-        let grounds = alone.chain([Ground::Count, Ground::Order, Ground::Several]);
+        let grounds = alone.chain([Ground::Limits, Ground::Count, Ground::Word, Ground::Order, Ground::Several]);
         let missing = [
             few("broken:", grounds, &self.grounds),
             few("tables that stand:", FILLED, &self.filled),
@@ -87,7 +113,11 @@ impl Tally {
     }
 }
 
-fn few<T: Ord + ToString>(of: &str, wanted: impl IntoIterator<Item = T>, counts: &BTreeMap<T, u64>) -> Vec<String> {
+fn few<T: Ord + ToString>(
+    of: &str,
+    wanted: impl IntoIterator<Item = T>,
+    counts: &BTreeMap<T, u64>,
+) -> Vec<String> {
     let is_rare = |what: &T| counts.get(what).copied().unwrap_or(0) < REACHED;
     wanted.into_iter().filter(is_rare).map(|what| format!("{of} {}", what.to_string())).collect()
 }
@@ -98,12 +128,12 @@ fn listed<T: ToString>(counts: &BTreeMap<T, u64>) -> String {
 }
 
 pub fn print_head() {
-    println!("{:<36} {:>9} {:>9} {:>11} {:>11}", "kind", "tables", "stand", "refused 11", "differences");
+    println!("{:<37} {:>9} {:>9} {:>11} {:>11}", "kind", "tables", "stand", "refused 11", "differences");
 }
 
 impl Counted {
     pub fn print(&self, kind: Kind) {
         let Counted { tables, stand, failed } = self;
-        println!("{kind:<36} {tables:>9} {stand:>9} {:>11} {failed:>11}", tables - stand);
+        println!("{kind:<37} {tables:>9} {stand:>9} {:>11} {failed:>11}", tables - stand);
     }
 }

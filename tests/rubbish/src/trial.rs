@@ -11,10 +11,16 @@ use std::fmt::Debug;
 
 /// Refusal 11 of a step: "for 11 both are 255".
 const NO_TABLES: Report = Report { refusal: 11, status: 255, runner: 255, kind: 0, sender: 255, word: 0 };
-/// Events on each lent room, one after the other.
-const EVENTS: u64 = 4;
 /// Bytes on either side of a buffer that must stay.
 const GUARD: usize = 16;
+
+/// What is tried with a room.
+pub struct Plan<'a> {
+    /// So many events, one after the other.
+    pub events: u64,
+    /// A dump to be damaged and read, if the calls that look at no tables are made too, and every length of a buffer is tried.
+    pub dump: Option<&'a [u8]>,
+}
 
 pub struct Trial<'a> {
     lent: Room,
@@ -24,19 +30,27 @@ pub struct Trial<'a> {
     wrong: Vec<String>,
 }
 
-/// Whether the room stands for tables, and what was answered otherwise. `dump` is a dump to be damaged and read.
-pub fn try_room(lent: &Room, dump: &[u8], random: &mut Random, tally: &mut Tally) -> (bool, Vec<String>) {
-    let verdict = judge(lent.tables());
+/// The node that the room stands for, and what was answered otherwise.
+pub fn try_room(
+    lent: &Room,
+    plan: Plan,
+    random: &mut Random,
+    tally: &mut Tally,
+) -> (Result<Node, Ground>, Vec<String>) {
+    let said = lent.read();
+    let verdict = judge(&said);
     tally.note(&verdict);
     let stands = verdict.is_ok();
     let mut trial = Trial { lent: *lent, random, tally, wrong: Vec::new() };
     trial.check(stands);
-    trial.dumps(&verdict);
-    trial.loads(stands, dump);
-    trial.start();
-    trial.pick();
-    trial.steps(verdict);
-    (stands, trial.wrong)
+    trial.dumps(&verdict, plan.dump.is_some());
+    if let Some(dump) = plan.dump {
+        trial.loads(written(&said).ok(), verdict.as_ref().ok(), dump);
+        trial.start();
+        trial.pick();
+    }
+    trial.steps(verdict.clone(), plan.events);
+    (verdict, trial.wrong)
 }
 
 impl Trial<'_> {
@@ -52,12 +66,12 @@ impl Trial<'_> {
         }
     }
 
-    /// Every byte of the room, padding and guards too.
+    /// Every word of the room, and the guards too.
     fn untouched(&mut self, what: &str, room: &Room, before: Room) {
         if *room != before {
-            let places: Vec<usize> = (0..room.bytes.len()).filter(|&i| room.bytes[i] != before.bytes[i]).collect();
+            let places: Vec<usize> = (0..room.words.len()).filter(|&i| room.words[i] != before.words[i]).collect();
             let guards = room.guards_stand();
-            self.wrong.push(format!("{what}: the lent bytes changed at {places:?}, the guards stand: {guards}"));
+            self.wrong.push(format!("{what}: the lent words changed at {places:?}, the guards stand: {guards}"));
         }
     }
 
@@ -68,14 +82,15 @@ impl Trial<'_> {
         self.untouched("check", &room, self.lent);
     }
 
-    /// A buffer that just suffices, a longer one, one a byte short, and any shorter one.
-    fn dumps(&mut self, verdict: &Result<Node, Ground>) {
+    /// A buffer that just suffices; a longer one, one a byte short, and any shorter one.
+    fn dumps(&mut self, verdict: &Result<Node, Ground>, every_length: bool) {
         let dump = verdict.as_ref().map(Node::dump).ok();
         let just = dump.as_ref().map_or(self.random.below(LONGEST as u64 + 1) as usize, Vec::len);
         let longer = just + self.random.below(60) as usize;
         let shorter = self.random.below(just as u64 + 1) as usize;
-        for length in [just, longer, just.saturating_sub(1), shorter] {
-            self.dump(dump.as_deref(), length);
+        let lengths = [just, longer, just.saturating_sub(1), shorter];
+        for length in &lengths[..if every_length { lengths.len() } else { 1 }] {
+            self.dump(dump.as_deref(), *length);
         }
     }
 
@@ -100,31 +115,30 @@ impl Trial<'_> {
     }
 
     /// Reading looks at no tables, so any room will do: the bytes that these numbers would be, and a damaged dump.
-    fn loads(&mut self, stands: bool, dump: &[u8]) {
-        if let Some(bytes) = written(self.lent.tables()) {
-            self.load(&bytes, stands);
+    fn loads(&mut self, written: Option<Vec<u8>>, node: Option<&Node>, dump: &[u8]) {
+        if let Some(bytes) = written {
+            self.load(&bytes, node);
         }
         let (bytes, _) = damage(dump, self.random);
-        self.load(&bytes, load(&bytes).is_some());
+        self.load(&bytes, load(&bytes).as_ref());
     }
 
-    fn load(&mut self, bytes: &[u8], is_dump: bool) {
+    fn load(&mut self, bytes: &[u8], node: Option<&Node>) {
         let mut room = self.lent;
         let found = room.load(bytes);
-        let answer = if is_dump { 0 } else { 13 };
+        let answer = if node.is_some() { 0 } else { 13 };
         count(&mut self.tally.loads, answer);
         self.same("load", found, answer);
-        if is_dump {
-            self.shows("load", &mut room, bytes);
-        } else {
-            self.untouched("load", &room, self.lent);
+        match node {
+            Some(node) => self.shows("load", &mut room, node),
+            None => self.untouched("load", &room, self.lent),
         }
     }
 
     fn start(&mut self) {
         let mut room = self.lent;
         room.start();
-        self.shows("start", &mut room, &Node::start().dump());
+        self.shows("start", &mut room, &Node::start());
     }
 
     fn pick(&mut self) {
@@ -141,10 +155,10 @@ impl Trial<'_> {
     }
 
     /// A step leads from the tables that the last one left.
-    fn steps(&mut self, mut verdict: Result<Node, Ground>) {
+    fn steps(&mut self, mut verdict: Result<Node, Ground>, events: u64) {
         let mut room = self.lent;
-        for _ in 0..EVENTS {
-            let event = events::any(&Known::of(room.tables()), self.random);
+        for _ in 0..events {
+            let event = events::any(&Known::in_words(&room.words), self.random);
             let before = room;
             let found = room.step(&event);
             let expected = verdict.as_mut().map_or(NO_TABLES, |node| node.step(&event).into());
@@ -152,7 +166,7 @@ impl Trial<'_> {
             let known = self.wrong.len();
             self.same("step", found, expected);
             match &verdict {
-                Ok(node) if expected.refusal == 0 => self.shows("step", &mut room, &node.dump()),
+                Ok(node) if expected.refusal == 0 => self.shows("step", &mut room, node),
                 _ => self.untouched("step", &room, before),
             }
             if self.wrong.len() > known {
@@ -161,14 +175,15 @@ impl Trial<'_> {
         }
     }
 
-    /// The room now stands for the tables of this dump. Its numbers are looked at too, and not by the library's dump alone.
-    fn shows(&mut self, what: &str, room: &mut Room, dump: &[u8]) {
+    /// The room now stands for this node. Its words are looked at too, and not by the library's dump alone.
+    fn shows(&mut self, what: &str, room: &mut Room, node: &Node) {
         let known = self.wrong.len();
-        self.same_bytes("numbers", &written(room.tables()).unwrap_or_default(), dump);
+        let dump = node.dump();
+        self.same("words", room.read().numbers, Ok(node.tables()));
         let mut out = vec![0; dump.len()];
         let found = room.dump(&mut out);
         self.same("dump", found, Dumped { refusal: 0, length: dump.len() });
-        self.same_bytes("bytes of the dump", &out, dump);
+        self.same_bytes("bytes of the dump", &out, &dump);
         self.same("guards", room.guards_stand(), true);
         if self.wrong.len() > known {
             self.wrong.insert(known, format!("what is left by {what}:"));
