@@ -1,18 +1,27 @@
 -- The window's bytes, moved to the front one after the other, and what is read behind them. What is still to be moved is as it was, since
 -- a byte is written no further back than where it was read.
 -- Assumes nothing.
-use Prim.Native.Nat.{ℕ, suc, _+_, _-_, _≤_, _<_}
+use Prim.Native.Nat.{ℕ, zero, suc, _+_, _-_, _≤_, _<_}
 use mathlib.Core.Path.{_≡_, refl, sym, ap, ap₂, _∙_, subst}
 use mathlib.Core.Bool.{Bool}
 use mathlib.Core.List.{List, [], _∷_, _++_}
 use native.Mathlib.Numerals.{add-one}
 use native.Mathlib.Omega.{arith}
+use lib.Dec.{eqb}
+use lib.IntN.{ℤ, pos, negsuc}
+use lib.Signed.{ltZ}
 use lib.ListN.{length, getD, take, drop, set, length-take, length-drop, length-set}
 use lib.Seq.{take-suc, take-suc-set, drop-set-lt, drop-drop, getD-drop}
+use mir.Syntax.{w64}
+use mir.Val.{SFits, toZ, ofZ}
+use mir.Facts.{toZ-ofZ}
+use borrow.Author.Tests.{le-ltb, eq-eqb, ne-eqb}
 use borrow.Rule.Slice.PartMut.{same-len-mid, take-put}
+use Rattle.libc.specs.Io.{Moved as MayAnswer}
+use Rattle.io.specs.Counts.{clamped}
 use Rattle.buffer.proofs.Putting.{rest, back}
 use Rattle.printing.specs.declared.Span.{Span}
-use Rattle.printing.specs.Input.{Moved, Refilled}
+use Rattle.printing.specs.Input.{is-end, is-failure, heard, Settled, Refilled}
 
 -- of n bytes from `at` on, i stand at the front
 pub record Moving (at n : ℕ) (before after : List ℕ) (i : ℕ) : Type 0 where
@@ -58,42 +67,62 @@ moving-on {at} {n} {before} {after} {i} m h r =
         drop-set-lt (at + (i + 1)) after i (getD after (at + i) 0) (omega arith)
         ∙ (next after ∙ (ap (drop 1) (m .still) ∙ sym (next before)))
 
-pub moving-ends : {at held : ℕ} {before after : List ℕ} {i : ℕ} → Moving at (held - at) before after i → held - at ≤ i → Moved at held before after
-moving-ends {at} {held} {before} {after} {i} m h =
-    let e : held - at ≡ i = omega (arith, m .within) in
-    record { size = m .size; front = ap (λ (j : ℕ). take j after) e ∙ (m .front ∙ ap (λ (j : ℕ). take j (drop at before)) (sym e)) }
+pub moving-ends : (w : Span) {before after : List ℕ} {i : ℕ} → Moving (w .at) (w .held - w .at) before after i → w .held - w .at ≤ i
+    → Settled w before after (w .held - w .at)
+moving-ends w {before} {after} {i} m h =
+    let e : w .held - w .at ≡ i = omega (arith, m .within) in
+    record {
+      counts = refl;
+      size = m .size;
+      front = ap (λ (j : ℕ). take j after) e ∙ (m .front ∙ ap (λ (j : ℕ). take j (drop (w .at) before)) (sym e));
+    }
 
--- ---- the front, whether it was moved or stood there already
+-- what begins at the front stands there already
+pub stands-already : (w : Span) (before : List ℕ) → w .at ≡ 0 → Settled w before before (w .held - w .at)
+stands-already w before z =
+    record { counts = refl; size = refl; front = ap (λ (j : ℕ). take (w .held - w .at) (drop j before)) (sym z) }
 
-pub moved-so : {at held : ℕ} {before mid after : List ℕ} → Moved at held before mid → after ≡ mid → Moved at held before after
-moved-so {at} {held} {before} m e = subst (λ (l : List ℕ). Moved at held before l) (sym e) m
+-- ---- a read behind it
 
-pub moved-already : {at held : ℕ} {before after : List ℕ} → at ≤ 0 → after ≡ before → Moved at held before after
-moved-already {at} {held} {before} {after} h e =
-    let z : 0 ≡ at = omega arith in
-    record { size = ap length e; front = ap (λ (l : List ℕ). take (held - at) l) e ∙ ap (λ (j : ℕ). take (held - at) (drop j before)) z }
+-- the code's tests of what the read answered, on its bits
+tests-end : (got : ℤ) → SFits w64 got → eqb (ofZ w64 got) 0 ≡ is-end got
+tests-end (pos zero) fits = eq-eqb 0 0 refl
+tests-end (pos (suc n)) fits = ne-eqb (suc n) 0 (λ e. omega arith)
+tests-end (negsuc n) fits = ne-eqb (ofZ w64 (negsuc n)) 0 (λ e. omega (arith, fits .sfits))
 
--- ---- n bytes are read behind it
+tests-failure : (got : ℤ) → SFits w64 got → ltZ (toZ w64 (ofZ w64 got)) (pos 0) ≡ is-failure got
+tests-failure got fits = ap (λ (z : ℤ). ltZ z (pos 0)) (toZ-ofZ fits) ∙ below got
+  where
+    below : (z : ℤ) → ltZ z (pos 0) ≡ is-failure z
+    below (pos n) = le-ltb n 0 (omega arith)
+    below (negsuc n) = refl
 
-module _ (w : Span) {before mid : List ℕ} (ys : List ℕ) {n : ℕ} (inside : w .held ≤ length before) (m : Moved (w .at) (w .held) before mid)
-    (r : n ≤ length ys) (kept : length ys ≡ length (rest (w .held - w .at) mid)) where
-  pub read-size : length (back (w .held - w .at) mid ys) ≡ length before
-  read-size = same-len-mid (w .held - w .at) (length mid - (w .held - w .at)) mid ys kept ∙ m .size
+-- k bytes stand at the front, the read answered `got`, and the buffer behind them comes back as ys
+module _ (w : Span) {before mid : List ℕ} (ys : List ℕ) {k n : ℕ} (got : ℤ) (inside : w .held ≤ length before) (s : Settled w before mid k)
+    (kept : length ys ≡ length (rest k mid)) (fits : SFits w64 got) (answers : MayAnswer (length (rest k mid)) got)
+    (counts : n ≡ clamped (toZ w64 (ofZ w64 got)) (length ys)) where
+  room : length (rest k mid) ≡ length before - (w .held - w .at)
+  room = omega (arith, s .counts, s .size, length-take (length mid - k) (drop k mid), length-drop k mid)
 
-  pub read-within : w .held - w .at + n ≤ length before
-  read-within =
-      let l = w .held - w .at in
-      omega (arith, kept, m .size, length-take (length mid - l) (drop l mid), length-drop l mid)
+  told : _≡_ {A = Span} (record { at = 0; held = k + n; ended = eqb (ofZ w64 got) 0; failed = ltZ (toZ w64 (ofZ w64 got)) (pos 0) })
+      (heard (w .held - w .at) (length before - (w .held - w .at)) got)
+  told =
+      ap₂ (λ (e f : Bool). span (k + n) e f) (tests-end got fits) (tests-failure got fits)
+      ∙ ap (λ (h : ℕ). span h (is-end got) (is-failure got))
+      (ap₂ (λ (x y : ℕ). x + y) (s .counts) (counts ∙ ap₂ clamped (toZ-ofZ fits) (kept ∙ room)))
+    where
+      span : ℕ → Bool → Bool → Span
+      span h e f = record { at = 0; held = h; ended = e; failed = f }
 
-  pub read-behind : (ended failed : Bool)
-      → Refilled w before (record { at = 0; held = w .held - w .at + n; ended = ended; failed = failed })
-      (back (w .held - w .at) mid ys)
-  read-behind ended failed =
-      let room : w .held - w .at ≤ length mid = omega (arith, m .size) in
+  pub read-behind : Refilled w before
+      (record { at = 0; held = k + n; ended = eqb (ofZ w64 got) 0; failed = ltZ (toZ w64 (ofZ w64 got)) (pos 0) })
+      (back k mid ys)
+  read-behind =
       record {
-        size = read-size;
-        opens = refl;
-        keeps = omega arith;
-        fits = omega (arith, read-size, read-within);
-        front = take-put (w .held - w .at) (length mid - (w .held - w .at)) mid ys room ∙ m .front;
+        size = same-len-mid k (length mid - k) mid ys kept ∙ s .size;
+        front = ap (λ (j : ℕ). take j (back k mid ys)) (sym (s .counts))
+            ∙ (take-put k (length mid - k) mid ys (omega (arith, s .counts, s .size)) ∙ s .front);
+        got = got;
+        answers = subst (λ (m : ℕ). MayAnswer m got) room answers;
+        told = told;
       }

@@ -34,8 +34,8 @@ pub record Settled (w : Span) (before after : List ℕ) (n : ℕ) : Type 0 where
   pub size : length after ≡ length before
   pub front : take n after ≡ waiting w before
 
--- What waited stands at the front, and a read has put what comes next behind it. `got` is what the read answered; of the bytes that it
--- put there nothing can be said.
+-- What waited stands at the front, and a read has put what comes next behind it. `got` stands for what the read answered: that it is that
+-- number, and which bytes the read put there, no contract can say.
 pub record Refilled (w : Span) (before : List ℕ) (v : Span) (after : List ℕ) : Type 0 where
   pub size : length after ≡ length before
   pub front : take (w .held - w .at) after ≡ waiting w before
