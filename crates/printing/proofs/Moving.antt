@@ -97,26 +97,28 @@ tests-failure got fits = ap (λ (z : ℤ). ltZ z (pos 0)) (toZ-ofZ fits) ∙ bel
     below (pos n) = le-ltb n 0 (omega arith)
     below (negsuc n) = refl
 
+pub heard-so : (left n : ℕ) (got : ℤ) → SFits w64 got
+    → _≡_ {A = Span} (record { at = 0; held = left + n; ended = eqb (ofZ w64 got) 0; failed = ltZ (toZ w64 (ofZ w64 got)) (pos 0) }) (heard left n got)
+heard-so left n got fits =
+    ap₂ (λ (e f : Bool). span e f) (tests-end got fits) (tests-failure got fits)
+  where
+    span : Bool → Bool → Span
+    span e f = record { at = 0; held = left + n; ended = e; failed = f }
+
 -- k bytes stand at the front, the read answered `got`, and the buffer behind them comes back as ys
-module _ (w : Span) {before mid : List ℕ} (ys : List ℕ) {k n : ℕ} (got : ℤ) (inside : w .held ≤ length before) (s : Settled w before mid k)
+module _ (w : Span) {before mid : List ℕ} (ys : List ℕ) {k n : ℕ} (got : ℤ) {v : Span} (inside : w .held ≤ length before) (s : Settled w before mid k)
     (kept : length ys ≡ length (rest k mid)) (fits : SFits w64 got) (answers : MayAnswer (length (rest k mid)) got)
-    (counts : n ≡ clamped (toZ w64 (ofZ w64 got)) (length ys)) where
+    (counts : n ≡ clamped (toZ w64 (ofZ w64 got)) (length ys)) (says : v ≡ heard k n (toZ w64 (ofZ w64 got))) where
   room : length (rest k mid) ≡ length before - (w .held - w .at)
   room = omega (arith, s .counts, s .size, length-take (length mid - k) (drop k mid), length-drop k mid)
 
-  told : _≡_ {A = Span} (record { at = 0; held = k + n; ended = eqb (ofZ w64 got) 0; failed = ltZ (toZ w64 (ofZ w64 got)) (pos 0) })
-      (heard (w .held - w .at) (length before - (w .held - w .at)) got)
+  told : v ≡ heard (w .held - w .at) (clamped got (length before - (w .held - w .at))) got
   told =
-      ap₂ (λ (e f : Bool). span (k + n) e f) (tests-end got fits) (tests-failure got fits)
-      ∙ ap (λ (h : ℕ). span h (is-end got) (is-failure got))
-      (ap₂ (λ (x y : ℕ). x + y) (s .counts) (counts ∙ ap₂ clamped (toZ-ofZ fits) (kept ∙ room)))
-    where
-      span : ℕ → Bool → Bool → Span
-      span h e f = record { at = 0; held = h; ended = e; failed = f }
+      says
+      ∙ (ap₂ (λ (i : ℕ) (z : ℤ). heard i n z) (s .counts) (toZ-ofZ fits)
+      ∙ ap (λ (i : ℕ). heard (w .held - w .at) i got) (counts ∙ ap₂ clamped (toZ-ofZ fits) (kept ∙ room)))
 
-  pub read-behind : Refilled w before
-      (record { at = 0; held = k + n; ended = eqb (ofZ w64 got) 0; failed = ltZ (toZ w64 (ofZ w64 got)) (pos 0) })
-      (back k mid ys)
+  pub read-behind : Refilled w before v (back k mid ys)
   read-behind =
       record {
         size = same-len-mid k (length mid - k) mid ys kept ∙ s .size;

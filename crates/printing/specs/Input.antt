@@ -24,9 +24,9 @@ abbrev pub is-failure : ℤ → Bool
 is-failure (pos n) = false
 is-failure (negsuc n) = true
 
--- the window after a read: `left` bytes stood at the front, there was room for so many more, and the read answered `got`
+-- the window after a read: `left` bytes stood at the front, it answered `got`, and put n bytes behind them
 abbrev pub heard : ℕ → ℕ → ℤ → Span
-heard left room got = record { at = 0; held = left + clamped got room; ended = is-end got; failed = is-failure got }
+heard left n got = record { at = 0; held = left + n; ended = is-end got; failed = is-failure got }
 
 -- the bytes that waited stand at the front, n of them
 pub record Settled (w : Span) (before after : List ℕ) (n : ℕ) : Type 0 where
@@ -41,4 +41,4 @@ pub record Refilled (w : Span) (before : List ℕ) (v : Span) (after : List ℕ)
   pub front : take (w .held - w .at) after ≡ waiting w before
   pub got : ℤ
   pub answers : MayAnswer (length before - (w .held - w .at)) got
-  pub told : v ≡ heard (w .held - w .at) (length before - (w .held - w .at)) got
+  pub told : v ≡ heard (w .held - w .at) (clamped got (length before - (w .held - w .at))) got

@@ -23,19 +23,20 @@ read-requires c κs = search needs
 count-requires : tie.Need-count-requires
 count-requires c κs = search needs
 
-add-t10 : tie.Need-add-t10
-add-t10 c = search needs
+heard-requires : tie.Need-heard-requires
+heard-requires c κs = search needs
 
 same-length : tie.Need-same-length
 same-length c = search needs
 
 returns : tie.Need-returns
 returns c =
-    let r = c .before .before .before .before .before .before .read in
-    let s = c .before .before .before .before .before .before .before .before .before .before .before .settle in
-    let entry = c .before .before .before .before .before .before .before .before .before .before .before .before .before .before in
+    let r = c .before .before .before .before .before .before .before .read in
+    let s = c .before .before .before .before .before .before .before .before .before .before .before .before .settle in
+    let entry = c .before .before .before .before .before .before .before .before .before .before .before .before .before .before .before in
     read-behind (entry .args .w) (r .last .1 .0) (r .result) (entry .pre .1) (s .ensures) (r .kept .1 .0) (record { sfits = r .ok }) (r .ensures)
-    (c .before .before .count .ensures .1)
+    (c .before .before .before .count .ensures .1)
+    (c .heard .ensures)
 
 pub refill-spec : {M : Type 1} → statement M
 refill-spec =
@@ -47,6 +48,6 @@ refill-spec =
     part-room-end
     read-requires
     count-requires
-    add-t10
+    heard-requires
     same-length
     returns)
