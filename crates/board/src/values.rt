@@ -1,4 +1,5 @@
 // The step by value under its entry, its decision as numbers, and the sizes.
+use rules::codes;
 use crate::Report;
 use crate::Served;
 use lending::Tables;

@@ -3,22 +3,28 @@ use handling::dispatch;
 use rules::Answer;
 use rules::Message;
 use rules::Thread;
+use rules::codes;
 use rules::numbers;
+use rules::tags;
 use store;
 ghost use mathlib.Core.Path.{_≡_};
 ghost use Prim.Native.Nat.{_+_, _*_, _<_, _≤_};
 ghost use lib.ListN.{length};
 ghost use Rattle.rules.specs.Lists.{each};
 ghost use Rattle.rules.specs.Numbers.{devices};
+ghost use Rattle.rules.specs.Tags.{before-value, head-tag, head-size, thread-tag, thread-size, ready-tag, clock-tag, message-tag, message-size, held-tag, held-size};
 ghost use Rattle.rules.specs.Dump.{field, head-value, answer-value, thread-value, message-value, held-value, dump};
 ghost use Rattle.store.specs.Store.{tables, Shaped};
 ghost use Rattle.buffer.specs.Puts.{Puts};
 ghost use Rattle.dumping.specs.Dumping.{Dumpable, held-at};
 
+// What every dump has: a head, and the fields of the two queues without their names.
+const ALWAYS: usize = tags::HEAD_FIELD + 2 * tags::BEFORE_VALUE;
+
 // Field 1.
 fn write_head(m: &[u32], out: &mut [u8]) -> usize
-    requires { ⌜ Shaped (now m) × (12 ≤ length (now out)) ⌝ }
-    ensures { λ n. ⌜ Puts (field 1 (head-value (tables (now (m .entry))))) (now (out .entry)) (now (out .exit)) n ⌝ }
+    requires { ⌜ Shaped (now m) × (before-value + head-size ≤ length (now out)) ⌝ }
+    ensures { λ n. ⌜ Puts (field head-tag (head-value (tables (now (m .entry))))) (now (out .entry)) (now (out .exit)) n ⌝ }
 {
     let s = dispatch::status(m);
     let r = store::runner(m);
@@ -28,11 +34,11 @@ fn write_head(m: &[u32], out: &mut [u8]) -> usize
     let last = store::last(m);
     let since = store::since(m);
     let beats = store::beats(m);
-    buffer::put_head(out, 1, 9);
+    buffer::put_head(out, tags::HEAD, tags::HEAD_SIZE);
     buffer::put_three(&mut out[3..], status, last, runner);
     buffer::put_two(&mut out[6..], slice, since);
     buffer::put_word(&mut out[8..], beats);
-    12
+    tags::HEAD_FIELD
 }
 
 // The answer that waits for a thread: the end of field 2.
@@ -47,8 +53,8 @@ fn write_answer(a: Answer, out: &mut [u8]) -> usize
 
 // Field 2.
 fn write_thread(t: Thread, out: &mut [u8]) -> usize
-    requires { ⌜ 20 ≤ length (now out) ⌝ }
-    ensures { λ n. ⌜ Puts (field 2 (thread-value t)) (now (out .entry)) (now (out .exit)) n ⌝ }
+    requires { ⌜ before-value + thread-size ≤ length (now out) ⌝ }
+    ensures { λ n. ⌜ Puts (field thread-tag (thread-value t)) (now (out .entry)) (now (out .exit)) n ⌝ }
 {
     let parent = t.parent;
     let s = t.state;
@@ -57,7 +63,7 @@ fn write_thread(t: Thread, out: &mut [u8]) -> usize
     let program = g.program;
     let tlb = g.tlb;
     let sysbp = g.sysbp;
-    buffer::put_head(out, 2, 17);
+    buffer::put_head(out, tags::THREAD, tags::THREAD_SIZE);
     buffer::put_four(
         &mut out[3..],
         t.name,
@@ -73,12 +79,12 @@ fn write_thread(t: Thread, out: &mut [u8]) -> usize
     );
     buffer::put_word(&mut out[10..], t.ticks);
     write_answer(a, &mut out[14..]);
-    20
+    tags::THREAD_FIELD
 }
 
 fn write_threads(m: &[u32], out: &mut [u8]) -> usize
-    requires { ⌜ Shaped (now m) × (20 * length (tables (now m) .threads) ≤ length (now out)) ⌝ }
-    ensures { λ k. ⌜ Puts (each (λ t. field 2 (thread-value t)) (tables (now (m .entry)) .threads)) (now (out .entry)) (now (out .exit)) k ⌝ }
+    requires { ⌜ Shaped (now m) × ((before-value + thread-size) * length (tables (now m) .threads) ≤ length (now out)) ⌝ }
+    ensures { λ k. ⌜ Puts (each (λ t. field thread-tag (thread-value t)) (tables (now (m .entry)) .threads)) (now (out .entry)) (now (out .exit)) k ⌝ }
 {
     let n = store::thread_count(m);
     let mut at = 0;
@@ -93,49 +99,49 @@ fn write_threads(m: &[u32], out: &mut [u8]) -> usize
 
 // Field 3: the ready names, front first.
 fn write_ready(m: &[u32], out: &mut [u8]) -> usize
-    requires { ⌜ Shaped (now m) × (3 + length (tables (now m) .ready) ≤ length (now out)) ⌝ }
-    ensures { λ k. ⌜ Puts (field 3 (tables (now (m .entry)) .ready)) (now (out .entry)) (now (out .exit)) k ⌝ }
+    requires { ⌜ Shaped (now m) × (before-value + length (tables (now m) .ready) ≤ length (now out)) ⌝ }
+    ensures { λ k. ⌜ Puts (field ready-tag (tables (now (m .entry)) .ready)) (now (out .entry)) (now (out .exit)) k ⌝ }
 {
     let n = store::ready_count(m);
-    buffer::put_head(out, 3, n as u8);
+    buffer::put_head(out, tags::READY, n as u8);
     let mut i = 0;
     while i < n {
-        out[3 + i] = store::ready_at(m, i);
+        out[tags::BEFORE_VALUE + i] = store::ready_at(m, i);
         i += 1;
     }
-    3 + n
+    tags::BEFORE_VALUE + n
 }
 
 // Field 4: who waits for the clock, in order.
 fn write_clock(m: &[u32], out: &mut [u8]) -> usize
-    requires { ⌜ Shaped (now m) × (3 + length (tables (now m) .clock) ≤ length (now out)) ⌝ }
-    ensures { λ k. ⌜ Puts (field 4 (tables (now (m .entry)) .clock)) (now (out .entry)) (now (out .exit)) k ⌝ }
+    requires { ⌜ Shaped (now m) × (before-value + length (tables (now m) .clock) ≤ length (now out)) ⌝ }
+    ensures { λ k. ⌜ Puts (field clock-tag (tables (now (m .entry)) .clock)) (now (out .entry)) (now (out .exit)) k ⌝ }
 {
     let n = store::clock_count(m);
-    buffer::put_head(out, 4, n as u8);
+    buffer::put_head(out, tags::CLOCK, n as u8);
     let mut i = 0;
     while i < n {
-        out[3 + i] = store::clock_at(m, i);
+        out[tags::BEFORE_VALUE + i] = store::clock_at(m, i);
         i += 1;
     }
-    3 + n
+    tags::BEFORE_VALUE + n
 }
 
 // Field 5.
 fn write_message(x: Message, out: &mut [u8]) -> usize
-    requires { ⌜ 10 ≤ length (now out) ⌝ }
-    ensures { λ n. ⌜ Puts (field 5 (message-value x)) (now (out .entry)) (now (out .exit)) n ⌝ }
+    requires { ⌜ before-value + message-size ≤ length (now out) ⌝ }
+    ensures { λ n. ⌜ Puts (field message-tag (message-value x)) (now (out .entry)) (now (out .exit)) n ⌝ }
 {
     let kind = x.kind;
-    buffer::put_head(out, 5, 7);
+    buffer::put_head(out, tags::MESSAGE, tags::MESSAGE_SIZE);
     buffer::put_three(&mut out[3..], x.to, x.from, codes::message_code(kind));
     buffer::put_word(&mut out[6..], x.word);
-    10
+    tags::MESSAGE_FIELD
 }
 
 fn write_messages(m: &[u32], out: &mut [u8]) -> usize
-    requires { ⌜ Shaped (now m) × (10 * length (tables (now m) .messages) ≤ length (now out)) ⌝ }
-    ensures { λ k. ⌜ Puts (each (λ x. field 5 (message-value x)) (tables (now (m .entry)) .messages)) (now (out .entry)) (now (out .exit)) k ⌝ }
+    requires { ⌜ Shaped (now m) × ((before-value + message-size) * length (tables (now m) .messages) ≤ length (now out)) ⌝ }
+    ensures { λ k. ⌜ Puts (each (λ x. field message-tag (message-value x)) (tables (now (m .entry)) .messages)) (now (out .entry)) (now (out .exit)) k ⌝ }
 {
     let n = store::message_count(m);
     let mut at = 0;
@@ -150,22 +156,22 @@ fn write_messages(m: &[u32], out: &mut [u8]) -> usize
 
 // Field 6, if a word is held for the device.
 fn write_word(m: &[u32], d: u8, out: &mut [u8]) -> usize
-    requires { ⌜ Shaped (now m) × (d < devices) × (8 * length (held-at d (tables (now m) .held)) ≤ length (now out)) ⌝ }
-    ensures { λ n. ⌜ Puts (each (λ h. field 6 (held-value h)) (held-at d (tables (now (m .entry)) .held))) (now (out .entry)) (now (out .exit)) n ⌝ }
+    requires { ⌜ Shaped (now m) × (d < devices) × ((before-value + held-size) * length (held-at d (tables (now m) .held)) ≤ length (now out)) ⌝ }
+    ensures { λ n. ⌜ Puts (each (λ h. field held-tag (held-value h)) (held-at d (tables (now (m .entry)) .held))) (now (out .entry)) (now (out .exit)) n ⌝ }
 {
     if !store::is_held(m, d) {
         return 0;
     }
     let word = store::held_word(m, d);
-    buffer::put_four(out, 6, 0, 5, d);
+    buffer::put_four(out, tags::HELD, 0, tags::HELD_SIZE, d);
     buffer::put_word(&mut out[4..], word);
-    8
+    tags::HELD_FIELD
 }
 
 // Held words by rising device.
 fn write_held(m: &[u32], out: &mut [u8]) -> usize
-    requires { ⌜ Dumpable (now m) × (8 * length (tables (now m) .held) ≤ length (now out)) ⌝ }
-    ensures { λ k. ⌜ Puts (each (λ h. field 6 (held-value h)) (tables (now (m .entry)) .held)) (now (out .entry)) (now (out .exit)) k ⌝ }
+    requires { ⌜ Dumpable (now m) × ((before-value + held-size) * length (tables (now m) .held) ≤ length (now out)) ⌝ }
+    ensures { λ k. ⌜ Puts (each (λ h. field held-tag (held-value h)) (tables (now (m .entry)) .held)) (now (out .entry)) (now (out .exit)) k ⌝ }
 {
     let mut at = 0;
     let mut d = 0;
@@ -208,7 +214,12 @@ pub fn dump_length(m: &[u32]) -> usize
     let clock = store::clock_count(m);
     let messages = store::message_count(m);
     let held = count_held(m);
-    18 + 20 * threads + ready + clock + 10 * messages + 8 * held
+    ALWAYS
+        + tags::THREAD_FIELD * threads
+        + ready
+        + clock
+        + tags::MESSAGE_FIELD * messages
+        + tags::HELD_FIELD * held
 }
 
 // The whole dump. The buffer is long enough.

@@ -8,20 +8,21 @@ use mathlib.Core.List.{List, [], _∷_}
 use native.Mathlib.Omega.{arith}
 use lib.Dec.{ltb}
 use lib.ListN.{length, getD}
-use borrow.Author.Tests.{eq-eqb, lt-ltb}
+use borrow.Author.Tests.{lt-ltb}
 use Rattle.rules.specs.Lists.{all, any}
 use Rattle.rules.specs.Numbers.{Limits, nobody, devices}
-use Rattle.rules.specs.Tables.{Tables, named}
+use Rattle.rules.specs.Tables.{Tables}
 use Rattle.rules.specs.States.{at-device, waits-for}
 use Rattle.rules.specs.Waking.{wake}
 use Rattle.rules.specs.Interrupt.{held-for, interrupt}
 use Rattle.laws.proofs.Words.{Result, Thread}
-use Rattle.laws.proofs.Tests.{clash, or-false}
-use Rattle.laws.proofs.Counting.{all-of, any-count, member-any, zero-any}
+use Rattle.laws.proofs.Tests.{clash}
+use Rattle.laws.proofs.Counting.{all-of, any-count, zero-any}
 use Rattle.laws.proofs.Types.{Ruled}
 use Rattle.laws.proofs.Places.{asleep}
-use Rattle.laws.proofs.Single.{getD-member, interrupt-wakes}
+use Rattle.laws.proofs.Single.{interrupt-wakes}
 use Rattle.store.specs.Store.{name-where}
+use Rattle.store.proofs.Limits.{nobody-found, somebody-found}
 use Rattle.handling.proofs.Moving.{woken-room}
 
 -- the devices of held words
@@ -44,11 +45,6 @@ module _ (p : Thread → Bool) where
       go true h k f = (t, 0, omega arith, h, rw h)
       go false h k f = let r = f k in (r .0, suc (r .1), omega (arith, r .2), r .3, rw h (r .4))
 
-  no-name : (ts : List Thread) → any p ts ≡ false → name-where p ts ≡ nobody
-  unfolding any name-where
-  no-name [] e = refl
-  no-name (t ∷ ts) e = let r = or-false (p t) _ e in rw (r .0) (no-name ts (r .1))
-
 -- ---- who waits for a device
 
 module _ {L : Limits} (T : Tables) (R : Ruled L T) (d : ℕ) where
@@ -58,21 +54,11 @@ module _ {L : Limits} (T : Tables) (R : Ruled L T) (d : ℕ) where
 
   -- 255 is nobody's name
   pub no-waiter : name-where (waits-for d) (T .threads) ≡ nobody → any (waits-for d) (T .threads) ≡ false
-  no-waiter e = go (any (waits-for d) (T .threads)) refl
-    where
-      go : (b : Bool) → any (waits-for d) (T .threads) ≡ b → b ≡ false
-      go false h = refl
-      go true h =
-          let r = name-of (waits-for d) (T .threads) h in
-          absurd (omega (arith, R .inv .low nobody (member-any (named nobody) (T .threads) _ (getD-member (T .threads) (r .1) (r .0) (r .2)) (eq-eqb nobody _ (sym (r .4 ∙ e))))))
+  no-waiter e = nobody-found (waits-for d) (T .threads) (R .inv .low) _ refl e
 
   module _ (n : ℕ) (e : n ≡ name-where (waits-for d) (T .threads)) (some : n ≢ nobody) where
     waits : any (waits-for d) (T .threads) ≡ true
-    waits = go (any (waits-for d) (T .threads)) refl
-      where
-        go : (b : Bool) → any (waits-for d) (T .threads) ≡ b → b ≡ true
-        go true h = refl
-        go false h = absurd (some (e ∙ no-name (waits-for d) (T .threads) h))
+    waits = somebody-found (waits-for d) (T .threads) (R .inv .low) n e some
 
     pub waiter-room : length (T .ready) < L .threads
     unfolding at-device

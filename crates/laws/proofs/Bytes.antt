@@ -1,11 +1,14 @@
--- Big-endian numbers: two and four bytes are bytes, give back the number that they were made of, and make no larger one than they can.
+-- Big-endian numbers: two and four bytes are bytes, give back the number that they were made of, and make no larger one than they can. And the
+-- number that four bytes somewhere in a list are.
 -- Assumes nothing.
 use Prim.Native.Nat.{ℕ, _+_, _*_, _/_, _%_, _≤_, _<_}
 use mathlib.Core.Path.{_≡_, refl, ap}
 use mathlib.Core.Bool.{true}
 use mathlib.Core.List.{List, [], _∷_, _++_}
+use native.Mathlib.Nat.{add-zero}
 use native.Mathlib.Omega.{arith}
-use lib.ListN.{length}
+use lib.ListN.{length, take, drop, getD, length-drop}
+use lib.Seq.{getD-drop}
 use borrow.Author.Tests.{ltb-true, lt-ltb}
 use Rattle.rules.specs.Lists.{all, is-byte, number-from, number, two-bytes, four-bytes}
 use Rattle.rules.specs.Numbers.{wrap}
@@ -52,3 +55,18 @@ number-below (a ∷ b ∷ c ∷ d ∷ []) h l =
     let k = and-right (is-byte c) _ j in
     omega (arith, ltb-true a 256 (and-left (is-byte a) _ h), ltb-true b 256 (and-left (is-byte b) _ i), ltb-true c 256 (and-left (is-byte c) _ j), ltb-true d 256 (and-left (is-byte d) _ k))
 number-below (a ∷ b ∷ c ∷ d ∷ e ∷ bs) h l = absurd (omega arith)
+
+pub first-four : (l : List ℕ) → 4 ≤ length l → take 4 l ≡ getD l 0 0 ∷ getD l 1 0 ∷ getD l 2 0 ∷ getD l 3 0 ∷ []
+first-four [] h = absurd (omega arith)
+first-four (a ∷ []) h = absurd (omega arith)
+first-four (a ∷ b ∷ []) h = absurd (omega arith)
+first-four (a ∷ b ∷ c ∷ []) h = absurd (omega arith)
+first-four (a ∷ b ∷ c ∷ d ∷ l) h = refl
+
+-- Four bytes, two by two.
+pub four-at : (l : List ℕ) (at : ℕ) → at + 4 ≤ length l →
+    (getD l at 0 * 256 + getD l (at + 1) 0) * 65536 + (getD l (at + 2) 0 * 256 + getD l (at + 3) 0) ≡ number (take 4 (drop at l))
+unfolding number-from
+four-at l at h =
+    let m : 4 ≤ length (drop at l) = simp length-drop (omega arith) in
+    rw first-four (simp (getD-drop, add-zero) (omega arith))

@@ -14,6 +14,7 @@ use Rattle.laws.proofs.Words.{Thread, Message, Held, Runner}
 use Rattle.rules.specs.Tables.{Tables, named}
 use Rattle.rules.specs.Waking.{is-ordinary, notice-of}
 use Rattle.rules.specs.TableRules.{table-rules}
+use Rattle.rules.specs.Tags.{head-size, thread-tag, thread-size, message-tag, message-size, held-tag, held-size}
 use Rattle.rules.specs.Dump.{field, head-value, thread-value, message-value, held-value, dump}
 use Rattle.laws.proofs.Tests.{same?, same-turned, and-right}
 use Rattle.laws.proofs.Counting.{count-append, count-map, count-same, count-not, count-keep, length-keep, any-count, count-any, any-member, length-each}
@@ -88,19 +89,19 @@ held-few b ts ms hs g = omega (arith, up-few (λ h. h .device) 0 devices hs (ome
 
 -- ---- the dump
 
-pub thread-length : (t : Thread) → length (thread-value t) ≡ 17
+pub thread-length : (t : Thread) → length (thread-value t) ≡ thread-size
 unfolding thread-value
 thread-length t = refl
 
-pub message-length : (m : Message) → length (message-value m) ≡ 7
+pub message-length : (m : Message) → length (message-value m) ≡ message-size
 unfolding message-value
 message-length m = refl
 
-pub held-length : (h : Held) → length (held-value h) ≡ 5
+pub held-length : (h : Held) → length (held-value h) ≡ held-size
 unfolding held-value
 held-length h = refl
 
-pub head-length : (T : Tables) → length (head-value T) ≡ 9
+pub head-length : (T : Tables) → length (head-value T) ≡ head-size
 unfolding head-value
 head-length T = refl
 
@@ -112,9 +113,9 @@ dump-length T =
     (omega (
       arith,
       head-length T,
-      length-each (λ t. field 2 (thread-value t)) 20 (T .threads) (λ t. omega (arith, thread-length t)),
-      length-each (λ m. field 5 (message-value m)) 10 (T .messages) (λ m. omega (arith, message-length m)),
-      length-each (λ h. field 6 (held-value h)) 8 (T .held) (λ h. omega (arith, held-length h)),
+      length-each (λ t. field thread-tag (thread-value t)) 20 (T .threads) (λ t. omega (arith, thread-length t)),
+      length-each (λ m. field message-tag (message-value m)) 10 (T .messages) (λ m. omega (arith, message-length m)),
+      length-each (λ h. field held-tag (held-value h)) 8 (T .held) (λ h. omega (arith, held-length h)),
     ))
 
 -- with t threads and b blocks: a head, t threads, the queues with t names together, b ordinary messages and t notices, 48 held words.

@@ -3,16 +3,16 @@
 use Prim.Native.Nat.{ℕ, zero, suc, _+_, _*_, _/_, _%_, _^_, _≤_, _<_}
 use mathlib.Core.Path.{_≡_, refl, sym, ap, _∙_}
 use mathlib.Core.Logic.{_⊎_, inl, inr, ⊎-elim, _≢_, _↔_}
-use mathlib.Core.Bool.{Bool, true, false, _&&_}
+use mathlib.Core.Bool.{Bool, true, false, _&&_, false≢true}
 use mathlib.Core.List.{List, [], _∷_, List·Memᴰ, List·Memᴰ·head, List·Memᴰ·tail}
 use native.Mathlib.Omega.{arith}
 use lib.Dec.{ltb}
 use lib.ListN.{length, take, drop, getD}
 use borrow.Author.Tests.{ltb-true, ltb-false, le-ltb, eqb-true, eqb-false, eq-eqb, ne-eqb}
 use Rattle.rules.specs.Lists.{if_then_else_, _==_, all, any, is-byte, from-on, number-from, number}
-use Rattle.rules.specs.Tags.{facts-in, tag-facts, rule-in, argument-rule, meets}
+use Rattle.rules.specs.Tags.{facts-in, tag-facts, Service, services, rule-in, argument-rule, meets}
 use Rattle.rules.specs.Pick.{pending, first-pending, pick, no-pick}
-use Rattle.rules.specs.Events.{trap-of, interrupt-of, meaning, field-of, decode}
+use Rattle.rules.specs.Events.{asked-in, request, trap-of, interrupt-of, meaning, field-of, decode}
 use Rattle.laws.proofs.Words.{Picked, Event, Malformed, Argument, ByRunner}
 use Rattle.laws.proofs.Tests.{by-if, clash, same?, and-left, and-right, and-false}
 use Rattle.laws.proofs.Counting.{any-member, all-at, not-any}
@@ -279,20 +279,31 @@ flawed bytes (one-over-47 e n a c b) = by-field (λ y. (tag y ≡ 21) × (bit (p
 abbrev Verdict : List ℕ → Event → Type 0
 Verdict bytes e = Flaw bytes ⊎ (e ≢ Malformed)
 
+-- a service whose rule the argument meets asks for something
+asks-something : (ss : List Service) (s a : ℕ) → meets (rule-in ss s) a ≡ true → asked-in ss s a ≢ Malformed
+unfolding rule-in asked-in meets
+asks-something [] s a m = absurd (false≢true m)
+asks-something (r ∷ rs) s a m = go (s == r .number) m (asks-something rs s a)
+  where
+    go : (b : Bool) → meets (if b then r .rule else rule-in rs s) a ≡ true → (meets (rule-in rs s) a ≡ true → asked-in rs s a ≢ Malformed) → (if b then ByRunner (r .asks a) else asked-in rs s a) ≢ Malformed
+    go true k later e = let z : _≡_ {A = ℕ} 0 1 = cc in absurd (omega arith)
+    go false k later e = later k e
+
 module _ (t h l : ℕ) (v : List ℕ) where
   read : 16 ≤ t → t ≤ 21 → length v ≡ value-length t → Verdict (t ∷ h ∷ l ∷ v) (meaning t v)
-  unfolding meaning value-length trap-of interrupt-of
+  unfolding meaning value-length request argument-rule trap-of interrupt-of
   read low high len =
       by-if (Verdict (t ∷ h ∷ l ∷ v)) (t == 16) (λ _. inr call) λ n16.
       by-if (Verdict (t ∷ h ∷ l ∷ v)) (t == 17) (λ _. inr call) λ n17.
       by-if (Verdict (t ∷ h ∷ l ∷ v)) (t == 18)
-      (λ e. by-if (Verdict (t ∷ h ∷ l ∷ v)) (meets (argument-rule (getD v 0 0)) (number (drop 1 v))) (λ _. inr call)
+      (λ e. by-if (Verdict (t ∷ h ∷ l ∷ v)) (meets (argument-rule (getD v 0 0)) (number (drop 1 v))) (λ m. inr (asks-something services _ _ m))
       (λ b. inl (bad-request (eqb-true t 18 e) (meets-or-bad (getD v 0 0) (getD v 1 0) (ap (meets (argument-rule (getD v 0 0))) (sym (argument-is v (len ∙ ap value-length (eqb-true t 18 e)))) ∙ b))))) λ n18.
       by-if (Verdict (t ∷ h ∷ l ∷ v)) (t == 19)
       (λ e. by-if (Verdict (t ∷ h ∷ l ∷ v)) (getD v 0 0 == 0) (λ _. inr call) λ a. by-if (Verdict (t ∷ h ∷ l ∷ v)) (getD v 0 0 == 1) (λ _. inr call) λ b. by-if (Verdict (t ∷ h ∷ l ∷ v)) (getD v 0 0 == 2) (λ _. inr call) λ c.
       inl (kind-over-2 (eqb-true t 19 e) (omega (arith, eqb-false (getD v 0 0) 0 a, eqb-false (getD v 0 0) 1 b, eqb-false (getD v 0 0) 2 c)))) λ n19.
       by-if (Verdict (t ∷ h ∷ l ∷ v)) (t == 20) (λ _. inr (λ e. let z : _≡_ {A = ℕ} 0 1 = cc in absurd (omega arith))) λ n20.
-      served (omega (arith, eqb-false t 16 n16, eqb-false t 17 n17, eqb-false t 18 n18, eqb-false t 19 n19, eqb-false t 20 n20))
+      by-if (Verdict (t ∷ h ∷ l ∷ v)) (t == 21) (λ e. served (eqb-true t 21 e)) λ n21.
+      absurd (omega (arith, eqb-false t 16 n16, eqb-false t 17 n17, eqb-false t 18 n18, eqb-false t 19 n19, eqb-false t 20 n20, eqb-false t 21 n21))
     where
       call : {c : _} → ByRunner c ≢ Malformed
       call {c} e = let z : _≡_ {A = ℕ} 0 1 = cc in absurd (omega arith)

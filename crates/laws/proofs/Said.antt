@@ -11,7 +11,7 @@ use Rattle.rules.specs.Lists.{if_then_else_, _==_, all, is-byte, number-from, n
 use Rattle.rules.specs.Numbers.{wrap}
 use Rattle.rules.specs.Tags.{facts-in, tag-facts, rule-in, argument-rule, meets}
 use Rattle.rules.specs.Pick.{pick}
-use Rattle.rules.specs.Events.{request, trap-of, interrupt-of, meaning, field-of, decode}
+use Rattle.rules.specs.Events.{asked-in, request, trap-of, interrupt-of, meaning, field-of, decode}
 use Rattle.rules.proofs.Bits.{pick-trailing, pick-lowest}
 use Rattle.laws.proofs.Words.{Anybody, Only, Program, Tlb, SysBp, Oneself, Named, Send, Receive, CreateBrother, CreateSon, Terminate, SetManager, GetCpuTime, WaitForClock, WaitForIo, Trap, Malformed, ByRunner, Tick, Interrupt, Picked}
 use Rattle.laws.proofs.Counting.{all-both}
@@ -32,7 +32,7 @@ pub requests-say :
     × (decode (asking 3 255) ≡ ByRunner (Terminate Oneself))
     × (decode (asking 7 0) ≡ ByRunner GetCpuTime)
     × (decode (asking 8 0) ≡ ByRunner WaitForClock)
-unfolding decode all field-of tag-facts facts-in meaning number-from argument-rule rule-in meets request
+unfolding decode all field-of tag-facts facts-in meaning number-from argument-rule rule-in meets asked-in request
 requests-say = (refl, refl, refl, refl, refl)
 
 -- "3 TERMINATE (a name ..)" and "4, 5, 6 set the manager for kinds 0, 1, 2".
@@ -41,12 +41,12 @@ pub naming-requests-say : (n : ℕ) → n < 256 →
     × (decode (asking 4 n) ≡ ByRunner (SetManager Program n))
     × (decode (asking 5 n) ≡ ByRunner (SetManager Tlb n))
     × (decode (asking 6 n) ≡ ByRunner (SetManager SysBp n))
-unfolding decode all field-of tag-facts facts-in meaning argument-rule rule-in meets request
+unfolding decode all field-of tag-facts facts-in meaning argument-rule rule-in meets asked-in request
 naming-requests-say n h = (λ d. rw (lt-ltb n 256 h, one-back n, ne-eqb n 255 d), rw (lt-ltb n 256 h, one-back n), rw (lt-ltb n 256 h, one-back n), rw (lt-ltb n 256 h, one-back n))
 
 -- "9 WAITFORIO", of "devices 0 to 47".
 pub device-request-says : (d : ℕ) → d < 48 → decode (asking 9 d) ≡ ByRunner (WaitForIo d)
-unfolding decode all field-of tag-facts facts-in meaning argument-rule rule-in meets request
+unfolding decode all field-of tag-facts facts-in meaning argument-rule rule-in meets asked-in request
 device-request-says d h = rw (lt-ltb d 256 (omega arith), one-back d, lt-ltb d 48 h)
 
 -- "16 send (name 1, word 4)"

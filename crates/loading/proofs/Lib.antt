@@ -1,4 +1,3 @@
-pub mod Numbers
 pub mod Cutting
 pub mod Filling
 pub mod Finding

@@ -10,6 +10,7 @@ use Rattle.rules.specs.Lists.{if_then_else_, _==_, each, chain}
 use Rattle.rules.specs.Numbers.{small, devices}
 use Rattle.rules.specs.Tables.{Tables, with-last, with-runner, with-time, with-ready, with-clock}
 use Rattle.rules.specs.TableRules.{table-rules}
+use Rattle.rules.specs.Tags.{before-value, thread-tag, ready-tag, message-tag, held-tag}
 use Rattle.rules.specs.Dump.{field, thread-value, message-value, held-value, dump}
 use Rattle.rules.specs.Load.{loaded, no-dump, load, runner-from, word-at, thread-from, message-from, held-from}
 use Rattle.laws.proofs.Words.{Thread, Message, Held}
@@ -53,10 +54,10 @@ head-from bytes T = with-time (getD bytes 7 0) (word-at bytes 8) (with-runner (r
 
 -- the queue of a field's tag: 3 ready names, 4 clock waiters
 abbrev pub names-in : ℕ → Tables → List ℕ
-names-in tag T = if tag == 3 then T .ready else T .clock
+names-in tag T = if tag == ready-tag then T .ready else T .clock
 
 abbrev pub with-names : ℕ → List ℕ → Tables → Tables
-with-names tag q T = if tag == 3 then with-ready q T else with-clock q T
+with-names tag q T = if tag == ready-tag then with-ready q T else with-clock q T
 
 -- ---- the stages
 
@@ -76,23 +77,23 @@ pub record HeldFine (hs : List Held) : Type 0 where
   pub rising : chain (λ h k. ltb (h .device) (k .device)) hs ≡ true
 
 abbrev pub ThreadsRead : List ℕ → List Thread → List ℕ → Type 0
-ThreadsRead bytes row behind = RowRead 20 2 thread-value (Backs thread-value thread-from) bytes row behind
+ThreadsRead bytes row behind = RowRead (small .threads) thread-tag thread-value (Backs thread-value thread-from) bytes row behind
 
 abbrev pub MessagesRead : List ℕ → List Message → List ℕ → Type 0
-MessagesRead bytes row behind = RowRead 40 5 message-value (Backs message-value message-from) bytes row behind
+MessagesRead bytes row behind = RowRead (small .blocks + small .threads) message-tag message-value (Backs message-value message-from) bytes row behind
 
 abbrev pub HeldRead : List ℕ → List Held → List ℕ → Type 0
-HeldRead bytes row behind = RowRead 48 6 held-value HeldFine bytes row behind
+HeldRead bytes row behind = RowRead devices held-tag held-value HeldFine bytes row behind
 
 -- From a place on there are n names of a field: where such a field stands there, as many as it has. Else n is any; where it is 20 at most, so many
 -- bytes are there.
 pub record NamesCounted (tag : ℕ) (bytes : List ℕ) (from n : ℕ) : Type 0 where
-  pub whole : n ≤ 20 → from + 3 + n ≤ length bytes
-  pub counts : (q rest : List ℕ) → length q ≤ 20 → drop from bytes ≡ field tag q ++ rest → n ≡ length q
+  pub whole : n ≤ small .threads → from + before-value + n ≤ length bytes
+  pub counts : (q rest : List ℕ) → length q ≤ small .threads → drop from bytes ≡ field tag q ++ rest → n ≡ length q
 
 -- Names were read from these bytes and `behind` is left, as for a row.
 pub record NamesRead (tag : ℕ) (bytes : List ℕ) (good : Bool) (names : List ℕ) (behind : List ℕ) : Type 0 where
-  pub reads : (q : List ℕ) (rest : List ℕ) → length q ≤ 20 → bytes ≡ field tag q ++ rest → (good ≡ true) × (names ≡ q) × (behind ≡ rest)
+  pub reads : (q : List ℕ) (rest : List ℕ) → length q ≤ small .threads → bytes ≡ field tag q ++ rest → (good ≡ true) × (names ≡ q) × (behind ≡ rest)
 
 -- What stands behind a head T₀, if the bytes are the dump of tables that meet the rules: all else of them.
 pub record RestFound (T₀ : Tables) (bytes m : List ℕ) (good : Bool) : Type 0 where

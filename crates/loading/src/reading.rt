@@ -1,20 +1,20 @@
 // The first stage of reading: the fields are cut in the order of a dump, by tag and length, and their values put into a lent memory.
 use crate::values;
-use memory::memory as rows;
 use rules::numbers;
+use rules::tags;
 ghost use mathlib.Core.Path.{_≡_};
-ghost use mathlib.Core.Bool.{true};
 ghost use mathlib.Core.List.{[], _∷_, _++_};
-ghost use Prim.Native.Nat.{_≤_, _<_};
-ghost use lib.Dec.{ltb};
+ghost use Prim.Native.Nat.{_+_, _≤_, _<_};
 ghost use lib.ListN.{length, drop};
-ghost use Rattle.rules.specs.Lists.{all};
-ghost use Rattle.rules.specs.Numbers.{small, devices};
+ghost use Rattle.rules.specs.Numbers.{small};
 ghost use Rattle.rules.specs.Tables.{with-threads, with-messages, with-held};
-ghost use Rattle.rules.specs.Interrupt.{hold as hold-of};
+ghost use Rattle.rules.specs.Tags.{before-value, head-size};
 ghost use Rattle.memory.specs.Layout.{size};
 ghost use Rattle.store.specs.Store.{limits, tables, Shaped, Holding, Leaves, Fills};
 ghost use Rattle.loading.specs.Reading.{Small, Empty, head-from, names-in, with-names, ThreadsRead, MessagesRead, HeldRead, NamesCounted, NamesRead, RestFound, Found};
+
+// A field has at most so many names: a queue holds a thread once.
+const MOST_NAMES: u8 = numbers::THREADS as u8;
 
 // More names than these no field has.
 const NO_FIELD: usize = 255;
@@ -27,7 +27,7 @@ struct Names {
 
 // Field 1, but for the status. The memory still holds nothing.
 fn read_head(m: &mut [u32], bytes: &[u8])
-    requires { ⌜ Holding (now m) × (12 ≤ length (now bytes)) ⌝ }
+    requires { ⌜ Holding (now m) × (before-value + head-size ≤ length (now bytes)) ⌝ }
     ensures { λ _. ⌜ Leaves (now (m .entry)) (now (m .exit)) (head-from (now (bytes .entry)) (tables (now (m .entry)))) ⌝ }
 {
     store::set_last(m, bytes[4]);
@@ -42,11 +42,11 @@ fn read_threads(m: &mut [u32], bytes: &[u8], from: usize) -> usize
     let mut n: usize = 0;
     let mut at = from;
     while n < numbers::THREADS {
-        if !values::opens(&bytes[at..], 2, 17) {
+        if !values::opens(&bytes[at..], tags::THREAD, tags::THREAD_SIZE) {
             return at;
         }
-        let start = at + 3;
-        let end = at + 20;
+        let start = at + tags::BEFORE_VALUE;
+        let end = at + tags::THREAD_FIELD;
         let x = values::read_thread(&bytes[start..end]);
         store::fill_thread(m, x);
         n += 1;
@@ -64,10 +64,10 @@ fn count_names(bytes: &[u8], from: usize, tag: u8) -> usize
         return NO_FIELD;
     }
     let size = bytes[from + 2];
-    if size > 20 {
+    if size > MOST_NAMES {
         return NO_FIELD;
     }
-    if !values::opens(&bytes[from..], tag, size as u32) {
+    if !values::opens(&bytes[from..], tag, size) {
         return NO_FIELD;
     }
     size as usize
@@ -78,7 +78,7 @@ fn fill_name(m: &mut [u32], tag: u8, name: u8)
     requires { ⌜ Shaped (now m) × (length (names-in tag (tables (now m))) < limits (now m) .threads) ⌝ }
     ensures { λ _. ⌜ Fills (now (m .entry)) (now (m .exit)) (with-names tag (names-in tag (tables (now (m .entry))) ++ (name ∷ [])) (tables (now (m .entry)))) ⌝ }
 {
-    if tag == 3 {
+    if tag == tags::READY {
         store::fill_ready(m, name);
         return;
     }
@@ -86,7 +86,7 @@ fn fill_name(m: &mut [u32], tag: u8, name: u8)
 }
 
 fn fill_names(m: &mut [u32], names: &[u8], tag: u8)
-    requires { ⌜ Small (now m) × (names-in tag (tables (now m)) ≡ []) × (length (now names) ≤ 20) ⌝ }
+    requires { ⌜ Small (now m) × (names-in tag (tables (now m)) ≡ []) × (length (now names) ≤ small .threads) ⌝ }
     ensures { λ _. ⌜ Fills (now (m .entry)) (now (m .exit)) (with-names tag (now (names .entry)) (tables (now (m .entry)))) ⌝ }
 {
     let n = names.len();
@@ -109,7 +109,7 @@ fn read_names(m: &mut [u32], bytes: &[u8], from: usize, tag: u8) -> Names
             good: false,
         };
     }
-    let start = from + 3;
+    let start = from + tags::BEFORE_VALUE;
     let end = start + n;
     fill_names(m, &bytes[start..end], tag);
     Names {
@@ -125,25 +125,17 @@ fn read_messages(m: &mut [u32], bytes: &[u8], from: usize) -> usize
     let mut n: usize = 0;
     let mut at = from;
     while n < numbers::MESSAGES {
-        if !values::opens(&bytes[at..], 5, 7) {
+        if !values::opens(&bytes[at..], tags::MESSAGE, tags::MESSAGE_SIZE) {
             return at;
         }
-        let start = at + 3;
-        let end = at + 10;
+        let start = at + tags::BEFORE_VALUE;
+        let end = at + tags::MESSAGE_FIELD;
         let x = values::read_message(&bytes[start..end]);
         store::fill_message(m, x);
         n += 1;
         at = end;
     }
     at
-}
-
-// A held word. The store's own asks for names that come once, which is not known yet; held words have nothing to do with names.
-fn fill_held(m: &mut [u32], d: u8, word: u32)
-    requires { ⌜ Shaped (now m) × (d < devices) × (all (λ h. ltb (h .device) devices) (tables (now m) .held) ≡ true) ⌝ }
-    ensures { λ _. ⌜ Fills (now (m .entry)) (now (m .exit)) (with-held (hold-of d word (tables (now (m .entry)) .held)) (tables (now (m .entry)))) ⌝ }
-{
-    rows::hold(m, d, word);
 }
 
 // A device that there is not ends the row: then the bytes are no dump.
@@ -154,16 +146,16 @@ fn read_held(m: &mut [u32], bytes: &[u8], from: usize) -> usize
     let mut n: usize = 0;
     let mut at = from;
     while n < numbers::HELD {
-        if !values::opens(&bytes[at..], 6, 5) {
+        if !values::opens(&bytes[at..], tags::HELD, tags::HELD_SIZE) {
             return at;
         }
-        let start = at + 3;
-        let end = at + 8;
+        let start = at + tags::BEFORE_VALUE;
+        let end = at + tags::HELD_FIELD;
         let x = values::read_word(&bytes[start..end]);
         if x.device >= numbers::DEVICES {
             return at;
         }
-        fill_held(m, x.device, x.word);
+        store::fill_held(m, x.device, x.word);
         n += 1;
         at = end;
     }
@@ -172,12 +164,12 @@ fn read_held(m: &mut [u32], bytes: &[u8], from: usize) -> usize
 
 // Fields 2 to 6.
 fn read_rest(m: &mut [u32], bytes: &[u8]) -> bool
-    requires { ⌜ Small (now m) × Empty (tables (now m)) × (12 ≤ length (now bytes)) ⌝ }
+    requires { ⌜ Small (now m) × Empty (tables (now m)) × (before-value + head-size ≤ length (now bytes)) ⌝ }
     ensures { λ b. ⌜ RestFound (tables (now (m .entry))) (now (bytes .entry)) (now (m .exit)) b ⌝ }
 {
-    let threads = read_threads(m, bytes, 12);
-    let ready = read_names(m, bytes, threads, 3);
-    let clock = read_names(m, bytes, ready.at, 4);
+    let threads = read_threads(m, bytes, tags::HEAD_FIELD);
+    let ready = read_names(m, bytes, threads, tags::READY);
+    let clock = read_names(m, bytes, ready.at, tags::CLOCK);
     let messages = read_messages(m, bytes, clock.at);
     let held = read_held(m, bytes, messages);
     if !ready.good {
@@ -194,7 +186,7 @@ pub fn read_fields(m: &mut [u32], bytes: &[u8]) -> bool
     requires { ⌜ size small ≤ length (now m) ⌝ }
     ensures { λ b. ⌜ Found (now (bytes .entry)) (now (m .exit)) b ⌝ }
 {
-    if !values::opens(bytes, 1, 9) {
+    if !values::opens(bytes, tags::HEAD, tags::HEAD_SIZE) {
         return false;
     }
     store::clear(m, numbers::THREADS as u32, numbers::BLOCKS as u32);

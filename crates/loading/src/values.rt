@@ -4,10 +4,12 @@ use rules::Managers;
 use rules::Message;
 use rules::Runner;
 use rules::Thread;
+use rules::codes;
 use rules::numbers;
 ghost use mathlib.Core.Path.{_≡_};
 ghost use Prim.Native.Nat.{_+_, _≤_, _<_};
 ghost use lib.ListN.{length};
+ghost use Rattle.rules.specs.Tags.{thread-size, message-size, held-size};
 ghost use Rattle.rules.specs.Load.{runner-from, word-at as word-of, thread-from, message-from, held-from};
 ghost use Rattle.loading.specs.Reading.{opens as opens-of};
 
@@ -29,8 +31,7 @@ pub fn word_at(v: &[u8], at: usize) -> u32
 }
 
 // Do the bytes start with a whole field of this tag and this length?
-pub fn opens(s: &[u8], tag: u8, size: u32) -> bool
-    requires { ⌜ size < 256 ⌝ }
+pub fn opens(s: &[u8], tag: u8, size: u8) -> bool
     ensures { λ b. ⌜ b ≡ opens-of tag size (now (s .entry)) ⌝ }
 {
     if s.len() < 3 {
@@ -39,7 +40,7 @@ pub fn opens(s: &[u8], tag: u8, size: u32) -> bool
     if s[0] != tag {
         return false;
     }
-    if wide(s[1]) * 256 + wide(s[2]) != size {
+    if wide(s[1]) * 256 + wide(s[2]) != wide(size) {
         return false;
     }
     size as usize <= s.len() - 3
@@ -58,7 +59,7 @@ pub fn runner_from(name: u8, slice: u8) -> Runner
 
 // Field 2.
 pub fn read_thread(v: &[u8]) -> Thread
-    requires { ⌜ 17 ≤ length (now v) ⌝ }
+    requires { ⌜ thread-size ≤ length (now v) ⌝ }
     ensures { λ t. ⌜ t ≡ thread-from (now (v .entry)) ⌝ }
 {
     Thread {
@@ -77,7 +78,7 @@ pub fn read_thread(v: &[u8]) -> Thread
 
 // Field 5.
 pub fn read_message(v: &[u8]) -> Message
-    requires { ⌜ 7 ≤ length (now v) ⌝ }
+    requires { ⌜ message-size ≤ length (now v) ⌝ }
     ensures { λ m. ⌜ m ≡ message-from (now (v .entry)) ⌝ }
 {
     Message {
@@ -90,7 +91,7 @@ pub fn read_message(v: &[u8]) -> Message
 
 // Field 6.
 pub fn read_word(v: &[u8]) -> Held
-    requires { ⌜ 5 ≤ length (now v) ⌝ }
+    requires { ⌜ held-size ≤ length (now v) ⌝ }
     ensures { λ h. ⌜ h ≡ held-from (now (v .entry)) ⌝ }
 {
     Held {

@@ -7,6 +7,7 @@ use Rattle.rules.specs.Lists.{if_then_else_, each}
 use Rattle.rules.specs.Tables.{Tables, me}
 use Rattle.rules.specs.Dispatch.{status}
 use Rattle.rules.specs.Codes.{status-code, slice-code, answer-numbers, state-numbers, manager-code, parent-code, message-code}
+use Rattle.rules.specs.Tags.{head-tag, thread-tag, ready-tag, clock-tag, message-tag, held-tag}
 use Rattle.rules.specs.declared.Decision.{Decision}
 use Rattle.rules.specs.declared.Thread.{Thread}
 use Rattle.rules.specs.declared.Message.{Message}
@@ -33,7 +34,7 @@ line k d = let a = answer-numbers (d .answer) in numbers-line (k ∷ d .refusal 
 -- ---- a dump for people: a line for each field, the tag and then its values
 
 abbrev pub head-line : Tables → List ℕ
-head-line T = numbers-line (1 ∷ status-code (status T) ∷ T .last ∷ me (T .runner) ∷ slice-code (T .runner) ∷ T .since ∷ T .beats ∷ [])
+head-line T = numbers-line (head-tag ∷ status-code (status T) ∷ T .last ∷ me (T .runner) ∷ slice-code (T .runner) ∷ T .since ∷ T .beats ∷ [])
 
 abbrev pub thread-line : Thread → List ℕ
 thread-line t =
@@ -41,18 +42,18 @@ thread-line t =
     let g = t .managers in
     let a = answer-numbers (t .answer) in
     numbers-line (
-    2 ∷ t .name ∷ parent-code (t .parent) ∷ s .state ∷ s .detail
+    thread-tag ∷ t .name ∷ parent-code (t .parent) ∷ s .state ∷ s .detail
     ∷ manager-code (g .program) ∷ manager-code (g .tlb) ∷ manager-code (g .sysbp)
     ∷ t .ticks ∷ a .kind ∷ a .sender ∷ a .word ∷ []
     )
 
 abbrev pub message-line : Message → List ℕ
-message-line m = numbers-line (5 ∷ m .to ∷ m .from ∷ message-code (m .kind) ∷ m .word ∷ [])
+message-line m = numbers-line (message-tag ∷ m .to ∷ m .from ∷ message-code (m .kind) ∷ m .word ∷ [])
 
 abbrev pub held-line : Held → List ℕ
-held-line h = numbers-line (6 ∷ h .device ∷ h .word ∷ [])
+held-line h = numbers-line (held-tag ∷ h .device ∷ h .word ∷ [])
 
 unfoldable pub table-lines : Tables → List ℕ
 table-lines T =
-    head-line T ++ each thread-line (T .threads) ++ numbers-line (3 ∷ T .ready) ++ numbers-line (4 ∷ T .clock)
+    head-line T ++ each thread-line (T .threads) ++ numbers-line (ready-tag ∷ T .ready) ++ numbers-line (clock-tag ∷ T .clock)
     ++ each message-line (T .messages) ++ each held-line (T .held)

@@ -1,6 +1,7 @@
 // The line of a decision.
 use crate::decimal;
 use rules::Decision;
+use rules::codes;
 ghost use Prim.Native.Nat.{_≤_};
 ghost use lib.ListN.{length};
 ghost use Rattle.buffer.specs.Puts.{Puts};

@@ -3,7 +3,9 @@ use crate::decimal;
 use handling::dispatch;
 use rules::Message;
 use rules::Thread;
+use rules::codes;
 use rules::numbers;
+use rules::tags;
 use store;
 ghost use mathlib.Core.Path.{_≡_};
 ghost use Prim.Native.Nat.{_<_, _≤_};
@@ -11,6 +13,7 @@ ghost use mathlib.Core.List.{_∷_};
 ghost use lib.ListN.{length};
 ghost use Rattle.rules.specs.Lists.{each};
 ghost use Rattle.rules.specs.Numbers.{small, devices};
+ghost use Rattle.rules.specs.Tags.{ready-tag, clock-tag};
 ghost use Rattle.store.specs.Store.{limits, tables, Shaped};
 ghost use Rattle.dumping.specs.Dumping.{Dumpable, held-at};
 ghost use Rattle.buffer.specs.Puts.{Puts};
@@ -20,6 +23,19 @@ ghost use Rattle.printing.specs.Text.{numbers-line, head-line, thread-li
 // words of 64.
 pub const ROOM: usize = 13404;
 
+// The tags as numbers of a line.
+const HEAD: u64 = tags::HEAD as u64;
+
+const THREAD: u64 = tags::THREAD as u64;
+
+const READY: u64 = tags::READY as u64;
+
+const CLOCK: u64 = tags::CLOCK as u64;
+
+const MESSAGE: u64 = tags::MESSAGE as u64;
+
+const HELD: u64 = tags::HELD as u64;
+
 fn put_head(out: &mut [u8], m: &[u32]) -> usize
     requires { ⌜ Shaped (now m) × (148 ≤ length (now out)) ⌝ }
     ensures { λ n. ⌜ Puts (head-line (tables (now (m .entry)))) (now (out .entry)) (now (out .exit)) n ⌝ }
@@ -27,7 +43,7 @@ fn put_head(out: &mut [u8], m: &[u32]) -> usize
     let s = dispatch::status(m);
     let r = store::runner(m);
     let row = [
-        1,
+        HEAD,
         codes::status_code(s) as u64,
         store::last(m) as u64,
         codes::runner_code(r) as u64,
@@ -50,7 +66,7 @@ fn put_thread(out: &mut [u8], t: Thread) -> usize
     let tlb = g.tlb;
     let sysbp = g.sysbp;
     let row = [
-        2,
+        THREAD,
         t.name as u64,
         codes::parent_code(p) as u64,
         codes::state_code(s) as u64,
@@ -84,10 +100,10 @@ fn put_threads(out: &mut [u8], m: &[u32]) -> usize
 // The ready names behind their tag, front first.
 fn put_ready(out: &mut [u8], m: &[u32]) -> usize
     requires { ⌜ Shaped (now m) × (length (tables (now m) .ready) ≤ 20) × (442 ≤ length (now out)) ⌝ }
-    ensures { λ k. ⌜ Puts (numbers-line (3 ∷ tables (now (m .entry)) .ready)) (now (out .entry)) (now (out .exit)) k ⌝ }
+    ensures { λ k. ⌜ Puts (numbers-line (ready-tag ∷ tables (now (m .entry)) .ready)) (now (out .entry)) (now (out .exit)) k ⌝ }
 {
     let n = store::ready_count(m);
-    let mut row = [3; 21];
+    let mut row = [READY; 21];
     let mut i = 0;
     while i < n {
         let name = store::ready_at(m, i);
@@ -101,10 +117,10 @@ fn put_ready(out: &mut [u8], m: &[u32]) -> usize
 // Who waits for the clock, behind their tag.
 fn put_clock(out: &mut [u8], m: &[u32]) -> usize
     requires { ⌜ Shaped (now m) × (length (tables (now m) .clock) ≤ 20) × (442 ≤ length (now out)) ⌝ }
-    ensures { λ k. ⌜ Puts (numbers-line (4 ∷ tables (now (m .entry)) .clock)) (now (out .entry)) (now (out .exit)) k ⌝ }
+    ensures { λ k. ⌜ Puts (numbers-line (clock-tag ∷ tables (now (m .entry)) .clock)) (now (out .entry)) (now (out .exit)) k ⌝ }
 {
     let n = store::clock_count(m);
-    let mut row = [4; 21];
+    let mut row = [CLOCK; 21];
     let mut i = 0;
     while i < n {
         let name = store::clock_at(m, i);
@@ -121,7 +137,7 @@ fn put_message(out: &mut [u8], x: Message) -> usize
 {
     let k = x.kind;
     let row = [
-        5,
+        MESSAGE,
         x.to as u64,
         x.from as u64,
         codes::message_code(k) as u64,
@@ -154,7 +170,7 @@ fn put_word(out: &mut [u8], m: &[u32], d: u8) -> usize
         return 0;
     }
     let word = store::held_word(m, d);
-    let row = [6, d as u64, word as u64];
+    let row = [HELD, d as u64, word as u64];
     decimal::put_numbers(out, &row)
 }
 

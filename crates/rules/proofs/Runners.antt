@@ -2,21 +2,18 @@
 -- Assumes nothing.
 use Prim.Native.Nat.{ℕ, _+_, _*_}
 use mathlib.Core.Path.{_≡_, refl}
-use mathlib.Core.Bool.{Bool, true, false, _&&_, true≢false, false≢true}
+use mathlib.Core.Bool.{Bool, true, false, _&&_, true≢false}
 use mathlib.Core.List.{List, [], _∷_}
 use lib.ListN.{length, getD, drop}
 use Rattle.rules.specs.Lists.{if_then_else_, _==_, all, is-byte, number}
-use Rattle.rules.specs.Words.{Event, Malformed, ByRunner, Picked, TagFacts}
-use Rattle.rules.specs.Tags.{facts-in, tag-facts, argument-rule, meets}
-use Rattle.rules.specs.Events.{trap-of, interrupt-of, meaning, field-of, decode}
+use Rattle.rules.specs.Words.{Event, Malformed, ByRunner, Picked}
+use Rattle.rules.specs.Tags.{facts-in, tag-facts, Service, services, argument-rule, meets}
+use Rattle.rules.specs.Events.{asked-in, request, trap-of, interrupt-of, meaning, field-of, decode}
 use Rattle.rules.specs.Refusals.{is-malformed, needs-runner}
 
 -- what is to be shown of an event under a tag
 abbrev Told : Bool → Event → Type 0
 Told b e = is-malformed e ≡ false → needs-runner e ≡ b
-
-abbrev unknown : TagFacts
-unknown = record { known = false; length = 0; runner = false }
 
 by-if : {A : Type 0} (P : A → Type 0) (b : Bool) {x y : A} → (b ≡ true → P x) → (b ≡ false → P y) → P (if b then x else y)
 by-if P true f g = f refl
@@ -41,21 +38,21 @@ picks : (p : Picked) (w : ℕ) → Told false (interrupt-of p w)
 unfolding interrupt-of needs-runner
 picks p w = by-if (Told false) (p .refusal == 0) (λ _ h. refl) (λ _. rubbish false)
 
--- the last row of the table, or no row
-last-row : (b : Bool) (e : Event) → Told false e → (if b then record { known = true; length = 12; runner = false } else unknown) .known ≡ true →
-    Told ((if b then record { known = true; length = 12; runner = false } else unknown) .runner) e
-last-row true e t k = t
-last-row false e t k = absurd (false≢true k)
+-- whatever services there are, what they ask for is asked by a runner
+asks : (ss : List Service) (s a : ℕ) → Told true (asked-in ss s a)
+unfolding asked-in
+asks [] s a = rubbish true
+asks (r ∷ rs) s a = by-if (Told true) (s == r .number) (λ _. call _) (λ _. asks rs s a)
 
-means : (tag : ℕ) (v : List ℕ) → tag-facts tag .known ≡ true → Told (tag-facts tag .runner) (meaning tag v)
-unfolding tag-facts facts-in meaning needs-runner
-means tag v k =
+means : (tag : ℕ) (v : List ℕ) → Told (tag-facts tag .runner) (meaning tag v)
+unfolding tag-facts facts-in meaning request needs-runner
+means tag v =
     by-if P (tag == 16) (λ a. rw a (call _)) λ a.
     by-if P (tag == 17) (λ b. rw (a, b) (call _)) λ b.
-    by-if P (tag == 18) (λ c. rw (a, b, c) (by-if (Told true) (meets (argument-rule (getD v 0 0)) (number (drop 1 v))) (λ _. call _) (λ _. rubbish true))) λ c.
+    by-if P (tag == 18) (λ c. rw (a, b, c) (by-if (Told true) (meets (argument-rule (getD v 0 0)) (number (drop 1 v))) (λ _. asks services _ _) (λ _. rubbish true))) λ c.
     by-if P (tag == 19) (λ d. rw (a, b, c, d) (traps _ _)) λ d.
     by-if P (tag == 20) (λ f. rw (a, b, c, d, f) (λ h. refl)) λ f.
-    rw (a, b, c, d, f) (last-row (tag == 21) _ (picks _ _) (rw (a, b, c, d, f) at k))
+    by-if P (tag == 21) (λ g. rw (a, b, c, d, f, g) (picks _ _)) (λ _. rubbish _)
   where
     P : Event → Type 0
     P e = Told (tag-facts tag .runner) e
@@ -66,12 +63,7 @@ fields [] = rubbish _
 fields (tag ∷ []) = rubbish _
 fields (tag ∷ high ∷ []) = rubbish _
 fields (tag ∷ high ∷ low ∷ v) =
-    by-if (Told (tag-facts tag .runner)) (tag-facts tag .known && high * 256 + low == tag-facts tag .length && length v == high * 256 + low)
-    (λ e. means tag v (first-two (tag-facts tag .known) _ _ e)) (λ _. rubbish _)
-  where
-    first-two : (a b c : Bool) → (a && b && c) ≡ true → a ≡ true
-    first-two true b c e = refl
-    first-two false b c e = e
+    by-if (Told (tag-facts tag .runner)) (tag-facts tag .known && high * 256 + low == tag-facts tag .length && length v == high * 256 + low) (λ _. means tag v) (λ _. rubbish _)
 
 -- of a well-formed field the table says whether it needs a runner
 pub the-table-says-who-needs-a-runner : (bytes : List ℕ) → is-malformed (decode bytes) ≡ false → needs-runner (decode bytes) ≡ tag-facts (getD bytes 0 0) .runner

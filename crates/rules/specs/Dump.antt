@@ -7,6 +7,7 @@ use Rattle.rules.specs.Lists.{each, two-bytes, four-bytes}
 use Rattle.rules.specs.Words.{Answer, Thread, Message, Held}
 use Rattle.rules.specs.Tables.{Tables, me}
 use Rattle.rules.specs.Dispatch.{status}
+use Rattle.rules.specs.Tags.{head-tag, thread-tag, ready-tag, clock-tag, message-tag, held-tag}
 use Rattle.rules.specs.Codes.{status-code, slice-code, answer-numbers, state-numbers, manager-code, parent-code, message-code}
 
 -- "A field is a tag byte, a two-byte length, then the value"
@@ -41,9 +42,9 @@ held-value h = h .device ∷ four-bytes (h .word)
 -- "3: ready names, front first. 4: clock waiters, in order. .. Fields 3 and 4 always stand."
 unfoldable pub dump : Tables → List ℕ
 dump T =
-    field 1 (head-value T)
-    ++ each (λ t. field 2 (thread-value t)) (T .threads)
-    ++ field 3 (T .ready)
-    ++ field 4 (T .clock)
-    ++ each (λ m. field 5 (message-value m)) (T .messages)
-    ++ each (λ h. field 6 (held-value h)) (T .held)
+    field head-tag (head-value T)
+    ++ each (λ t. field thread-tag (thread-value t)) (T .threads)
+    ++ field ready-tag (T .ready)
+    ++ field clock-tag (T .clock)
+    ++ each (λ m. field message-tag (message-value m)) (T .messages)
+    ++ each (λ h. field held-tag (held-value h)) (T .held)

@@ -6,30 +6,22 @@ use mathlib.Core.List.{List, [], _∷_}
 use lib.ListN.{length, take, drop, getD}
 use Rattle.rules.specs.Lists.{if_then_else_, _==_, all, is-byte, number}
 use Rattle.rules.specs.Numbers.{nobody}
-use Rattle.rules.specs.Words.{Wanted, Anybody, Only, Program, Tlb, SysBp, Target, Oneself, Named, Call, Send, Receive, CreateBrother, CreateSon, Terminate, SetManager, GetCpuTime, WaitForClock, WaitForIo, Trap, Event, Malformed, ByRunner, Tick, Interrupt, Picked}
-use Rattle.rules.specs.Tags.{tag-facts, argument-rule, meets}
+use Rattle.rules.specs.Words.{Wanted, Anybody, Only, Program, Tlb, SysBp, Send, Receive, Trap, Event, Malformed, ByRunner, Tick, Interrupt, Picked}
+use Rattle.rules.specs.Tags.{send-tag, receive-tag, request-tag, trap-tag, tick-tag, interrupt-tag, tag-facts, Service, services, argument-rule, meets}
 use Rattle.rules.specs.Pick.{pick}
 
 -- "255 .. anybody" in a receive
 abbrev pub wanted : ℕ → Wanted
 wanted n = if n == nobody then Anybody else Only n
 
--- "255 for oneself" in request 3
-abbrev pub target : ℕ → Target
-target n = if n == nobody then Oneself else Named n
+-- what a service asks for, by its row of the table; a service that has none means nothing
+unfoldable pub asked-in : List Service → ℕ → ℕ → Event
+asked-in [] n a = Malformed
+asked-in (s ∷ ss) n a = let later = asked-in ss n a in if n == s .number then ByRunner (s .asks a) else later
 
 -- a request whose argument meets the service's rule
-unfoldable pub request : ℕ → ℕ → Call
-request s a =
-    if s == 1 then CreateBrother else
-    if s == 2 then CreateSon else
-    if s == 3 then Terminate (target a) else
-    if s == 4 then SetManager Program a else
-    if s == 5 then SetManager Tlb a else
-    if s == 6 then SetManager SysBp a else
-    if s == 7 then GetCpuTime else
-    if s == 8 then WaitForClock else
-    WaitForIo a
+unfoldable pub request : ℕ → ℕ → Event
+request n a = asked-in services n a
 
 -- "kinds 0 program, 1 TLB, 2 SYS/Bp"
 unfoldable pub trap-of : ℕ → ℕ → Event
@@ -43,17 +35,18 @@ trap-of k c =
 unfoldable pub interrupt-of : Picked → ℕ → Event
 interrupt-of p w = if p .refusal == 0 then Interrupt (p .device) w else Malformed
 
--- the value of a field whose tag and length are right
+-- the value of a field whose tag and length are right; a tag that is not in the table means nothing
 unfoldable pub meaning : ℕ → List ℕ → Event
 meaning tag v =
     let a = getD v 0 0 in
     let w = number (drop 1 v) in
-    if tag == 16 then ByRunner (Send a w) else
-    if tag == 17 then ByRunner (Receive (wanted a)) else
-    if tag == 18 then (if meets (argument-rule a) w then ByRunner (request a w) else Malformed) else
-    if tag == 19 then trap-of a w else
-    if tag == 20 then Tick else
-    interrupt-of (pick (number (take 8 v))) (number (drop 8 v))
+    if tag == send-tag then ByRunner (Send a w) else
+    if tag == receive-tag then ByRunner (Receive (wanted a)) else
+    if tag == request-tag then (if meets (argument-rule a) w then request a w else Malformed) else
+    if tag == trap-tag then trap-of a w else
+    if tag == tick-tag then Tick else
+    if tag == interrupt-tag then interrupt-of (pick (number (take 8 v))) (number (drop 8 v)) else
+    Malformed
 
 -- "A field is a tag byte, a two-byte length, then the value; numbers are big-endian."
 unfoldable pub field-of : List ℕ → Event

@@ -8,6 +8,7 @@ use Rattle.rules.specs.Lists.{if_then_else_, _==_, keep, each, same, num
 use Rattle.rules.specs.Numbers.{Limits, nobody, service}
 use Rattle.rules.specs.Words.{TrapKind, Program, Tlb, SysBp, State, Running, Ready, Receiving, Clock, Device, Trapped, Answer, Nothing, FromMessage, FromNotice, SenderGone, Result, Manager, Unset, Set, Gone, Parent, NoParent, ParentIs, Thread, MessageKind, Ordinary, Notice, Message, Held, Runner, NoRunner, Runs}
 use Rattle.rules.specs.Tables.{Tables}
+use Rattle.rules.specs.Tags.{head-tag, thread-tag, ready-tag, clock-tag, message-tag, held-tag}
 use Rattle.rules.specs.Events.{wanted}
 use Rattle.rules.specs.TableRules.{table-rules}
 use Rattle.rules.specs.Dump.{dump}
@@ -99,17 +100,17 @@ value-of n fs = each (λ v. v) (values-of n fs)
 -- fields 1 to 6 together
 unfoldable pub tables-from : List Field → Tables
 tables-from fs =
-    let v = value-of 1 fs in
+    let v = value-of head-tag fs in
     record {
       last = at v 1;
       runner = runner-from (at v 2) (at v 3);
       since = at v 4;
       beats = word-at v 5;
-      threads = map thread-from (values-of 2 fs);
-      ready = value-of 3 fs;
-      clock = value-of 4 fs;
-      messages = map message-from (values-of 5 fs);
-      held = map held-from (values-of 6 fs);
+      threads = map thread-from (values-of thread-tag fs);
+      ready = value-of ready-tag fs;
+      clock = value-of clock-tag fs;
+      messages = map message-from (values-of message-tag fs);
+      held = map held-from (values-of held-tag fs);
     }
 
 -- what reading gives: refusal 13, or tables

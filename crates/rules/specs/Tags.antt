@@ -1,12 +1,33 @@
--- The one table of document 01 that step and program share: "Event tags", and the services with their argument rules.
+-- The one table of document 01 that step and program share: "Event tags", and the services with their argument rules. Then the fields of a dump.
+-- Every tag and every length of a field stands here once.
 -- Assumes nothing.
 use Prim.Native.Nat.{ℕ}
 use mathlib.Core.Bool.{Bool, true, false}
 use mathlib.Core.List.{List, [], _∷_}
 use lib.Dec.{ltb}
 use Rattle.rules.specs.Lists.{if_then_else_, _==_}
-use Rattle.rules.specs.Numbers.{devices}
-use Rattle.rules.specs.Words.{TagFacts, Argument, NoService, Zero, AnyName, ADevice}
+use Rattle.rules.specs.Numbers.{devices, nobody}
+use Rattle.rules.specs.Words.{Program, Tlb, SysBp, Target, Oneself, Named, Call, CreateBrother, CreateSon, Terminate, SetManager, GetCpuTime, WaitForClock, WaitForIo, TagFacts, Argument, NoService, Zero, AnyName, ADevice}
+
+-- ---- events
+
+abbrev pub send-tag : ℕ
+send-tag = 16
+
+abbrev pub receive-tag : ℕ
+receive-tag = 17
+
+abbrev pub request-tag : ℕ
+request-tag = 18
+
+abbrev pub trap-tag : ℕ
+trap-tag = 19
+
+abbrev pub tick-tag : ℕ
+tick-tag = 20
+
+abbrev pub interrupt-tag : ℕ
+interrupt-tag = 21
 
 -- a row for each tag: its number, the length of its value, and whether it needs a runner
 pub record Row : Type 0 where
@@ -18,12 +39,12 @@ pub record Row : Type 0 where
 -- 21 interrupt (pending devices 8, ..; status 4). Tags 16 to 19 need a runner."
 abbrev pub rows : List Row
 rows =
-    record { tag = 16; length = 5; runner = true }
-    ∷ record { tag = 17; length = 1; runner = true }
-    ∷ record { tag = 18; length = 2; runner = true }
-    ∷ record { tag = 19; length = 5; runner = true }
-    ∷ record { tag = 20; length = 0; runner = false }
-    ∷ record { tag = 21; length = 12; runner = false }
+    record { tag = send-tag; length = 5; runner = true }
+    ∷ record { tag = receive-tag; length = 1; runner = true }
+    ∷ record { tag = request-tag; length = 2; runner = true }
+    ∷ record { tag = trap-tag; length = 5; runner = true }
+    ∷ record { tag = tick-tag; length = 0; runner = false }
+    ∷ record { tag = interrupt-tag; length = 12; runner = false }
     ∷ []
 
 -- what the table says of a tag: that it is known, its length, its need of a runner
@@ -35,23 +56,30 @@ facts-in (r ∷ rs) n = let later = facts-in rs n in if n == r .tag then record 
 unfoldable pub tag-facts : ℕ → TagFacts
 tag-facts n = facts-in rows n
 
--- a service and its argument rule
+-- ---- services
+
+-- "255 for oneself" in request 3
+abbrev pub target : ℕ → Target
+target n = if n == nobody then Oneself else Named n
+
+-- a service: its number, its argument rule, and what is asked with an argument
 pub record Service : Type 0 where
   pub number : ℕ
   pub rule : Argument
+  pub asks : ℕ → Call
 
 -- "The argument of 1, 2, 7 and 8 is 0"; 3 to 6 have a name, which refusal 4 judges; 9 has a device
 abbrev pub services : List Service
 services =
-    record { number = 1; rule = Zero }
-    ∷ record { number = 2; rule = Zero }
-    ∷ record { number = 3; rule = AnyName }
-    ∷ record { number = 4; rule = AnyName }
-    ∷ record { number = 5; rule = AnyName }
-    ∷ record { number = 6; rule = AnyName }
-    ∷ record { number = 7; rule = Zero }
-    ∷ record { number = 8; rule = Zero }
-    ∷ record { number = 9; rule = ADevice }
+    record { number = 1; rule = Zero; asks = λ a. CreateBrother }
+    ∷ record { number = 2; rule = Zero; asks = λ a. CreateSon }
+    ∷ record { number = 3; rule = AnyName; asks = λ a. Terminate (target a) }
+    ∷ record { number = 4; rule = AnyName; asks = λ a. SetManager Program a }
+    ∷ record { number = 5; rule = AnyName; asks = λ a. SetManager Tlb a }
+    ∷ record { number = 6; rule = AnyName; asks = λ a. SetManager SysBp a }
+    ∷ record { number = 7; rule = Zero; asks = λ a. GetCpuTime }
+    ∷ record { number = 8; rule = Zero; asks = λ a. WaitForClock }
+    ∷ record { number = 9; rule = ADevice; asks = λ a. WaitForIo a }
     ∷ []
 
 -- "argument rules too"
@@ -69,3 +97,44 @@ meets NoService a = false
 meets Zero a = a == 0
 meets AnyName a = true
 meets ADevice a = ltb a devices
+
+-- ---- the fields of a dump
+
+-- "a tag byte, a two-byte length" stand before a value
+abbrev pub before-value : ℕ
+before-value = 3
+
+-- "1: status, .., beats (4); length 9."
+abbrev pub head-tag : ℕ
+head-tag = 1
+
+abbrev pub head-size : ℕ
+head-size = 9
+
+-- "2, per thread by rising name: .. length 17."
+abbrev pub thread-tag : ℕ
+thread-tag = 2
+
+abbrev pub thread-size : ℕ
+thread-size = 17
+
+-- "3: ready names, front first. 4: clock waiters, in order.": as long as there are names
+abbrev pub ready-tag : ℕ
+ready-tag = 3
+
+abbrev pub clock-tag : ℕ
+clock-tag = 4
+
+-- "5, per message ..: receiver, sender, kind 1 or 2, word (4)."
+abbrev pub message-tag : ℕ
+message-tag = 5
+
+abbrev pub message-size : ℕ
+message-size = 7
+
+-- "6, per held status ..: device, word (4)."
+abbrev pub held-tag : ℕ
+held-tag = 6
+
+abbrev pub held-size : ℕ
+held-size = 5

@@ -1,5 +1,6 @@
 // The vocabulary of document 01, as types. The rules in specs/ speak of lists of these very types.
 // The document's numbers for the cases stand in specs/Codes.antt.
+pub mod codes;
 pub mod numbers;
 pub mod pick;
 pub mod tags;

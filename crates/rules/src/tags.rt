@@ -1,12 +1,23 @@
 // The one table of tags and services that step and program share: value length, need of a runner, argument rule.
-// The proofs test it as a whole against the table of specs/Tags.antt.
+// The proofs test it as a whole against the table of specs/Tags.antt. Then the fields of a dump; what is written and read by these
+// numbers is proved to be what the rules' numbers give.
 use crate::Argument;
 use crate::TagFacts;
 use crate::numbers;
 ghost use mathlib.Core.Path.{_≡_};
 ghost use Rattle.rules.specs.Tags.{tag-facts as facts-of, argument-rule as rule-of, meets as meets-of};
 
-const FIRST_TAG: u8 = 16;
+pub const SEND: u8 = 16;
+
+pub const RECEIVE: u8 = 17;
+
+pub const REQUEST: u8 = 18;
+
+pub const TRAP: u8 = 19;
+
+pub const TICK: u8 = 20;
+
+const FIRST_TAG: u8 = SEND;
 
 const UNKNOWN: TagFacts = TagFacts {
     known: false,
@@ -61,6 +72,39 @@ const RULES: [Argument; 10] = [
     Argument::Zero,
     Argument::ADevice,
 ];
+
+// A tag byte and a length of two bytes stand before a value.
+pub const BEFORE_VALUE: usize = 3;
+
+// A tag of the dump, the length of its value, and of the whole field.
+pub const HEAD: u8 = 1;
+
+pub const HEAD_SIZE: u8 = 9;
+
+pub const HEAD_FIELD: usize = BEFORE_VALUE + HEAD_SIZE as usize;
+
+pub const THREAD: u8 = 2;
+
+pub const THREAD_SIZE: u8 = 17;
+
+pub const THREAD_FIELD: usize = BEFORE_VALUE + THREAD_SIZE as usize;
+
+// A name for each that is ready, and then for each that waits for the clock.
+pub const READY: u8 = 3;
+
+pub const CLOCK: u8 = 4;
+
+pub const MESSAGE: u8 = 5;
+
+pub const MESSAGE_SIZE: u8 = 7;
+
+pub const MESSAGE_FIELD: usize = BEFORE_VALUE + MESSAGE_SIZE as usize;
+
+pub const HELD: u8 = 6;
+
+pub const HELD_SIZE: u8 = 5;
+
+pub const HELD_FIELD: usize = BEFORE_VALUE + HELD_SIZE as usize;
 
 pub fn tag_facts(tag: u8) -> TagFacts
     ensures { λ r. ⌜ r ≡ facts-of tag ⌝ }

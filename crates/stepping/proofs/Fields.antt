@@ -5,7 +5,6 @@ use mathlib.Core.Path.{_≡_, refl, _∙_}
 use mathlib.Core.Logic.{_≢_}
 use mathlib.Core.Bool.{Bool, true, false, _&&_, false≢true}
 use mathlib.Core.List.{List, [], _∷_}
-use native.Mathlib.Nat.{add-zero}
 use native.Mathlib.Omega.{arith}
 use lib.ListN.{length, take, drop, getD, length-drop}
 use lib.Seq.{take-all, take-add, drop-drop, getD-drop, drop-cons, drop-length}
@@ -14,11 +13,12 @@ use mir.Val.{Fits}
 use borrow.Author.Tests.{eqb-true, eq-eqb, ne-eqb, lt-ltb}
 use Rattle.rules.specs.Lists.{if_then_else_, _==_, all, is-byte, number-from, number}
 use Rattle.rules.specs.Numbers.{wrap}
-use Rattle.rules.specs.Tags.{facts-in, tag-facts, argument-rule, meets}
+use Rattle.rules.specs.Tags.{facts-in, tag-facts, rule-in, argument-rule, meets}
 use Rattle.rules.specs.Pick.{pick}
 use Rattle.rules.specs.Events.{wanted, request, trap-of, interrupt-of, meaning, field-of, decode}
-use Rattle.laws.proofs.Words.{Send, Receive, Event, Malformed, ByRunner, Tick, TagFacts}
+use Rattle.laws.proofs.Words.{Send, Receive, Event, Malformed, ByRunner, Tick, TagFacts, NoService, ADevice}
 use Rattle.laws.proofs.Tests.{by-if, _&_}
+use Rattle.laws.proofs.Bytes.{first-four}
 
 -- ---- numbers in bytes
 
@@ -26,21 +26,6 @@ all-bytes : (l : List ℕ) → ((i : ℕ) → Fits w8 (getD l i 0)) → all is-b
 unfolding all
 all-bytes [] h = refl
 all-bytes (b ∷ bs) h = lt-ltb b 256 (h 0 .fits) & all-bytes bs (λ i. h (suc i))
-
-first-four : (l : List ℕ) → 4 ≤ length l → take 4 l ≡ getD l 0 0 ∷ getD l 1 0 ∷ getD l 2 0 ∷ getD l 3 0 ∷ []
-first-four [] h = absurd (omega arith)
-first-four (a ∷ []) h = absurd (omega arith)
-first-four (a ∷ b ∷ []) h = absurd (omega arith)
-first-four (a ∷ b ∷ c ∷ []) h = absurd (omega arith)
-first-four (a ∷ b ∷ c ∷ d ∷ l) h = refl
-
--- four bytes, two by two
-pub four-at : (l : List ℕ) (at : ℕ) → at + 4 ≤ length l →
-    (getD l at 0 * 256 + getD l (at + 1) 0) * 65536 + (getD l (at + 2) 0 * 256 + getD l (at + 3) 0) ≡ number (take 4 (drop at l))
-unfolding number-from
-four-at l at h =
-    let m : 4 ≤ length (drop at l) = simp length-drop (omega arith) in
-    rw first-four (simp (getD-drop, add-zero) (omega arith))
 
 -- eight bytes, four by four
 pub eight-at : (l : List ℕ) (at : ℕ) → at + 8 ≤ length l → number (take 4 (drop at l)) * wrap + number (take 4 (drop (at + 4) l)) ≡ number (take 8 (drop at l))
@@ -64,6 +49,16 @@ last-tag tag k a b c d e = go (tag == 21) refl (simp (ne-eqb tag 16 a, ne-eqb ta
     go true t h = eqb-true tag 21 t
     go false t h = absurd (false≢true h)
 
+-- none of the services before the last
+pub last-service : (s a : ℕ) → meets (argument-rule s) a ≡ true → s ≢ 1 → s ≢ 2 → s ≢ 3 → s ≢ 4 → s ≢ 5 → s ≢ 6 → s ≢ 7 → s ≢ 8 → s ≡ 9
+unfolding argument-rule rule-in meets
+last-service s a m n1 n2 n3 n4 n5 n6 n7 n8 =
+    go (s == 9) refl (simp (ne-eqb s 1 n1, ne-eqb s 2 n2, ne-eqb s 3 n3, ne-eqb s 4 n4, ne-eqb s 5 n5, ne-eqb s 6 n6, ne-eqb s 7 n7, ne-eqb s 8 n8) at m)
+  where
+    go : (b : Bool) → (s == 9) ≡ b → meets (if b then ADevice else NoService) a ≡ true → s ≡ 9
+    go true t h = eqb-true s 9 t
+    go false t h = absurd (false≢true h)
+
 module _ (tag : ℕ) (l : List ℕ) (sized : length l ≡ tag-facts tag .length + 3) where
   pub size : (n : ℕ) → tag ≡ n → length l ≡ tag-facts n .length + 3
   size n e = rw e at sized
@@ -79,7 +74,7 @@ module _ (tag : ℕ) (l : List ℕ) (sized : length l ≡ tag-facts tag .length 
   unfolding meaning
   means-receive e = simp (e, getD-drop)
 
-  pub means-request : tag ≡ 18 → meaning tag (drop 3 l) ≡ (if meets (argument-rule (getD l 3 0)) (getD l 4 0) then ByRunner (request (getD l 3 0) (getD l 4 0)) else Malformed)
+  pub means-request : tag ≡ 18 → meaning tag (drop 3 l) ≡ (if meets (argument-rule (getD l 3 0)) (getD l 4 0) then request (getD l 3 0) (getD l 4 0) else Malformed)
   unfolding meaning tag-facts facts-in number-from
   means-request e =
       let s : length l ≡ 5 = size 18 e in

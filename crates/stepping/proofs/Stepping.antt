@@ -1,17 +1,17 @@
--- What start, refusals and step need of the rules: the first thread, who a search finds, the room of a call that nothing refuses, a step by its two ways.
+-- What start, refusals and step need of the rules: the first thread, the room of a call that nothing refuses, a step by its two ways.
 -- Assumes nothing.
 use Prim.Native.Nat.{ℕ, zero, suc, _+_, _<_}
 use mathlib.Core.Path.{_≡_, refl, sym, ap, _∙_}
 use mathlib.Core.Logic.{_≢_}
-use mathlib.Core.Bool.{Bool, true, false}
+use mathlib.Core.Bool.{true, false}
 use mathlib.Core.List.{List, [], _∷_}
 use native.Mathlib.Omega.{arith}
 use lib.Dec.{ltb}
 use lib.ListN.{length}
-use borrow.Author.Tests.{leb-false, not-true, not-false, eq-eqb, ne-eqb}
+use borrow.Author.Tests.{leb-false}
 use Rattle.rules.specs.Lists.{any, insert}
-use Rattle.rules.specs.Numbers.{Limits, names, nobody, devices, full-slice}
-use Rattle.rules.specs.Tables.{Tables, with-runner, with-threads, named, live, new-thread, runs, me, start}
+use Rattle.rules.specs.Numbers.{Limits, devices, full-slice}
+use Rattle.rules.specs.Tables.{Tables, with-runner, with-threads, live, new-thread, runs, me, start}
 use Rattle.rules.specs.Waking.{Outcome, _handing_, blocks-used, accepts}
 use Rattle.rules.specs.Send.{message, decides}
 use Rattle.rules.specs.Dispatch.{dispatch}
@@ -25,8 +25,8 @@ use Rattle.laws.proofs.Room.{messages-room, clock-room}
 use Rattle.laws.proofs.Steps.{passed, called}
 use Rattle.laws.proofs.PlacesKept.{runner-live, act-inv}
 use Rattle.laws.proofs.Kept.{step-ruled}
-use Rattle.store.specs.Store.{limits, tables, nothing, Holding, Leaves, Hands, name-where}
-use Rattle.store.proofs.Limits.{names-left, nobody-passes}
+use Rattle.store.specs.Store.{limits, tables, nothing, Holding, Leaves, Hands}
+use Rattle.store.proofs.Limits.{names-left}
 use Rattle.handling.specs.Standing.{Holds, Stands}
 use Rattle.stepping.specs.Stepping.{Steps}
 
@@ -48,15 +48,6 @@ unfolding insert
 started {t = t} L s e a r =
     let alone = ap (λ (T : Tables). with-threads (insert (λ u. ltb (u .name) (t .name)) t (T .threads)) T) (s .0) ∙ ap (λ (u : Thread). with-threads (u ∷ []) nothing) e in
     (r .says ∙ ap (with-runner (Runs 0 full-slice)) (a .says ∙ alone), r .same ∙ a .same ∙ s .1, r .holding)
-
--- ---- who a search finds
-
-module _ (p : Thread → Bool) (ts : List Thread) (low : (n : ℕ) → any (named n) ts ≡ true → n < names) (n : ℕ) (e : n ≡ name-where p ts) where
-  pub nobody-found : n ≡ nobody → any p ts ≡ false
-  nobody-found z = not-true (any p ts) (sym (nobody-passes p ts low) ∙ eq-eqb _ _ (sym e ∙ z))
-
-  pub somebody-found : n ≢ nobody → any p ts ≡ true
-  somebody-found z = not-false (any p ts) (sym (nobody-passes p ts low) ∙ ne-eqb _ _ (λ i. z (e ∙ i)))
 
 -- ---- a call that nothing refuses
 

@@ -3,7 +3,7 @@ use rules::Call;
 use rules::Event;
 use rules::Target;
 use rules::TrapKind;
-use rules::Wanted;
+use rules::codes;
 use rules::numbers;
 use rules::pick;
 use rules::tags;
@@ -14,18 +14,8 @@ ghost use lib.ListN.{length, take, drop};
 ghost use Rattle.rules.specs.Lists.{if_then_else_, number};
 ghost use Rattle.rules.specs.Pick.{pick as pick-of};
 ghost use Rattle.rules.specs.declared.Event.the-variants.{ByRunner as ByTheRunner, Malformed as Rubbish};
-ghost use Rattle.rules.specs.Events.{wanted as wanted-of, target as target-of, request as request-of, trap-of as trap-for, interrupt-of as interrupt-for, meaning as meaning-of, decode as decode-of};
-ghost use Rattle.rules.specs.Tags.{tag-facts as facts-of, meets as meets-of, argument-rule as rule-of};
-
-fn wanted(n: u8) -> Wanted
-    ensures { λ w. ⌜ w ≡ wanted-of n ⌝ }
-{
-    if n == numbers::NOBODY {
-        Wanted::Anybody
-    } else {
-        Wanted::Only(n)
-    }
-}
+ghost use Rattle.rules.specs.Events.{request as request-of, trap-of as trap-for, interrupt-of as interrupt-for, meaning as meaning-of, decode as decode-of};
+ghost use Rattle.rules.specs.Tags.{target as target-of, tag-facts as facts-of, meets as meets-of, argument-rule as rule-of};
 
 fn target(n: u8) -> Target
     ensures { λ t. ⌜ t ≡ target-of n ⌝ }
@@ -66,7 +56,8 @@ fn pending_at(s: &[u8], at: usize) -> u64
 
 // A request whose argument meets its service's rule.
 fn request(service: u8, argument: u8) -> Call
-    ensures { λ c. ⌜ c ≡ request-of service argument ⌝ }
+    requires { ⌜ meets-of (rule-of service) argument ≡ true ⌝ }
+    ensures { λ c. ⌜ ByTheRunner c ≡ request-of service argument ⌝ }
 {
     match service {
         1 => Call::CreateBrother,
@@ -104,7 +95,7 @@ fn interrupt(pending: u64, word: u32) -> Event
 }
 
 fn asked(service: u8, argument: u8) -> Event
-    ensures { λ e. ⌜ e ≡ (if meets-of (rule-of service) argument then ByTheRunner (request-of service argument) else Rubbish) ⌝ }
+    ensures { λ e. ⌜ e ≡ (if meets-of (rule-of service) argument then request-of service argument else Rubbish) ⌝ }
 {
     let rule = tags::argument_rule(service);
     if tags::meets(rule, argument) {
@@ -120,11 +111,11 @@ fn meaning(tag: u8, s: &[u8]) -> Event
     ensures { λ e. ⌜ e ≡ meaning-of tag (drop 3 (now (s .entry))) ⌝ }
 {
     match tag {
-        16 => Event::ByRunner(Call::Send(s[3], word_at(s, 4))),
-        17 => Event::ByRunner(Call::Receive(wanted(s[3]))),
-        18 => asked(s[3], s[4]),
-        19 => trap(s[3], word_at(s, 4)),
-        20 => Event::Tick,
+        tags::SEND => Event::ByRunner(Call::Send(s[3], word_at(s, 4))),
+        tags::RECEIVE => Event::ByRunner(Call::Receive(codes::wanted(s[3]))),
+        tags::REQUEST => asked(s[3], s[4]),
+        tags::TRAP => trap(s[3], word_at(s, 4)),
+        tags::TICK => Event::Tick,
         _ => interrupt(pending_at(s, 3), word_at(s, 11)),
     }
 }

@@ -9,8 +9,7 @@ use rules::Call;
 use rules::Decision;
 use rules::Event;
 use rules::Runner;
-use rules::Status;
-use rules::numbers;
+use rules::codes;
 use serving::receive;
 use serving::requests;
 use serving::send;
@@ -21,10 +20,8 @@ ghost use Prim.Native.Nat.{ℕ};
 ghost use Rattle.rules.specs.declared.Runner.the-variants.{Runs as RunsNow};
 ghost use Rattle.rules.specs.Waking.{_handing_};
 ghost use Rattle.rules.specs.Refusals.{call-rules, first-of, refusal as refusal-of};
-ghost use Rattle.rules.specs.Codes.{status-code as status-code-of};
 ghost use Rattle.rules.specs.Step.{serve as serve-of, act as act-of, decided as decided-of, step as step-of};
 ghost use Rattle.laws.proofs.Decoded.{ProperCall, Proper};
-ghost use Rattle.rules.specs.Tables.{me as me-of};
 ghost use Rattle.store.specs.Store.{limits, tables, Shaped, Hands};
 ghost use Rattle.handling.specs.Standing.{Stands};
 ghost use Rattle.stepping.specs.Stepping.{Steps};
@@ -79,37 +76,15 @@ fn act(m: &mut [u32], e: Event) -> Answer
     }
 }
 
-pub fn status_code(s: Status) -> u8
-    ensures { λ n. ⌜ n ≡ status-code-of s ⌝ }
-{
-    match s {
-        Status::Running => 0,
-        Status::Idle => 1,
-        Status::Halted => 2,
-        Status::Panicked => 3,
-    }
-}
-
-// The runner's name, or NOBODY.
-fn runner_name(m: &[u32]) -> u8
-    requires { ⌜ Shaped (now m) ⌝ }
-    ensures { λ n. ⌜ n ≡ me-of (tables (now (m .entry)) .runner) ⌝ }
-{
-    let r = store::runner(m);
-    match r {
-        Runner::NoRunner => numbers::NOBODY,
-        Runner::Runs(name, _) => name,
-    }
-}
-
 // What a step reports: the refusal, the status and the runner as they stand now, and the answer.
 fn decided(m: &[u32], refusal: u8, answer: Answer) -> Decision
     requires { ⌜ Shaped (now m) ⌝ }
     ensures { λ d. ⌜ d ≡ decided-of refusal (tables (now (m .entry)) handing answer) .decision ⌝ }
 {
     let s = dispatch::status(m);
-    let status = status_code(s);
-    let runner = runner_name(m);
+    let status = codes::status_code(s);
+    let r = store::runner(m);
+    let runner = codes::runner_code(r);
     Decision {
         refusal,
         status,

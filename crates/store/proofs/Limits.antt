@@ -1,11 +1,12 @@
 -- What the store's users know of a memory that is Shaped, and of a search by name.
 -- Assumes nothing.
 use Prim.Native.Nat.{ℕ, _<_}
-use mathlib.Core.Path.{_≡_, refl}
+use mathlib.Core.Path.{_≡_, refl, sym, _∙_}
+use mathlib.Core.Logic.{_≢_}
 use mathlib.Core.Bool.{Bool, true, false, _||_, not}
 use mathlib.Core.List.{List, [], _∷_}
 use native.Mathlib.Omega.{arith}
-use borrow.Author.Tests.{eq-eqb, ne-eqb}
+use borrow.Author.Tests.{not-true, not-false, eq-eqb, ne-eqb}
 use Rattle.rules.specs.Lists.{if_then_else_, _==_, any}
 use Rattle.rules.specs.Numbers.{names, nobody}
 use Rattle.rules.specs.Tables.{named}
@@ -27,3 +28,11 @@ nobody-passes p (t ∷ ts) low = go (nobody-passes p ts (λ n h. low n (or-right
     go : (name-where p ts == nobody) ≡ not (any p ts) → (b : Bool) → ((if b then t .name else name-where p ts) == nobody) ≡ not (b || any p ts)
     go rest true = ne-eqb (t .name) nobody (λ e. omega (arith, e, low (t .name) (or-left (t .name == t .name) (any (named (t .name)) ts) (eq-eqb (t .name) (t .name) refl))))
     go rest false = rest
+
+-- so a name that was found tells whether there is one
+module _ (p : Thread → Bool) (ts : List Thread) (low : (n : ℕ) → any (named n) ts ≡ true → n < names) (n : ℕ) (e : n ≡ name-where p ts) where
+  pub nobody-found : n ≡ nobody → any p ts ≡ false
+  nobody-found z = not-true (any p ts) (sym (nobody-passes p ts low) ∙ eq-eqb _ _ (sym e ∙ z))
+
+  pub somebody-found : n ≢ nobody → any p ts ≡ true
+  somebody-found z = not-false (any p ts) (sym (nobody-passes p ts low) ∙ ne-eqb _ _ (λ i. z (e ∙ i)))

@@ -4,10 +4,15 @@ use moving::queues;
 use rules::Message;
 use rules::Thread;
 ghost use mathlib.Core.Path.{_≡_};
+ghost use mathlib.Core.Bool.{true};
 ghost use mathlib.Core.List.{[], _∷_, _++_};
 ghost use Prim.Native.Nat.{_+_, _<_};
+ghost use lib.Dec.{ltb};
 ghost use lib.ListN.{length};
-ghost use Rattle.rules.specs.Tables.{with-threads, with-ready, with-clock, with-messages};
+ghost use Rattle.rules.specs.Lists.{all};
+ghost use Rattle.rules.specs.Numbers.{devices};
+ghost use Rattle.rules.specs.Tables.{with-threads, with-ready, with-clock, with-messages, with-held};
+ghost use Rattle.rules.specs.Interrupt.{hold as hold-of};
 ghost use Rattle.store.specs.Store.{limits, tables, Shaped, Holding, Fills, Room, nothing};
 
 // Whatever stood there, the memory has these limits and holds nothing.
@@ -50,4 +55,12 @@ pub fn fill_message(m: &mut [u32], x: Message)
     let n = rows::letters(m);
     rows::put_message(m, n, x);
     rows::set_letters(m, n + 1);
+}
+
+// A held word. `hold` asks for names that come once, and held words have nothing to do with names.
+pub fn fill_held(m: &mut [u32], d: u8, word: u32)
+    requires { ⌜ Shaped (now m) × (d < devices) × (all (λ h. ltb (h .device) devices) (tables (now m) .held) ≡ true) ⌝ }
+    ensures { λ _. ⌜ Fills (now (m .entry)) (now (m .exit)) (with-held (hold-of d word (tables (now (m .entry)) .held)) (tables (now (m .entry)))) ⌝ }
+{
+    rows::hold(m, d, word);
 }

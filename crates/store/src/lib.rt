@@ -15,6 +15,7 @@ pub use ended::release_ended;
 pub use ended::remove_ended;
 pub use filling::clear;
 pub use filling::fill_clock;
+pub use filling::fill_held;
 pub use filling::fill_message;
 pub use filling::fill_ready;
 pub use filling::fill_thread;

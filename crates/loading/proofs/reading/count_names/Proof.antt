@@ -32,9 +32,6 @@ part-opens-start c = search needs
 part-opens-end : tie.Need-part-opens-end
 part-opens-end c = search needs
 
-cast-opens : tie.Need-cast-opens
-cast-opens c = search needs
-
 opens-requires : tie.Need-opens-requires
 opens-requires c κs = search needs
 
@@ -48,4 +45,4 @@ returns-4 : tie.Need-returns-4
 returns-4 c = names-open _ _ _ (seen (c .before .before .before .before .before .before .before .args .tag) (getD (c .before .before .before .before .before .before .before .args .bytes .now) (c .before .before .before .before .before .before .before .args .from + 2) 0) (c .before .before .before .before .before .before .before .args .bytes .now) (c .before .before .before .before .before .before .before .args .from) (c .before .opens .ensures) (not-false _ (c .if3 .left)))
 
 pub count-names-spec : {M : Type 1} → statement M
-count-names-spec = tie.close (tie.spec sub-if1 returns add-size shared-slice-read-size returns-2 sub-opens part-opens-start part-opens-end cast-opens opens-requires returns-3 cast-result returns-4)
+count-names-spec = tie.close (tie.spec sub-if1 returns add-size shared-slice-read-size returns-2 sub-opens part-opens-start part-opens-end opens-requires returns-3 cast-result returns-4)

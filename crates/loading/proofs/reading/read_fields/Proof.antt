@@ -10,7 +10,7 @@ use Rattle.loading.proofs.reading.read_fields.Statement.{statement}
 use Rattle.loading.proofs.reading.read_fields.Tie as tie
 
 opens-requires : tie.Need-opens-requires
-opens-requires c κs = omega arith
+opens-requires c κs = search needs
 
 returns : tie.Need-returns
 returns c = not-headed _ _ (sym (c .before .opens .ensures) ∙ not-true _ (c .if1 .taken))

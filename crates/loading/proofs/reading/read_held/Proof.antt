@@ -38,7 +38,7 @@ part-opens-end : tie.Need-part-opens-end Inv-loop μ-loop
 part-opens-end c = omega (arith, c .before .loop .inv .cut .within)
 
 opens-requires : tie.Need-opens-requires Inv-loop μ-loop
-opens-requires c κs = omega arith
+opens-requires c κs = search needs
 
 same-length : tie.Need-same-length Inv-loop μ-loop
 same-length c = c .before .before .before .before .loop .inv .long

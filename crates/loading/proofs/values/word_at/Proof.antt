@@ -1,6 +1,6 @@
 -- `values::word_at` meets its contract: `four-at`.
 -- Assumes nothing.
-use Rattle.loading.proofs.Numbers.{four-at}
+use Rattle.laws.proofs.Bytes.{four-at}
 use native.Mathlib.Omega.{arith}
 use borrow.Author.Needs.{needs}
 use Rattle.loading.proofs.values.word_at.Statement.{statement}

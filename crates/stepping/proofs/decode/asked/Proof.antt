@@ -11,7 +11,7 @@ meets-requires : tie.Need-meets-requires
 meets-requires c κs = search needs
 
 request-requires : tie.Need-request-requires
-request-requires c κs = search needs
+request-requires c κs = rw (← c .before .before .argument-rule .ensures, ← c .before .meets .ensures) (c .if1 .taken)
 
 returns : tie.Need-returns
 returns c = rw (← c .before .before .before .argument-rule .ensures, ← c .before .before .meets .ensures, c .before .if1 .taken, c .request .ensures)

@@ -1,7 +1,7 @@
 -- `decode::word_at` meets its contract: `four-at`.
 -- Assumes nothing.
 use borrow.Author.Needs.{needs}
-use Rattle.stepping.proofs.Fields.{four-at}
+use Rattle.laws.proofs.Bytes.{four-at}
 use Rattle.stepping.proofs.decode.word_at.Statement.{statement}
 use Rattle.stepping.proofs.decode.word_at.Tie as tie
 

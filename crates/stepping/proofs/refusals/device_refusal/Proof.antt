@@ -3,7 +3,7 @@
 use Rattle.rules.specs.States.{waits-for}
 use Rattle.rules.specs.Refusals.{first-of, call-rules}
 use Rattle.store.specs.Store.{tables}
-use Rattle.stepping.proofs.Stepping.{nobody-found, somebody-found}
+use Rattle.store.proofs.Limits.{nobody-found, somebody-found}
 use Rattle.stepping.proofs.refusals.device_refusal.Statement.{statement}
 use Rattle.stepping.proofs.refusals.device_refusal.Tie as tie
 

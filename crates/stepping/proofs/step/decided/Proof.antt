@@ -10,11 +10,14 @@ status-requires c κs = c .before .pre
 status-code-requires : tie.Need-status-code-requires
 status-code-requires c κs = search needs
 
-runner-name-requires : tie.Need-runner-name-requires
-runner-name-requires c κs = c .before .before .before .pre
+runner-requires : tie.Need-runner-requires
+runner-requires c κs = c .before .before .before .pre
+
+runner-code-requires : tie.Need-runner-code-requires
+runner-code-requires c κs = search needs
 
 returns : tie.Need-returns
-returns c = rw (c .before .status-code .ensures, c .before .before .status .ensures, c .runner-name .ensures)
+returns c = rw (c .before .before .status-code .ensures, c .before .before .before .status .ensures, c .runner-code .ensures, c .before .runner .ensures)
 
 pub decided-spec : {M : Type 1} → statement M
-decided-spec = tie.close (tie.spec status-requires status-code-requires runner-name-requires returns)
+decided-spec = tie.close (tie.spec status-requires status-code-requires runner-requires runner-code-requires returns)
