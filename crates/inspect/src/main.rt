@@ -1,8 +1,9 @@
 // Reads a dump on standard input. First line: 0, or the refusal. Then a line for each field: the tag, and its values in decimal.
-use lines::Span;
-use lines::decimal;
-use lines::tables;
-use lines::window;
+use loading::load;
+use printing::Span;
+use printing::decimal;
+use printing::tables;
+use printing::window;
 ghost use mathlib.Core.Path.{_≡_};
 ghost use Prim.Native.Nat.{_≤_};
 ghost use lib.ListN.{length};
@@ -36,6 +37,7 @@ fn print_number(n: u64, out: &mut [u8]) -> bool
 }
 
 fn main() {
+    let mut m = stream::room();
     let mut input = io::buffer();
     let mut out = io::large_buffer();
     let mut w = Span {
@@ -54,15 +56,12 @@ fn main() {
         }
     }
     let held = w.held;
-    let found = load::load::load_rows(&input[..held]);
-    if !found.good {
-        print_number(13, &mut out);
+    let refusal = load::load_in(&mut m, &input[..held]);
+    if !print_number(refusal as u64, &mut out) {
         return;
     }
-    if !print_number(0, &mut out) {
-        return;
+    if refusal == 0 {
+        let n = tables::put_tables(&mut out, &m);
+        print(&out, n);
     }
-    let rows = found.rows;
-    let n = tables::put_tables(&mut out, rows);
-    print(&out, n);
 }

@@ -22,7 +22,7 @@ use Rattle.loading.specs.Loading.{load-refusal, Loads}
 use Rattle.loading.proofs.Exits.{rules-of, front}
 
 -- bytes that are not refused are read
-reads : (bytes : List ℕ) (n : ℕ) → n ≡ load-refusal (load small bytes) → n ≡ 0 → (T : Tables) × (load small bytes ≡ loaded T)
+pub reads : (bytes : List ℕ) (n : ℕ) → n ≡ load-refusal (load small bytes) → n ≡ 0 → (T : Tables) × (load small bytes ≡ loaded T)
 unfolding load-refusal
 reads bytes n e z = go (load small bytes) refl
   where

@@ -1,4 +1,5 @@
 pub mod Found
 pub mod Loops
+pub mod Marking
 pub mod Sets
 pub mod Steps

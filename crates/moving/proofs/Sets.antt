@@ -7,7 +7,7 @@ use mathlib.Core.List.{List, [], _∷_, _++_, map}
 use native.Mathlib.Omega.{arith}
 use lib.Dec.{eqb}
 use lib.ListN.{length, take, drop, getD, set, length-set, length-append}
-use lib.Seq.{length-take-le, take-set-le, drop-set-lt, getD-set-same, set-getD, set-set}
+use lib.Seq.{length-take-le, take-take, take-set-le, drop-set-lt, getD-set-same, set-getD, set-set}
 use borrow.Author.Tests.{eqb-true, eq-eqb}
 use Rattle.rules.specs.Lists.{if_then_else_, _==_, any, has, keep, count}
 use Rattle.rules.specs.Words.{by-parent, by-manager}
@@ -17,15 +17,16 @@ use Rattle.rules.specs.Ending.{depends, grow, gone-if, without-managers, misses
 use Rattle.laws.proofs.Words.{State, Ready, Answer, TrapKind, Program, Tlb, SysBp, Manager, Managers, Unset, Set, Gone, Thread}
 use Rattle.laws.proofs.Closure.{joins}
 use Rattle.memory.specs.Rows.{Rows, view, Roomy, members, put-threads, put-ready, put-readies, put-ended, put-ends, ReadyIs, MembersAre, Woken, no-thread}
+use Rattle.moving.specs.Marks.{Marks}
 use Rattle.moving.proofs.Loops.{wrote, Left, moves, same-here, Sifted, sift-drops, sift-holds, Gathered, gather-starts, gather-by, gather-joins, gather-room, gather-ends, Turned, turn-starts, turn-next, turn-by, turn-ends}
 use Rattle.moving.proofs.Steps.{the-threads, Only, writes, stays}
 
--- what a test against the set needs of the rows, and one of the thread at a place
-abbrev pub Listed : Rows → Type 0
-Listed r = Roomy r × (r .ends ≤ r .limits .threads)
+-- what a test against the set needs of the rows and the marks, and one of the thread at a place
+abbrev pub Listed : List ℕ → Rows → Type 0
+Listed marks r = Roomy r × (r .ends ≤ r .limits .threads) × Marks (members r) marks
 
-abbrev pub ListedAt : ℕ → Rows → Type 0
-ListedAt i r = Roomy r × (r .ends ≤ r .limits .threads) × (i < r .limits .threads)
+abbrev pub ListedAt : List ℕ → ℕ → Rows → Type 0
+ListedAt marks i r = Roomy r × (r .ends ≤ r .limits .threads) × (i < r .limits .threads) × Marks (members r) marks
 
 -- ---- who waits for one of a list
 
@@ -90,10 +91,10 @@ grow-starts h = record { only = refl; gathered = gather-starts _ _ _ _ _ _ h; ol
 
 module _ {r₀ r : Rows} {i : ℕ} (G : Growing r₀ r i) where
   -- what a test of the thread at i against the first e says
-  pub grow-tests : {e : ℕ} {b : Bool} → e ≡ r₀ .ends → b ≡ joins (take e (r .ended)) (getD (r .threads) i no-thread) → joins (members r₀) (getD (r₀ .threads) i no-thread) ≡ b
+  pub grow-tests : {e : ℕ} {b : Bool} → e ≡ r₀ .ends → b ≡ joins (take e (members r)) (getD (r .threads) i no-thread) → joins (members r₀) (getD (r₀ .threads) i no-thread) ≡ b
   grow-tests n t =
       let x : Thread = getD (r .threads) i no-thread in
-      sym (t ∙ (ap (λ (k : ℕ). joins (take k (r .ended)) x) n ∙ (ap (λ (l : List ℕ). joins l x) (G .old) ∙ ap (λ (s : Rows). joins (members r₀) (getD (s .threads) i no-thread)) (G .only))))
+      sym (t ∙ (ap (λ (k : ℕ). joins (take k (members r)) x) n ∙ (ap (λ (l : List ℕ). joins l x) (take-take (r₀ .ends) (r .ends) (r .ended) (G .since) ∙ G .old) ∙ ap (λ (s : Rows). joins (members r₀) (getD (s .threads) i no-thread)) (G .only))))
 
   pub grow-by : i < r₀ .count → joins (members r₀) (getD (r₀ .threads) i no-thread) ≡ false → Growing r₀ r (i + 1)
   grow-by h e = record { only = G .only; gathered = gather-by _ _ _ _ _ _ _ _ _ no-thread (G .gathered) h e; old = G .old; since = G .since; long = G .long }

@@ -15,20 +15,21 @@ ghost use Rattle.rules.specs.Ending.{without-managers, misses as misses-of, tol
 ghost use Rattle.rules.specs.declared.State.the-variants.{Ready as ReadyState};
 ghost use Rattle.memory.specs.Rows.{view, Roomy, members as members-of, ThreadsLeft, ReadyIs, ClockIs, MessagesAre, Woken};
 ghost use Rattle.memory.specs.Memory.{rows-of};
+ghost use Rattle.moving.specs.Marks.{Marks};
 
 // Threads: the members go, and no manager entry names one. A record is changed before it is moved: what is read behind a move waits for its stores.
-pub fn threads(m: &mut [u32])
-    requires { ⌜ Roomy (rows-of (now m)) × (rows-of (now m) .ends ≤ rows-of (now m) .limits .threads) × (rows-of (now m) .count ≤ rows-of (now m) .limits .threads) ⌝ }
+pub fn threads(m: &mut [u32], marks: &[u8; 256])
+    requires { ⌜ Roomy (rows-of (now m)) × (rows-of (now m) .ends ≤ rows-of (now m) .limits .threads) × (rows-of (now m) .count ≤ rows-of (now m) .limits .threads) × Marks (members-of (rows-of (now m))) (now marks) ⌝ }
     ensures { λ _. ⌜ ThreadsLeft (rows-of (now (m .entry))) (rows-of (now (m .exit))) (map (without-managers (members-of (rows-of (now (m .entry))))) (keep (λ t. not (has-in (t .name) (members-of (rows-of (now (m .entry)))))) (view (rows-of (now (m .entry))) .threads))) ⌝ }
 {
     let n = rows::count(m);
     let mut k = 0;
     let mut i = 0;
     while i < n {
-        if members::is_member(m, rows::name_at(m, i)) {
+        if members::is_member(m, marks, rows::name_at(m, i)) {
             i += 1;
         } else {
-            members::lose_managers(m, i);
+            members::lose_managers(m, marks, i);
             rows::move_thread(m, i, k);
             k += 1;
             i += 1;
@@ -38,8 +39,8 @@ pub fn threads(m: &mut [u32])
 }
 
 // The ready queue.
-pub fn ready(m: &mut [u32])
-    requires { ⌜ Roomy (rows-of (now m)) × (rows-of (now m) .ends ≤ rows-of (now m) .limits .threads) × (rows-of (now m) .readies ≤ rows-of (now m) .limits .threads) ⌝ }
+pub fn ready(m: &mut [u32], marks: &[u8; 256])
+    requires { ⌜ Roomy (rows-of (now m)) × (rows-of (now m) .ends ≤ rows-of (now m) .limits .threads) × (rows-of (now m) .readies ≤ rows-of (now m) .limits .threads) × Marks (members-of (rows-of (now m))) (now marks) ⌝ }
     ensures { λ _. ⌜ ReadyIs (rows-of (now (m .entry))) (rows-of (now (m .exit))) (keep (λ x. not (has-in x (members-of (rows-of (now (m .entry)))))) (view (rows-of (now (m .entry))) .ready)) ⌝ }
 {
     let n = rows::readies(m);
@@ -47,7 +48,7 @@ pub fn ready(m: &mut [u32])
     let mut i = 0;
     while i < n {
         let x = rows::ready_at(m, i);
-        if members::is_member(m, x) {
+        if members::is_member(m, marks, x) {
             i += 1;
         } else {
             rows::put_ready(m, k, x);
@@ -59,8 +60,8 @@ pub fn ready(m: &mut [u32])
 }
 
 // The clock queue.
-pub fn clock(m: &mut [u32])
-    requires { ⌜ Roomy (rows-of (now m)) × (rows-of (now m) .ends ≤ rows-of (now m) .limits .threads) × (rows-of (now m) .clocks ≤ rows-of (now m) .limits .threads) ⌝ }
+pub fn clock(m: &mut [u32], marks: &[u8; 256])
+    requires { ⌜ Roomy (rows-of (now m)) × (rows-of (now m) .ends ≤ rows-of (now m) .limits .threads) × (rows-of (now m) .clocks ≤ rows-of (now m) .limits .threads) × Marks (members-of (rows-of (now m))) (now marks) ⌝ }
     ensures { λ _. ⌜ ClockIs (rows-of (now (m .entry))) (rows-of (now (m .exit))) (keep (λ x. not (has-in x (members-of (rows-of (now (m .entry)))))) (view (rows-of (now (m .entry))) .clock)) ⌝ }
 {
     let n = rows::clocks(m);
@@ -68,7 +69,7 @@ pub fn clock(m: &mut [u32])
     let mut i = 0;
     while i < n {
         let x = rows::clock_at(m, i);
-        if members::is_member(m, x) {
+        if members::is_member(m, marks, x) {
             i += 1;
         } else {
             rows::put_clock(m, k, x);
@@ -80,15 +81,15 @@ pub fn clock(m: &mut [u32])
 }
 
 // Messages and notices to or from members.
-pub fn messages(m: &mut [u32])
-    requires { ⌜ Roomy (rows-of (now m)) × (rows-of (now m) .ends ≤ rows-of (now m) .limits .threads) × (rows-of (now m) .letters ≤ rows-of (now m) .limits .threads + rows-of (now m) .limits .blocks) ⌝ }
+pub fn messages(m: &mut [u32], marks: &[u8; 256])
+    requires { ⌜ Roomy (rows-of (now m)) × (rows-of (now m) .ends ≤ rows-of (now m) .limits .threads) × (rows-of (now m) .letters ≤ rows-of (now m) .limits .threads + rows-of (now m) .limits .blocks) × Marks (members-of (rows-of (now m))) (now marks) ⌝ }
     ensures { λ _. ⌜ MessagesAre (rows-of (now (m .entry))) (rows-of (now (m .exit))) (keep (λ x. not (has-in (x .to) (members-of (rows-of (now (m .entry)))) || has-in (x .from) (members-of (rows-of (now (m .entry)))))) (view (rows-of (now (m .entry))) .messages)) ⌝ }
 {
     let n = rows::letters(m);
     let mut k = 0;
     let mut i = 0;
     while i < n {
-        if members::names_member(m, i) {
+        if members::names_member(m, marks, i) {
             i += 1;
         } else {
             rows::move_message(m, i, k);
@@ -116,15 +117,15 @@ fn told_gone(s: State) -> Answer
 }
 
 // Those that receive from a member become ready, by rising name, told that the sender is gone.
-pub fn receivers(m: &mut [u32])
-    requires { ⌜ Roomy (rows-of (now m)) × (rows-of (now m) .ends ≤ rows-of (now m) .limits .threads) × (rows-of (now m) .count ≤ rows-of (now m) .limits .threads) × (rows-of (now m) .readies + count-of (λ t. misses-of (members-of (rows-of (now m))) (t .state)) (view (rows-of (now m)) .threads) ≤ rows-of (now m) .limits .threads) ⌝ }
+pub fn receivers(m: &mut [u32], marks: &[u8; 256])
+    requires { ⌜ Roomy (rows-of (now m)) × (rows-of (now m) .ends ≤ rows-of (now m) .limits .threads) × (rows-of (now m) .count ≤ rows-of (now m) .limits .threads) × (rows-of (now m) .readies + count-of (λ t. misses-of (members-of (rows-of (now m))) (t .state)) (view (rows-of (now m)) .threads) ≤ rows-of (now m) .limits .threads) × Marks (members-of (rows-of (now m))) (now marks) ⌝ }
     ensures { λ _. ⌜ Woken (rows-of (now (m .entry))) (rows-of (now (m .exit))) (map (λ t. if misses-of (members-of (rows-of (now (m .entry)))) (t .state) then in-state ReadyState (told-gone-of (t .state)) t else t) (view (rows-of (now (m .entry))) .threads)) (view (rows-of (now (m .entry))) .ready ++ map (λ t. t .name) (keep (λ t. misses-of (members-of (rows-of (now (m .entry)))) (t .state)) (view (rows-of (now (m .entry))) .threads))) ⌝ }
 {
     let n = rows::count(m);
     let mut i = 0;
     while i < n {
         let s = rows::state_at(m, i);
-        if members::misses(m, s) {
+        if members::misses(m, marks, s) {
             let name = rows::name_at(m, i);
             let a = told_gone(s);
             rows::turn(m, i, State::Ready, a);

@@ -1,6 +1,6 @@
 // The event program: events on standard input, a line for each field on standard output, and the last line.
 // A thin loop over the rounds of crates/stream. No contract can say what is read or written.
-use lines::last;
+use printing::last;
 ghost use Prim.Native.Nat.{_≤_};
 ghost use lib.ListN.{length};
 
@@ -23,13 +23,14 @@ fn print(out: &[u8], n: usize) -> bool
 }
 
 fn main() {
+    let mut m = stream::room();
     let mut input = stream::input_buffer();
     let mut out = io::large_buffer();
-    let mut run = stream::begin();
+    let mut run = stream::begin(&mut m);
     let mut rounds = ROUNDS;
     while 0 < rounds && !run.ended {
         rounds -= 1;
-        run = stream::round(run, &mut input, &mut out);
+        run = stream::round(&mut m, run, &mut input, &mut out);
         if run.failed {
             say(b"node: cannot read\n");
             return;
@@ -39,10 +40,9 @@ fn main() {
         }
     }
     // A field that the end of the input cuts off is the last.
-    run = stream::serve(run, true, &input, &mut out);
+    run = stream::serve(&mut m, run, true, &input, &mut out);
     if print(&out, run.filled) {
-        let rows = run.rows;
-        let n = last::put_last(&mut out, rows);
+        let n = last::put_last(&mut out, &m);
         print(&out, n);
     }
 }

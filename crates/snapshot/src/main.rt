@@ -1,6 +1,6 @@
 // Runs the events on standard input from a start, and writes the dump's bytes to standard output.
 // A thin loop over the rounds of crates/stream. Their lines are those of the event program, and are not written.
-use dump::writing;
+use dumping::writing;
 ghost use Prim.Native.Nat.{_≤_};
 ghost use lib.ListN.{length};
 
@@ -21,21 +21,21 @@ fn print(out: &[u8], n: usize)
 }
 
 fn main() {
+    let mut m = stream::room();
     let mut input = stream::input_buffer();
     let mut out = io::large_buffer();
-    let mut run = stream::begin();
+    let mut run = stream::begin(&mut m);
     let mut rounds = ROUNDS;
     while 0 < rounds && !run.ended {
         rounds -= 1;
-        run = stream::round(run, &mut input, &mut out);
+        run = stream::round(&mut m, run, &mut input, &mut out);
         if run.failed {
             say(b"snapshot: cannot read\n");
             return;
         }
     }
     // A field that the end of the input cuts off is the last.
-    run = stream::serve(run, true, &input, &mut out);
-    let rows = run.rows;
-    let n = writing::dump_rows(rows, &mut out);
+    stream::serve(&mut m, run, true, &input, &mut out);
+    let n = writing::write_dump(&m, &mut out);
     print(&out, n);
 }

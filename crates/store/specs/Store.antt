@@ -12,6 +12,7 @@ use Rattle.rules.specs.Waking.{Outcome, _handing_}
 use Rattle.memory.specs.Rows.{view, members, Fits}
 pub use Rattle.memory.specs.Rows.{Room, nothing}
 unfoldable pub use Rattle.memory.specs.Rows.{word-for}
+pub use Rattle.moving.specs.Marks.{Marks}
 use Rattle.memory.specs.Memory.{rows-of}
 use Rattle.store.specs.declared.Taken.{Taken}
 use Rattle.store.specs.declared.Taken.the-variants.{Missing, Took}

@@ -1,3 +1,4 @@
 pub mod Placed
 pub mod Lasting
 pub mod WholeRuns
+pub mod Going

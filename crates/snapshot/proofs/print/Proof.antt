@@ -5,32 +5,22 @@ use lib.Seq.{length-take-le}
 use borrow.Author.Needs.{needs}
 use Rattle.snapshot.proofs.print.Statement.{statement}
 use Rattle.snapshot.proofs.print.Tie as tie
-use Rattle.snapshot.proofs.print.Reads as reads
-use Rattle.snapshot.proofs.print.Lts as lts
-use Rattle.io.proofs.write_all.Reads as write-all-reads
-use Rattle.snapshot.proofs.say.Reads as say-reads
 
--- src/main.rt:18:44
 slice-aggregate-write-all : tie.Need-slice-aggregate-write-all
 slice-aggregate-write-all c = sym (length-take-le (c .before .before .args .n) (c .before .before .args .out .now) (c .before .before .pre))
 
--- src/main.rt:18:9
 write-all-requires : tie.Need-write-all-requires
 write-all-requires c κs = search needs
 
--- src/main.rt:19:13
 slice-aggregate-say : tie.Need-slice-aggregate-say
 slice-aggregate-say c = search needs
 
--- src/main.rt:19:9
 say-requires : tie.Need-say-requires
 say-requires c κs = search needs
 
--- src/main.rt:15:1
 returns : tie.Need-returns
 returns c = search needs
 
--- src/main.rt:15:1
 returns-2 : tie.Need-returns-2
 returns-2 c = search needs
 

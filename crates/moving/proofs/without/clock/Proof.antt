@@ -15,10 +15,10 @@ use Rattle.moving.proofs.without.clock.Statement.{statement}
 use Rattle.moving.proofs.without.clock.Tie as tie
 
 abbrev Inv-loop : tie.InvT-loop
-Inv-loop m₀ n k₀ i₀ m k i = Keeping the-clock (λ (x : ℕ). has-in x (members (rows-of m₀))) (rows-of m₀ .clocks) (rows-of m₀) (rows-of m) k i × (n ≡ rows-of m₀ .clocks)
+Inv-loop m₀ marks n k₀ i₀ m k i = Keeping the-clock (λ (x : ℕ). has-in x (members (rows-of m₀))) (rows-of m₀ .clocks) (rows-of m₀) (rows-of m) k i × (n ≡ rows-of m₀ .clocks)
 
 abbrev μ-loop : tie.MeasureT-loop
-μ-loop m₀ n k₀ i₀ m k i = n - i
+μ-loop m₀ marks n k₀ i₀ m k i = n - i
 
 clocks-requires : tie.Need-clocks-requires Inv-loop μ-loop
 clocks-requires c κs = search needs
@@ -30,7 +30,7 @@ clock-at-requires : tie.Need-clock-at-requires Inv-loop μ-loop
 clock-at-requires c κs = by (Within (c .before .before .loop .i)) (c .before .before .loop .inv .0 .only) (c .before .before .before .before .before .before .pre .0, omega (arith, c .before .before .before .before .before .before .pre .2, c .before .before .loop .inv .1, c .before .loop-test .taken))
 
 is-member-requires : tie.Need-is-member-requires Inv-loop μ-loop
-is-member-requires c κs = by Listed (c .before .before .before .before .loop .inv .0 .only) (c .before .before .before .before .before .before .before .before .pre .0, c .before .before .before .before .before .before .before .before .pre .1)
+is-member-requires c κs = by (Listed (c .before .before .before .before .before .before .before .before .args .marks .now)) (c .before .before .before .before .loop .inv .0 .only) (c .before .before .before .before .before .before .before .before .pre .0, c .before .before .before .before .before .before .before .before .pre .1, c .before .before .before .before .before .before .before .before .pre .3)
 
 add-i : tie.Need-add-i Inv-loop μ-loop
 add-i c = omega arith
@@ -66,23 +66,4 @@ returns : tie.Need-returns Inv-loop μ-loop
 returns c = clock-is _ (c .before .before .before .before .before .loop .inv .0 .only) (c .before .before .set-clocks .ensures) (keep-ends _ _ _ _ _ _ (c .before .before .before .before .before .loop .inv .0 .so) (omega (arith, c .before .before .before .before .before .loop .inv .1, c .before .before .before .before .loop-test .left))) (omega (arith, c .before .before .before .before .before .before .before .before .before .pre .2, c .before .before .before .before .before .loop .inv .0 .so .behind, c .before .before .before .before .before .loop .inv .0 .so .left .within))
 
 pub clock-spec : {M : Type 1} → statement M
-clock-spec =
-    tie.close
-    (tie.spec
-    Inv-loop
-    μ-loop
-    clocks-requires
-    loop-holds
-    clock-at-requires
-    is-member-requires
-    add-i
-    loop-less
-    loop-again
-    put-clock-requires
-    add-k
-    add-i-2
-    loop-less-2
-    loop-again-2
-    set-clocks-requires
-    same-length
-    returns)
+clock-spec = tie.close (tie.spec Inv-loop μ-loop clocks-requires loop-holds clock-at-requires is-member-requires add-i loop-less loop-again put-clock-requires add-k add-i-2 loop-less-2 loop-again-2 set-clocks-requires same-length returns)

@@ -14,6 +14,7 @@ use Rattle.memory.specs.Rows.{Rows, Roomy, members, put-letters, no-message}
 use Rattle.memory.proofs.Sizes.{messages-long, same-room}
 use Rattle.moving.proofs.Steps.{by, begins, the-messages, Keeping, keep-drops, keep-holds, messages-are}
 use Rattle.moving.proofs.Loops.{sift-starts, keep-ends}
+use Rattle.moving.specs.Marks.{Marks}
 use Rattle.moving.proofs.without.messages.Statement.{statement}
 use Rattle.moving.proofs.without.messages.Tie as tie
 
@@ -21,10 +22,10 @@ abbrev named : List ℕ → Message → Bool
 named l x = has-in (x .to) l || has-in (x .from) l
 
 abbrev Inv-loop : tie.InvT-loop
-Inv-loop m₀ n k₀ i₀ m k i = Keeping the-messages (named (members (rows-of m₀))) (rows-of m₀ .letters) (rows-of m₀) (rows-of m) k i × (n ≡ rows-of m₀ .letters)
+Inv-loop m₀ marks n k₀ i₀ m k i = Keeping the-messages (named (members (rows-of m₀))) (rows-of m₀ .letters) (rows-of m₀) (rows-of m) k i × (n ≡ rows-of m₀ .letters)
 
 abbrev μ-loop : tie.MeasureT-loop
-μ-loop m₀ n k₀ i₀ m k i = n - i
+μ-loop m₀ marks n k₀ i₀ m k i = n - i
 
 letters-requires : tie.Need-letters-requires Inv-loop μ-loop
 letters-requires c κs = search needs
@@ -33,7 +34,7 @@ loop-holds : tie.Need-loop-holds Inv-loop μ-loop
 loop-holds c = (begins the-messages (sift-starts _ _ _ _ (omega (arith, messages-long (c .before .before .before .args .m .now), c .before .before .before .pre .2))), c .letters .ensures)
 
 names-member-requires : tie.Need-names-member-requires Inv-loop μ-loop
-names-member-requires c κs = by (λ (r : Rows). Roomy r × (r .ends ≤ r .limits .threads) × (c .before .before .loop .i < r .limits .threads + r .limits .blocks)) (c .before .before .loop .inv .0 .only) (c .before .before .before .before .before .before .pre .0, c .before .before .before .before .before .before .pre .1, omega (arith, c .before .before .before .before .before .before .pre .2, c .before .before .loop .inv .1, c .before .loop-test .taken))
+names-member-requires c κs = by (λ (r : Rows). Roomy r × (r .ends ≤ r .limits .threads) × (c .before .before .loop .i < r .limits .threads + r .limits .blocks) × Marks (members r) (c .before .before .before .before .before .before .args .marks .now)) (c .before .before .loop .inv .0 .only) (c .before .before .before .before .before .before .pre .0, c .before .before .before .before .before .before .pre .1, omega (arith, c .before .before .before .before .before .before .pre .2, c .before .before .loop .inv .1, c .before .loop-test .taken), c .before .before .before .before .before .before .pre .3)
 
 add-i : tie.Need-add-i Inv-loop μ-loop
 add-i c = omega arith
@@ -69,22 +70,4 @@ returns : tie.Need-returns Inv-loop μ-loop
 returns c = messages-are _ (c .before .before .before .before .before .loop .inv .0 .only) (c .before .before .set-letters .ensures) (keep-ends _ _ _ _ _ _ (c .before .before .before .before .before .loop .inv .0 .so) (omega (arith, c .before .before .before .before .before .loop .inv .1, c .before .before .before .before .loop-test .left))) (omega (arith, c .before .before .before .before .before .before .before .before .before .pre .2, c .before .before .before .before .before .loop .inv .0 .so .behind, c .before .before .before .before .before .loop .inv .0 .so .left .within))
 
 pub messages-spec : {M : Type 1} → statement M
-messages-spec =
-    tie.close
-    (tie.spec
-    Inv-loop
-    μ-loop
-    letters-requires
-    loop-holds
-    names-member-requires
-    add-i
-    loop-less
-    loop-again
-    move-message-requires
-    add-k
-    add-i-2
-    loop-less-2
-    loop-again-2
-    set-letters-requires
-    same-length
-    returns)
+messages-spec = tie.close (tie.spec Inv-loop μ-loop letters-requires loop-holds names-member-requires add-i loop-less loop-again move-message-requires add-k add-i-2 loop-less-2 loop-again-2 set-letters-requires same-length returns)

@@ -15,10 +15,10 @@ use Rattle.moving.proofs.without.ready.Statement.{statement}
 use Rattle.moving.proofs.without.ready.Tie as tie
 
 abbrev Inv-loop : tie.InvT-loop
-Inv-loop m₀ n k₀ i₀ m k i = Keeping the-ready (λ (x : ℕ). has-in x (members (rows-of m₀))) (rows-of m₀ .readies) (rows-of m₀) (rows-of m) k i × (n ≡ rows-of m₀ .readies)
+Inv-loop m₀ marks n k₀ i₀ m k i = Keeping the-ready (λ (x : ℕ). has-in x (members (rows-of m₀))) (rows-of m₀ .readies) (rows-of m₀) (rows-of m) k i × (n ≡ rows-of m₀ .readies)
 
 abbrev μ-loop : tie.MeasureT-loop
-μ-loop m₀ n k₀ i₀ m k i = n - i
+μ-loop m₀ marks n k₀ i₀ m k i = n - i
 
 readies-requires : tie.Need-readies-requires Inv-loop μ-loop
 readies-requires c κs = search needs
@@ -30,7 +30,7 @@ ready-at-requires : tie.Need-ready-at-requires Inv-loop μ-loop
 ready-at-requires c κs = by (Within (c .before .before .loop .i)) (c .before .before .loop .inv .0 .only) (c .before .before .before .before .before .before .pre .0, omega (arith, c .before .before .before .before .before .before .pre .2, c .before .before .loop .inv .1, c .before .loop-test .taken))
 
 is-member-requires : tie.Need-is-member-requires Inv-loop μ-loop
-is-member-requires c κs = by Listed (c .before .before .before .before .loop .inv .0 .only) (c .before .before .before .before .before .before .before .before .pre .0, c .before .before .before .before .before .before .before .before .pre .1)
+is-member-requires c κs = by (Listed (c .before .before .before .before .before .before .before .before .args .marks .now)) (c .before .before .before .before .loop .inv .0 .only) (c .before .before .before .before .before .before .before .before .pre .0, c .before .before .before .before .before .before .before .before .pre .1, c .before .before .before .before .before .before .before .before .pre .3)
 
 add-i : tie.Need-add-i Inv-loop μ-loop
 add-i c = omega arith
@@ -66,23 +66,4 @@ returns : tie.Need-returns Inv-loop μ-loop
 returns c = ready-is _ (c .before .before .before .before .before .loop .inv .0 .only) (c .before .before .set-readies .ensures) (keep-ends _ _ _ _ _ _ (c .before .before .before .before .before .loop .inv .0 .so) (omega (arith, c .before .before .before .before .before .loop .inv .1, c .before .before .before .before .loop-test .left))) (omega (arith, c .before .before .before .before .before .loop .inv .0 .so .behind, c .before .before .before .before .before .loop .inv .0 .so .left .within, c .before .before .before .before .before .loop .inv .0 .so .left .whole, c .before .before .before .before .before .loop .inv .0 .so .left .long)) (omega (arith, c .before .before .before .before .before .before .before .before .before .pre .2, c .before .before .before .before .before .loop .inv .0 .so .behind, c .before .before .before .before .before .loop .inv .0 .so .left .within))
 
 pub ready-spec : {M : Type 1} → statement M
-ready-spec =
-    tie.close
-    (tie.spec
-    Inv-loop
-    μ-loop
-    readies-requires
-    loop-holds
-    ready-at-requires
-    is-member-requires
-    add-i
-    loop-less
-    loop-again
-    put-ready-requires
-    add-k
-    add-i-2
-    loop-less-2
-    loop-again-2
-    set-readies-requires
-    same-length
-    returns)
+ready-spec = tie.close (tie.spec Inv-loop μ-loop readies-requires loop-holds ready-at-requires is-member-requires add-i loop-less loop-again put-ready-requires add-k add-i-2 loop-less-2 loop-again-2 set-readies-requires same-length returns)

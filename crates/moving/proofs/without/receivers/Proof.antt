@@ -14,10 +14,10 @@ use Rattle.moving.proofs.without.receivers.Statement.{statement}
 use Rattle.moving.proofs.without.receivers.Tie as tie
 
 abbrev Inv-loop : tie.InvT-loop
-Inv-loop m₀ n i₀ m i = Freeing (rows-of m₀) (rows-of m) i × (n ≡ rows-of m₀ .count)
+Inv-loop m₀ marks n i₀ m i = Freeing (rows-of m₀) (rows-of m) i × (n ≡ rows-of m₀ .count)
 
 abbrev μ-loop : tie.MeasureT-loop
-μ-loop m₀ n i₀ m i = n - i
+μ-loop m₀ marks n i₀ m i = n - i
 
 count-requires : tie.Need-count-requires Inv-loop μ-loop
 count-requires c κs = search needs
@@ -29,7 +29,7 @@ state-at-requires : tie.Need-state-at-requires Inv-loop μ-loop
 state-at-requires c κs = by (Within (c .before .before .loop .i)) (c .before .before .loop .inv .0 .only) (c .before .before .before .before .before .before .pre .0, omega (arith, c .before .before .before .before .before .before .pre .2, c .before .before .loop .inv .1, c .before .loop-test .taken))
 
 misses-requires : tie.Need-misses-requires Inv-loop μ-loop
-misses-requires c κs = by Listed (c .before .before .before .before .loop .inv .0 .only) (c .before .before .before .before .before .before .before .before .pre .0, c .before .before .before .before .before .before .before .before .pre .1)
+misses-requires c κs = by (Listed (c .before .before .before .before .before .before .before .before .args .marks .now)) (c .before .before .before .before .loop .inv .0 .only) (c .before .before .before .before .before .before .before .before .pre .0, c .before .before .before .before .before .before .before .before .pre .1, c .before .before .before .before .before .before .before .before .pre .4)
 
 name-at-requires : tie.Need-name-at-requires Inv-loop μ-loop
 name-at-requires c κs = by (Within (c .before .before .before .before .before .before .before .loop .i)) (c .before .before .before .before .before .before .before .loop .inv .0 .only) (c .before .before .before .before .before .before .before .before .before .before .before .pre .0, omega (arith, c .before .before .before .before .before .before .before .before .before .before .before .pre .2, c .before .before .before .before .before .before .before .loop .inv .1, c .before .before .before .before .before .before .loop-test .taken))
@@ -69,24 +69,4 @@ returns : tie.Need-returns Inv-loop μ-loop
 returns c = free-ends (c .before .loop .inv .0) (omega (arith, c .before .loop .inv .1, c .loop-test .left)) (c .before .before .before .before .before .pre .3)
 
 pub receivers-spec : {M : Type 1} → statement M
-receivers-spec =
-    tie.close
-    (tie.spec
-    Inv-loop
-    μ-loop
-    count-requires
-    loop-holds
-    state-at-requires
-    misses-requires
-    name-at-requires
-    told-gone-requires
-    turn-requires
-    join-requires
-    add-i
-    loop-less
-    loop-again
-    add-i-2
-    loop-less-2
-    loop-again-2
-    same-length
-    returns)
+receivers-spec = tie.close (tie.spec Inv-loop μ-loop count-requires loop-holds state-at-requires misses-requires name-at-requires told-gone-requires turn-requires join-requires add-i loop-less loop-again add-i-2 loop-less-2 loop-again-2 same-length returns)

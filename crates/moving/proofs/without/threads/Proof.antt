@@ -14,10 +14,10 @@ use Rattle.moving.proofs.without.threads.Statement.{statement}
 use Rattle.moving.proofs.without.threads.Tie as tie
 
 abbrev Inv-loop : tie.InvT-loop
-Inv-loop m₀ n k₀ i₀ m k i = Leaving (rows-of m₀) (rows-of m) k i × (n ≡ rows-of m₀ .count)
+Inv-loop m₀ marks n k₀ i₀ m k i = Leaving (rows-of m₀) (rows-of m) k i × (n ≡ rows-of m₀ .count)
 
 abbrev μ-loop : tie.MeasureT-loop
-μ-loop m₀ n k₀ i₀ m k i = n - i
+μ-loop m₀ marks n k₀ i₀ m k i = n - i
 
 count-requires : tie.Need-count-requires Inv-loop μ-loop
 count-requires c κs = search needs
@@ -29,7 +29,7 @@ name-at-requires : tie.Need-name-at-requires Inv-loop μ-loop
 name-at-requires c κs = by (Within (c .before .before .loop .i)) (c .before .before .loop .inv .0 .only) (c .before .before .before .before .before .before .pre .0, omega (arith, c .before .before .before .before .before .before .pre .2, c .before .before .loop .inv .1, c .before .loop-test .taken))
 
 is-member-requires : tie.Need-is-member-requires Inv-loop μ-loop
-is-member-requires c κs = by Listed (c .before .before .before .loop .inv .0 .only) (c .before .before .before .before .before .before .before .pre .0, c .before .before .before .before .before .before .before .pre .1)
+is-member-requires c κs = by (Listed (c .before .before .before .before .before .before .before .args .marks .now)) (c .before .before .before .loop .inv .0 .only) (c .before .before .before .before .before .before .before .pre .0, c .before .before .before .before .before .before .before .pre .1, c .before .before .before .before .before .before .before .pre .3)
 
 add-i : tie.Need-add-i Inv-loop μ-loop
 add-i c = omega arith
@@ -41,7 +41,7 @@ loop-again : tie.Need-loop-again Inv-loop μ-loop
 loop-again c = (leave-drops (c .before .before .before .before .before .loop .inv .0) (omega (arith, c .before .before .before .before .before .loop .inv .1, c .before .before .before .before .loop-test .taken)) (c .before .before .name-at .ensures) (c .before .is-member .ensures) (c .if1 .taken), c .before .before .before .before .before .loop .inv .1)
 
 lose-managers-requires : tie.Need-lose-managers-requires Inv-loop μ-loop
-lose-managers-requires c κs = by (ListedAt (c .before .before .before .before .before .before .loop .i)) (c .before .before .before .before .before .before .loop .inv .0 .only) (c .before .before .before .before .before .before .before .before .before .before .pre .0, c .before .before .before .before .before .before .before .before .before .before .pre .1, omega (arith, c .before .before .before .before .before .before .before .before .before .before .pre .2, c .before .before .before .before .before .before .loop .inv .1, c .before .before .before .before .before .loop-test .taken))
+lose-managers-requires c κs = by (ListedAt (c .before .before .before .before .before .before .before .before .before .before .args .marks .now) (c .before .before .before .before .before .before .loop .i)) (c .before .before .before .before .before .before .loop .inv .0 .only) (c .before .before .before .before .before .before .before .before .before .before .pre .0, c .before .before .before .before .before .before .before .before .before .before .pre .1, omega (arith, c .before .before .before .before .before .before .before .before .before .before .pre .2, c .before .before .before .before .before .before .loop .inv .1, c .before .before .before .before .before .loop-test .taken), c .before .before .before .before .before .before .before .before .before .before .pre .3)
 
 move-thread-requires : tie.Need-move-thread-requires Inv-loop μ-loop
 move-thread-requires c κs = let P : Rows → Type 0 = λ r. Roomy r × (c .before .before .before .before .before .before .before .before .before .before .loop .i < r .limits .threads) × (c .before .before .before .before .before .before .before .before .before .before .loop .k < r .limits .threads) in
@@ -69,24 +69,4 @@ returns : tie.Need-returns Inv-loop μ-loop
 returns c = threads-left _ (c .before .before .before .before .before .loop .inv .0 .only) (c .before .before .set-count .ensures) (sift-ends _ _ _ _ _ _ _ (c .before .before .before .before .before .loop .inv .0 .so) (omega (arith, c .before .before .before .before .before .loop .inv .1, c .before .before .before .before .loop-test .left))) (omega (arith, c .before .before .before .before .before .before .before .before .before .pre .2, c .before .before .before .before .before .loop .inv .0 .so .behind, c .before .before .before .before .before .loop .inv .0 .so .left .within))
 
 pub threads-spec : {M : Type 1} → statement M
-threads-spec =
-    tie.close
-    (tie.spec
-    Inv-loop
-    μ-loop
-    count-requires
-    loop-holds
-    name-at-requires
-    is-member-requires
-    add-i
-    loop-less
-    loop-again
-    lose-managers-requires
-    move-thread-requires
-    add-k
-    add-i-2
-    loop-less-2
-    loop-again-2
-    set-count-requires
-    same-length
-    returns)
+threads-spec = tie.close (tie.spec Inv-loop μ-loop count-requires loop-holds name-at-requires is-member-requires add-i loop-less loop-again lose-managers-requires move-thread-requires add-k add-i-2 loop-less-2 loop-again-2 set-count-requires same-length returns)

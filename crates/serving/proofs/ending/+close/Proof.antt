@@ -17,15 +17,15 @@ use Rattle.store.proofs.grow_ended.Reads as grow-reads
 use Rattle.serving.proofs.ending.+close.{statement}
 use Rattle.serving.proofs.ending.+close.Tie.{close}
 
-abbrev μ-close : Measures 1 close-kinds.ps ℕ
+abbrev μ-close : Measures 2 close-kinds.ps ℕ
 μ-close κs a = outside (tables (now (a .0)) .threads) (found (now (a .0)))
 
 -- what `close` is given at the measure t, and what a call of it asks below t
-abbrev close-at : ℕ → In 1 close-kinds.ps
-close-at t = and 1 close-kinds.ps (is 1 close-kinds.ps μ-close t) close′.Pre
+abbrev close-at : ℕ → In 2 close-kinds.ps
+close-at t = and 2 close-kinds.ps (is 2 close-kinds.ps μ-close t) close′.Pre
 
-abbrev close-below : ℕ → In 1 close-kinds.ps
-close-below t = and 1 close-kinds.ps (falls 1 close-kinds.ps _<_ μ-close t) close′.Pre
+abbrev close-below : ℕ → In 2 close-kinds.ps
+close-below t = and 2 close-kinds.ps (falls 2 close-kinds.ps _<_ μ-close t) close′.Pre
 
 close-ended-count-requires : (t : ℕ) → close-lts.Need-ended-count-requires (
   count-reads.Asked,
@@ -45,9 +45,7 @@ close-grow-ended-requires : (t : ℕ) → close-lts.Need-grow-ended-requires (
   close-below t,
   close′.Post,
 ) (close-at t) close′.Post
-close-grow-ended-requires t c κs =
-    let s = c .before .before .before .before in
-    (s .pre .1 .0, omega (arith, s .pre .1 .1, joins-fall (tables (s .args .m .now) .threads) (found (s .args .m .now))))
+close-grow-ended-requires t c κs = (c .before .before .before .before .before .pre .1 .0, omega (arith, c .before .before .before .before .before .pre .1 .1, joins-fall (tables (c .before .before .before .before .before .args .m .now) .threads) (found (c .before .before .before .before .before .args .m .now))), c .before .before .before .before .before .pre .1 .2)
 
 close-ended-count-requires-2 : (t : ℕ) → close-lts.Need-ended-count-requires-2 (
   count-reads.Asked,
@@ -57,7 +55,7 @@ close-ended-count-requires-2 : (t : ℕ) → close-lts.Need-ended-count-requires
   close-below t,
   close′.Post,
 ) (close-at t) close′.Post
-close-ended-count-requires-2 t c κs = c .before .before .before .grow-ended .ensures .finding
+close-ended-count-requires-2 t c κs = c .before .before .before .grow-ended .ensures .0 .finding
 
 close-same-length : (t : ℕ) → close-lts.Need-same-length (
   count-reads.Asked,
@@ -77,7 +75,7 @@ close-returns : (t : ℕ) → close-lts.Need-returns (
   close-below t,
   close′.Post,
 ) (close-at t) close′.Post
-close-returns t c = last-round (c .before .before .before .before .before .grow-ended .ensures) (sym (c .before .ended-count2 .ensures) ∙ (c .if1 .taken ∙ c .before .before .before .before .before .before .before .ended-count .ensures))
+close-returns t c = (last-round (c .before .before .before .before .before .grow-ended .ensures .0) (sym (c .before .ended-count2 .ensures) ∙ (c .if1 .taken ∙ c .before .before .before .before .before .before .before .before .ended-count .ensures)), c .before .before .before .before .before .grow-ended .ensures .1)
 
 close-close-requires : (t : ℕ) → close-lts.Need-close-requires (
   count-reads.Asked,
@@ -87,12 +85,10 @@ close-close-requires : (t : ℕ) → close-lts.Need-close-requires (
   close-below t,
   close′.Post,
 ) (close-at t) close′.Post
-close-close-requires t c κs =
-    let s = c .before .before .before .before .before .before .before .before .before .before .before in
-    let g = c .before .before .before .before .before .before .grow-ended .ensures in (
-      rw (s .pre .0) at (fewer-outside g (λ e. c .before .if1 .left (c .before .before .ended-count2 .ensures ∙ (e ∙ sym (c .before .before .before .before .before .before .before .before .ended-count .ensures))))),
-      (g .finding, room-stays g (s .pre .1 .1)),
-    )
+close-close-requires t c κs = let g = c .before .before .before .before .before .before .before .grow-ended .ensures .0 in (
+  rw (c .before .before .before .before .before .before .before .before .before .before .before .before .before .pre .0) at (fewer-outside g (λ e. c .before .before .if1 .left (c .before .before .before .ended-count2 .ensures ∙ (e ∙ sym (c .before .before .before .before .before .before .before .before .before .before .ended-count .ensures))))),
+  (g .finding, room-stays g (c .before .before .before .before .before .before .before .before .before .before .before .before .before .pre .1 .1), c .before .before .before .before .before .before .before .grow-ended .ensures .1),
+)
 
 close-same-length-2 : (t : ℕ) → close-lts.Need-same-length-2 (
   count-reads.Asked,
@@ -102,7 +98,7 @@ close-same-length-2 : (t : ℕ) → close-lts.Need-same-length-2 (
   close-below t,
   close′.Post,
 ) (close-at t) close′.Post
-close-same-length-2 t c = c .before .m2 .given ∙ c .before .before .before .before .before .before .before .before .m .given
+close-same-length-2 t c = c .before .m2 .given ∙ c .before .before .before .before .before .before .before .before .before .m .given
 
 close-returns-2 : (t : ℕ) → close-lts.Need-returns-2 (
   count-reads.Asked,
@@ -112,7 +108,7 @@ close-returns-2 : (t : ℕ) → close-lts.Need-returns-2 (
   close-below t,
   close′.Post,
 ) (close-at t) close′.Post
-close-returns-2 t c = round-more (c .before .before .before .before .before .before .before .before .before .grow-ended .ensures) (λ e. c .before .before .before .before .if1 .left (c .before .before .before .before .before .ended-count2 .ensures ∙ (e ∙ sym (c .before .before .before .before .before .before .before .before .before .before .before .ended-count .ensures)))) (c .before .before .close .ensures)
+close-returns-2 t c = (round-more (c .before .before .before .before .before .before .before .before .before .before .grow-ended .ensures .0) (λ e. c .before .before .before .before .before .if1 .left (c .before .before .before .before .before .before .ended-count2 .ensures ∙ (e ∙ sym (c .before .before .before .before .before .before .before .before .before .before .before .before .before .ended-count .ensures)))) (c .before .before .close .ensures .0), c .before .before .close .ensures .1)
 
 pub +close-spec : {M : Type 1} → statement M
 +close-spec = close μ-close λ t. close-lts.spec (

@@ -15,19 +15,15 @@ use Rattle.store.proofs.ended.release_ended.Tie as tie
 
 receivers-requires : tie.Need-receivers-requires
 unfolding limits tables Shaped found
-receivers-requires c κs =
-    let s = c .before .before in
-    (s .pre .0 .holding .shaped .roomy, s .pre .0 .low, s .pre .0 .holding .shaped .threads, omega (arith, s .pre .1, ready-length (s .args .m .now) (s .pre .0 .holding .shaped)))
+receivers-requires c κs = (c .before .before .pre .0 .holding .shaped .roomy, c .before .before .pre .0 .low, c .before .before .pre .0 .holding .shaped .threads, omega (arith, c .before .before .pre .1, ready-length (c .before .before .args .m .now) (c .before .before .pre .0 .holding .shaped)), c .before .before .pre .2)
 
 same-length : tie.Need-same-length
 same-length c = search needs
 
 returns : tie.Need-returns
 unfolding tables found release wake-those
-returns c =
-    let s = c .before .before .before .before .before in
-    leaves (woken (s .pre .0 .holding .shaped) (c .before .before .receivers .ensures))
-    (once-where (tables (s .args .m .now) .threads) (s .pre .0 .holding .once) (λ t. misses (found (s .args .m .now)) (t .state)) (λ t. in-state Ready (told-gone (t .state)) t) (λ t. refl))
+returns c = leaves (woken (c .before .before .before .before .before .pre .0 .holding .shaped) (c .before .before .receivers .ensures))
+    (once-where (tables (c .before .before .before .before .before .args .m .now) .threads) (c .before .before .before .before .before .pre .0 .holding .once) (λ t. misses (found (c .before .before .before .before .before .args .m .now)) (t .state)) (λ t. in-state Ready (told-gone (t .state)) t) (λ t. refl))
 
 pub release-ended-spec : {M : Type 1} → statement M
 release-ended-spec = tie.close (tie.spec receivers-requires same-length returns)

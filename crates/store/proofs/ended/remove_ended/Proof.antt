@@ -2,53 +2,37 @@
 -- Assumes nothing.
 use mathlib.Core.Path.{sym, _∙_}
 use borrow.Author.Needs.{needs}
-use Rattle.store.specs.Store.{limits, Shaped}
+use Rattle.store.specs.Store.{limits, Shaped, found}
 use Rattle.store.proofs.Removed.{kept₁, kept₂, kept₃, kept₄, left₁, left₂, left₃, left₄, removed-idle, removed-stays, removed-ends}
+use Rattle.moving.proofs.Marking.{marks-of}
 use Rattle.store.proofs.ended.remove_ended.Statement.{statement}
 use Rattle.store.proofs.ended.remove_ended.Tie as tie
 
 threads-requires : tie.Need-threads-requires
-unfolding limits Shaped
-threads-requires c κs =
-    let s = c .before .before in
-    (s .pre .holding .shaped .roomy, s .pre .low, s .pre .holding .shaped .threads)
+unfolding limits Shaped found
+threads-requires c κs = (c .before .before .pre .0 .holding .shaped .roomy, c .before .before .pre .0 .low, c .before .before .pre .0 .holding .shaped .threads, c .before .before .pre .1)
 
 ready-requires : tie.Need-ready-requires
-unfolding Shaped
-ready-requires c κs =
-    let at-threads = c .before .before .before in
-    let s = at-threads .before .before .before in
-    let f = left₁ (s .args .m .now) (s .pre) _ (at-threads .threads .ensures) in
-    (f .shaped .roomy, kept₁ (s .args .m .now) (s .pre) _ (at-threads .threads .ensures) .1, f .shaped .ready)
+unfolding Shaped found
+ready-requires c κs = let f = left₁ (c .before .before .before .before .before .before .args .m .now) (c .before .before .before .before .before .before .pre .0) _ (c .before .before .before .threads .ensures) in
+    let k = kept₁ (c .before .before .before .before .before .before .args .m .now) (c .before .before .before .before .before .before .pre .0) _ (c .before .before .before .threads .ensures) in
+    (f .shaped .roomy, k .1, f .shaped .ready, marks-of (k .0) (c .before .before .before .before .before .before .pre .1))
 
 clock-requires : tie.Need-clock-requires
-unfolding Shaped
-clock-requires c κs =
-    let at-ready = c .before .before .before in
-    let at-threads = at-ready .before .before .before .before in
-    let s = at-threads .before .before .before in
-    let f = left₂ (s .args .m .now) (s .pre) _ (at-threads .threads .ensures) _ (at-ready .ready .ensures) in
-    (f .shaped .roomy, kept₂ (s .args .m .now) (s .pre) _ (at-threads .threads .ensures) _ (at-ready .ready .ensures) .1, f .shaped .clock)
+unfolding Shaped found
+clock-requires c κs = let f = left₂ (c .before .before .before .before .before .before .before .before .before .before .args .m .now) (c .before .before .before .before .before .before .before .before .before .before .pre .0) _ (c .before .before .before .before .before .before .before .threads .ensures) _ (c .before .before .before .ready .ensures) in
+    let k = kept₂ (c .before .before .before .before .before .before .before .before .before .before .args .m .now) (c .before .before .before .before .before .before .before .before .before .before .pre .0) _ (c .before .before .before .before .before .before .before .threads .ensures) _ (c .before .before .before .ready .ensures) in
+    (f .shaped .roomy, k .1, f .shaped .clock, marks-of (k .0) (c .before .before .before .before .before .before .before .before .before .before .pre .1))
 
 messages-requires : tie.Need-messages-requires
-unfolding Shaped
-messages-requires c κs =
-    let at-clock = c .before .before .before in
-    let at-ready = at-clock .before .before .before .before in
-    let at-threads = at-ready .before .before .before .before in
-    let s = at-threads .before .before .before in
-    let f = left₃ (s .args .m .now) (s .pre) _ (at-threads .threads .ensures) _ (at-ready .ready .ensures) _ (at-clock .clock .ensures) in
-    (f .shaped .roomy, kept₃ (s .args .m .now) (s .pre) _ (at-threads .threads .ensures) _ (at-ready .ready .ensures) _ (at-clock .clock .ensures) .1, f .shaped .messages)
+unfolding Shaped found
+messages-requires c κs = let f = left₃ (c .before .before .before .before .before .before .before .before .before .before .before .before .before .before .args .m .now) (c .before .before .before .before .before .before .before .before .before .before .before .before .before .before .pre .0) _ (c .before .before .before .before .before .before .before .before .before .before .before .threads .ensures) _ (c .before .before .before .before .before .before .before .ready .ensures) _ (c .before .before .before .clock .ensures) in
+    let k = kept₃ (c .before .before .before .before .before .before .before .before .before .before .before .before .before .before .args .m .now) (c .before .before .before .before .before .before .before .before .before .before .before .before .before .before .pre .0) _ (c .before .before .before .before .before .before .before .before .before .before .before .threads .ensures) _ (c .before .before .before .before .before .before .before .ready .ensures) _ (c .before .before .before .clock .ensures) in
+    (f .shaped .roomy, k .1, f .shaped .messages, marks-of (k .0) (c .before .before .before .before .before .before .before .before .before .before .before .before .before .before .pre .1))
 
 runner-requires : tie.Need-runner-requires
 unfolding Shaped
-runner-requires c κs =
-    let at-messages = c .before .before .before in
-    let at-clock = at-messages .before .before .before .before in
-    let at-ready = at-clock .before .before .before .before in
-    let at-threads = at-ready .before .before .before .before in
-    let s = at-threads .before .before .before in
-    left₄ (s .args .m .now) (s .pre) _ (at-threads .threads .ensures) _ (at-ready .ready .ensures) _ (at-clock .clock .ensures) _ (at-messages .messages .ensures) .shaped .roomy
+runner-requires c κs = left₄ (c .before .before .before .before .before .before .before .before .before .before .before .before .before .before .before .before .before .before .args .m .now) (c .before .before .before .before .before .before .before .before .before .before .before .before .before .before .before .before .before .before .pre .0) _ (c .before .before .before .before .before .before .before .before .before .before .before .before .before .before .before .threads .ensures) _ (c .before .before .before .before .before .before .before .before .before .before .before .ready .ensures) _ (c .before .before .before .before .before .before .before .clock .ensures) _ (c .before .before .before .messages .ensures) .shaped .roomy
 
 enum-told : tie.Need-enum-told
 enum-told c = search needs
@@ -57,66 +41,31 @@ enum-known-r : tie.Need-enum-known-r
 enum-known-r c = search needs
 
 is-member-requires : tie.Need-is-member-requires
-unfolding Shaped
-is-member-requires c κs =
-    let at-messages = c .before .before .before .before .before .before .before .before in
-    let at-clock = at-messages .before .before .before .before in
-    let at-ready = at-clock .before .before .before .before in
-    let at-threads = at-ready .before .before .before .before in
-    let s = at-threads .before .before .before in
-    (left₄ (s .args .m .now) (s .pre) _ (at-threads .threads .ensures) _ (at-ready .ready .ensures) _ (at-clock .clock .ensures) _ (at-messages .messages .ensures) .shaped .roomy, kept₄ (s .args .m .now) (s .pre) _ (at-threads .threads .ensures) _ (at-ready .ready .ensures) _ (at-clock .clock .ensures) _ (at-messages .messages .ensures) .1)
+unfolding Shaped found
+is-member-requires c κs = let k = kept₄ (c .before .before .before .before .before .before .before .before .before .before .before .before .before .before .before .before .before .before .before .before .before .before .before .args .m .now) (c .before .before .before .before .before .before .before .before .before .before .before .before .before .before .before .before .before .before .before .before .before .before .before .pre .0) _ (c .before .before .before .before .before .before .before .before .before .before .before .before .before .before .before .before .before .before .before .before .threads .ensures) _ (c .before .before .before .before .before .before .before .before .before .before .before .before .before .before .before .before .ready .ensures) _ (c .before .before .before .before .before .before .before .before .before .before .before .before .clock .ensures) _ (c .before .before .before .before .before .before .before .before .messages .ensures) in
+    (left₄ (c .before .before .before .before .before .before .before .before .before .before .before .before .before .before .before .before .before .before .before .before .before .before .before .args .m .now) (c .before .before .before .before .before .before .before .before .before .before .before .before .before .before .before .before .before .before .before .before .before .before .before .pre .0) _ (c .before .before .before .before .before .before .before .before .before .before .before .before .before .before .before .before .before .before .before .before .threads .ensures) _ (c .before .before .before .before .before .before .before .before .before .before .before .before .before .before .before .before .ready .ensures) _ (c .before .before .before .before .before .before .before .before .before .before .before .before .clock .ensures) _ (c .before .before .before .before .before .before .before .before .messages .ensures) .shaped .roomy, k .1, marks-of (k .0) (c .before .before .before .before .before .before .before .before .before .before .before .before .before .before .before .before .before .before .before .before .before .before .before .pre .1))
 
 set-runner-requires : tie.Need-set-runner-requires
 unfolding Shaped
-set-runner-requires c κs =
-    let at-messages = c .before .before .before .before .before .before .before .before .before .before .before in
-    let at-clock = at-messages .before .before .before .before in
-    let at-ready = at-clock .before .before .before .before in
-    let at-threads = at-ready .before .before .before .before in
-    let s = at-threads .before .before .before in
-    left₄ (s .args .m .now) (s .pre) _ (at-threads .threads .ensures) _ (at-ready .ready .ensures) _ (at-clock .clock .ensures) _ (at-messages .messages .ensures) .shaped .roomy
+set-runner-requires c κs = left₄ (c .before .before .before .before .before .before .before .before .before .before .before .before .before .before .before .before .before .before .before .before .before .before .before .before .before .before .args .m .now) (c .before .before .before .before .before .before .before .before .before .before .before .before .before .before .before .before .before .before .before .before .before .before .before .before .before .before .pre .0) _ (c .before .before .before .before .before .before .before .before .before .before .before .before .before .before .before .before .before .before .before .before .before .before .before .threads .ensures) _ (c .before .before .before .before .before .before .before .before .before .before .before .before .before .before .before .before .before .before .before .ready .ensures) _ (c .before .before .before .before .before .before .before .before .before .before .before .before .before .before .before .clock .ensures) _ (c .before .before .before .before .before .before .before .before .before .before .before .messages .ensures) .shaped .roomy
 
 same-length : tie.Need-same-length
 same-length c = search needs
 
 returns : tie.Need-returns
-returns c =
-    let at-messages = c .before .before .before .before .before .before in
-    let at-clock = at-messages .before .before .before .before in
-    let at-ready = at-clock .before .before .before .before in
-    let at-threads = at-ready .before .before .before .before in
-    let s = at-threads .before .before .before in
-    removed-idle (s .args .m .now) (s .pre) _ (at-threads .threads .ensures) _ (at-ready .ready .ensures) _ (at-clock .clock .ensures) _ (at-messages .messages .ensures) _ (c .before .before .runner .ensures) (c .enum-told .given .1)
+returns c = removed-idle (c .before .before .before .before .before .before .before .before .before .before .before .before .before .before .before .before .before .before .before .before .before .args .m .now) (c .before .before .before .before .before .before .before .before .before .before .before .before .before .before .before .before .before .before .before .before .before .pre .0) _ (c .before .before .before .before .before .before .before .before .before .before .before .before .before .before .before .before .before .before .threads .ensures) _ (c .before .before .before .before .before .before .before .before .before .before .before .before .before .before .ready .ensures) _ (c .before .before .before .before .before .before .before .before .before .before .clock .ensures) _ (c .before .before .before .before .before .before .messages .ensures) _ (c .before .before .runner .ensures) (c .enum-told .given .1)
 
 same-length-2 : tie.Need-same-length-2
 same-length-2 c = search needs
 
 returns-2 : tie.Need-returns-2
-returns-2 c =
-    let at-if1 = c .before .before .before .before in
-    let at-is-member = at-if1 .before in
-    let at-r = at-is-member .before .before .before in
-    let at-runner = at-r .before .before in
-    let at-messages = at-runner .before .before .before .before in
-    let at-clock = at-messages .before .before .before .before in
-    let at-ready = at-clock .before .before .before .before in
-    let at-threads = at-ready .before .before .before .before in
-    let s = at-threads .before .before .before in
-    removed-ends (s .args .m .now) (s .pre) _ (at-threads .threads .ensures) _ (at-ready .ready .ensures) _ (at-clock .clock .ensures) _ (at-messages .messages .ensures) _ _ _ (at-runner .runner .ensures) (at-r .r .given .1) _ (sym (at-is-member .is-member .ensures) ∙ at-if1 .if1 .taken) (c .before .before .set-runner .ensures)
+returns-2 c = removed-ends (c .before .before .before .before .before .before .before .before .before .before .before .before .before .before .before .before .before .before .before .before .before .before .before .before .before .before .before .before .before .args .m .now) (c .before .before .before .before .before .before .before .before .before .before .before .before .before .before .before .before .before .before .before .before .before .before .before .before .before .before .before .before .before .pre .0) _ (c .before .before .before .before .before .before .before .before .before .before .before .before .before .before .before .before .before .before .before .before .before .before .before .before .before .before .threads .ensures) _ (c .before .before .before .before .before .before .before .before .before .before .before .before .before .before .before .before .before .before .before .before .before .before .ready .ensures) _ (c .before .before .before .before .before .before .before .before .before .before .before .before .before .before .before .before .before .before .clock .ensures) _ (c .before .before .before .before .before .before .before .before .before .before .before .before .before .before .messages .ensures) _ _ _ (c .before .before .before .before .before .before .before .before .before .before .runner .ensures) (c .before .before .before .before .before .before .before .before .r .given .1) _ (sym (c .before .before .before .before .before .is-member .ensures) ∙ c .before .before .before .before .if1 .taken) (c .before .before .set-runner .ensures)
 
 same-length-3 : tie.Need-same-length-3
 same-length-3 c = search needs
 
 returns-3 : tie.Need-returns-3
-returns-3 c =
-    let at-r = c .before .before .before .before in
-    let at-runner = at-r .before .before in
-    let at-messages = at-runner .before .before .before .before in
-    let at-clock = at-messages .before .before .before .before in
-    let at-ready = at-clock .before .before .before .before in
-    let at-threads = at-ready .before .before .before .before in
-    let s = at-threads .before .before .before in
-    removed-stays (s .args .m .now) (s .pre) _ (at-threads .threads .ensures) _ (at-ready .ready .ensures) _ (at-clock .clock .ensures) _ (at-messages .messages .ensures) _ _ _ (at-runner .runner .ensures) (at-r .r .given .1) (sym (c .before .is-member .ensures) ∙ c .if1 .left)
+returns-3 c = removed-stays (c .before .before .before .before .before .before .before .before .before .before .before .before .before .before .before .before .before .before .before .before .before .before .before .before .before .args .m .now) (c .before .before .before .before .before .before .before .before .before .before .before .before .before .before .before .before .before .before .before .before .before .before .before .before .before .pre .0) _ (c .before .before .before .before .before .before .before .before .before .before .before .before .before .before .before .before .before .before .before .before .before .before .threads .ensures) _ (c .before .before .before .before .before .before .before .before .before .before .before .before .before .before .before .before .before .before .ready .ensures) _ (c .before .before .before .before .before .before .before .before .before .before .before .before .before .before .clock .ensures) _ (c .before .before .before .before .before .before .before .before .before .before .messages .ensures) _ _ _ (c .before .before .before .before .before .before .runner .ensures) (c .before .before .before .before .r .given .1) (sym (c .before .is-member .ensures) ∙ c .if1 .left)
 
 pub remove-ended-spec : {M : Type 1} → statement M
 remove-ended-spec = tie.close (tie.spec threads-requires ready-requires clock-requires messages-requires runner-requires enum-told enum-known-r is-member-requires set-runner-requires same-length returns same-length-2 returns-2 same-length-3 returns-3)
