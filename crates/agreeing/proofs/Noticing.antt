@@ -26,7 +26,7 @@ use Rattle.indexing.proofs.Passing.{few, counted, threads-whole, messages-whole
 use Rattle.store.specs.Store.{Shaped}
 use Rattle.memory.specs.Memory.{rows-of}
 use Rattle.indexing.specs.Marks.{Marked}
-use Rattle.indexing.proofs.Both.{fails-first}
+use Rattle.laws.proofs.Both.{fails-first}
 use Rattle.indexing.proofs.Looking.{found-and, no-and}
 use Rattle.indexing.proofs.Marking.{none-marked, still-marked, marked-there, count-first, count-within, all-places, one-fails}
 

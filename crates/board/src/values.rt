@@ -1,10 +1,10 @@
 // The step by value under its entry, its decision as numbers, and the sizes.
-use rules::codes;
 use crate::Report;
 use crate::Served;
 use lending::Tables;
 use lending::step;
 use rules::Decision;
+use rules::codes;
 ghost use mathlib.Core.Path.{_≡_};
 ghost use Rattle.board.specs.Board.{report-of, Steps};
 

@@ -14,7 +14,7 @@ use Rattle.words.specs.Saying.{word}
 use Rattle.memory.specs.Layout.{size, most-blocks}
 use Rattle.memory.specs.Memory.{rows-of}
 use Rattle.store.specs.Store.{Shaped, limits}
-use Rattle.checking.specs.Stands.{shaped}
+use Rattle.memory.specs.Shape.{shaped}
 
 -- ---- tests in a row
 

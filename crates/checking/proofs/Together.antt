@@ -11,7 +11,7 @@ use Rattle.rules.specs.Tables.{Tables}
 use Rattle.rules.specs.TableRules.{ranges, names-right, parents-right, places-agree, devices-right, names-live, trapped-right, inboxes-right, messages-right, notices-right, runner-right, answers-right, orders-right, table-tests, table-rules}
 use Rattle.laws.proofs.Tests.{and-true, three}
 use Rattle.laws.proofs.Ordered.{up-once}
-use Rattle.indexing.proofs.Both.{fails-at}
+use Rattle.laws.proofs.Both.{fails-at}
 
 -- ---- of any tests
 

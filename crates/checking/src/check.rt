@@ -1,6 +1,6 @@
 // The check of a memory of any length and contents.
 use crate::rules_met;
-use crate::shape;
+use memory::memory as rows;
 use rules::numbers;
 ghost use mathlib.Core.Path.{_≡_};
 ghost use Prim.Native.Nat.{_<_, _≤_};
@@ -13,7 +13,7 @@ pub fn check_for(m: &[u32], threads: u32, blocks: u32) -> bool
     requires { ⌜ (threads < names) × (blocks ≤ most-blocks) ⌝ }
     ensures { λ b. ⌜ b ≡ stands (record { threads = threads; blocks = blocks }) (now (m .entry)) ⌝ }
 {
-    if !shape::shaped(m, threads, blocks) {
+    if !rows::shaped(m, threads, blocks) {
         return false;
     }
     rules_met::rules_met(m)

@@ -3,4 +3,3 @@
 // the index (crates/indexing).
 pub mod check;
 pub mod rules_met;
-pub mod shape;

@@ -1,11 +1,11 @@
 // All the table rules. Orders, ranges and names come first: later tests rest on them. The index of names is made once, and lent.
 use agreeing::answers;
-use ranging::devices;
 use agreeing::inboxes;
-use indexing::index;
 use agreeing::managers;
-use ranging::parents;
 use agreeing::places;
+use indexing::index;
+use ranging::devices;
+use ranging::parents;
 use ranging::ranges;
 ghost use mathlib.Core.Path.{_≡_};
 ghost use mathlib.Core.Bool.{_&&_};

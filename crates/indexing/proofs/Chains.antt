@@ -9,7 +9,7 @@ use lib.ListN.{length, take, drop, getD, length-drop}
 use lib.Seq.{length-take-le}
 use Rattle.rules.specs.Lists.{chain}
 use Rattle.moving.proofs.Loops.{cut-cons}
-use Rattle.indexing.proofs.Both.{fails-first, and-then}
+use Rattle.laws.proofs.Both.{fails-first, and-then}
 
 module _ {A : Type 0} (r : A → A → Bool) where
   chain-short : (l : List A) → length l ≤ 1 → chain r l ≡ true

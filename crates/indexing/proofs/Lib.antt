@@ -1,4 +1,3 @@
-pub mod Both
 pub mod Chains
 pub mod Indexing
 pub mod Looking

@@ -1,8 +1,8 @@
 // Reads a dump on standard input. First line: 0, or the refusal. Then a line for each field: the tag, and its values in decimal.
+use lines::decimal;
+use lines::tables;
 use loading::load;
 use printing::Span;
-use printing::decimal;
-use printing::tables;
 use printing::window;
 ghost use mathlib.Core.Path.{_≡_};
 ghost use Prim.Native.Nat.{_≤_};

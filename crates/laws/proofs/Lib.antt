@@ -48,3 +48,4 @@ pub mod Lives
 pub mod Flaws
 pub mod Entries
 pub mod Said
+pub mod Both

@@ -14,7 +14,8 @@ use Rattle.laws.proofs.Tests.{and-right}
 use Rattle.laws.proofs.Determinacy.{determined}
 use Rattle.laws.proofs.Dump.{dump-tells}
 use Rattle.store.specs.Store.{tables}
-use Rattle.checking.specs.Stands.{shaped, stands}
+use Rattle.memory.specs.Shape.{shaped}
+use Rattle.checking.specs.Stands.{stands}
 use Rattle.loading.specs.Loading.{Loads}
 use Rattle.loading.proofs.Promises.{load-in-determined}
 use Rattle.lending.specs.Lent.{valid, Answered, Started}

@@ -16,7 +16,8 @@ use Rattle.laws.proofs.Kept.{start-ruled}
 use Rattle.store.specs.Store.{limits, tables, Holding}
 use Rattle.handling.specs.Standing.{Stands}
 use Rattle.stepping.specs.Stepping.{Steps}
-use Rattle.checking.specs.Stands.{shaped, stands}
+use Rattle.memory.specs.Shape.{shaped}
+use Rattle.checking.specs.Stands.{stands}
 use Rattle.checking.proofs.Shapes.{own-limits, shaped-right, right-shaped}
 use Rattle.lending.specs.Lent.{no-tables, Answered, Started}
 

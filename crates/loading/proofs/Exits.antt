@@ -22,7 +22,8 @@ use Rattle.laws.proofs.DumpLength.{dump-fits-small}
 use Rattle.laws.proofs.Dump.{load-dump, load-is-dump}
 use Rattle.laws.proofs.Members.{same-true}
 use Rattle.store.specs.Store.{tables}
-use Rattle.checking.specs.Stands.{shaped, stands}
+use Rattle.memory.specs.Shape.{shaped}
+use Rattle.checking.specs.Stands.{stands}
 use Rattle.checking.proofs.Shapes.{shaped-right, right-shaped}
 use Rattle.buffer.specs.Puts.{Puts}
 use Rattle.dumping.specs.Dumping.{Dumpable}

@@ -20,7 +20,8 @@ use Rattle.memory.proofs.Rowing.{row-same, each-same, part-word}
 use Rattle.memory.proofs.Changes.{told, rows-told, words}
 use Rattle.moving.proofs.Steps.{by}
 use Rattle.store.specs.Store.{limits, tables, Shaped}
-use Rattle.checking.specs.Stands.{shaped, stands}
+use Rattle.memory.specs.Shape.{shaped}
+use Rattle.checking.specs.Stands.{stands}
 use Rattle.checking.proofs.Shapes.{own-limits, shaped-right, right-shaped}
 
 -- ---- the loop that copies

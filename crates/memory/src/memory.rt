@@ -17,10 +17,11 @@ ghost use Prim.Native.Nat.{_+_, _≤_, _<_};
 ghost use lib.Dec.{ltb};
 ghost use lib.ListN.{getD, set, length, take, drop};
 ghost use Rattle.rules.specs.Lists.{all, any, keep};
-ghost use Rattle.rules.specs.Numbers.{devices};
+ghost use Rattle.rules.specs.Numbers.{names, devices};
 ghost use Rattle.rules.specs.Tables.{in-state, with-ticks, with-managers, set-entry, manager as manager-of};
 ghost use Rattle.rules.specs.Interrupt.{held-for, hold as hold-of};
-ghost use Rattle.memory.specs.Layout.{manager-place};
+ghost use Rattle.memory.specs.Layout.{most-blocks, manager-place};
+ghost use Rattle.memory.specs.Shape.{shaped as shaped-of};
 ghost use Rattle.memory.specs.Rows.{Room, Roomy, view, nothing, word-for, no-thread, no-message, put-last, put-runner, put-since, put-beats, put-count, put-readies, put-clocks, put-letters, put-ends, put-threads, put-ready, put-clock, put-messages, put-held, put-ended};
 ghost use Rattle.memory.specs.Memory.{part, rows-of};
 
@@ -555,4 +556,34 @@ pub fn clear(m: &mut [u32], threads: u32, blocks: u32)
     m[LETTERS] = 0;
     set_runner(m, Runner::NoRunner);
     clear_all_held(m);
+}
+
+// ---- a memory of any length and contents
+
+// Is it long enough for these limits, and has it them and counts within them in its head?
+pub fn shaped(m: &[u32], threads: u32, blocks: u32) -> bool
+    requires { ⌜ (threads < names) × (blocks ≤ most-blocks) ⌝ }
+    ensures { λ b. ⌜ b ≡ shaped-of (record { threads = threads; blocks = blocks }) (now (m .entry)) ⌝ }
+{
+    let messages = threads + blocks;
+    let need = THREADS + (threads as usize) * RECORD + (messages as usize) * MESSAGE;
+    if m.len() < need {
+        return false;
+    }
+    if m[LIMIT] != threads {
+        return false;
+    }
+    if m[BLOCKS] != blocks {
+        return false;
+    }
+    if m[COUNT] > threads {
+        return false;
+    }
+    if m[READIES] > threads {
+        return false;
+    }
+    if m[CLOCKS] > threads {
+        return false;
+    }
+    m[LETTERS] <= messages
 }

@@ -1,6 +1,6 @@
 // The event program: events on standard input, a line for each field on standard output, and the last line.
 // A thin loop over the rounds of crates/stream. No contract can say what is read or written.
-use printing::last;
+use lines::last;
 ghost use Prim.Native.Nat.{_≤_};
 ghost use lib.ListN.{length};
 

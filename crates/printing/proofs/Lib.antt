@@ -1,8 +1,4 @@
-pub mod Numerals
-pub mod NumberLines
-pub mod Entries
-pub mod Parts
+pub mod Moving
 pub mod Streams
 pub mod Turning
 pub mod Whole
-pub mod Moving

@@ -15,8 +15,9 @@ use Rattle.rules.specs.Step.{Stepped, step}
 use Rattle.rules.specs.Runs.{Input}
 use Rattle.fields.specs.Fields.{field-size, whole}
 use Rattle.fields.proofs.Sizes.{size-some, size-within}
-use Rattle.printing.specs.Text.{line}
-use Rattle.printing.specs.Printing.{last-line, prints-in, prints, fields-in, fields}
+use Rattle.lines.specs.Text.{line}
+use Rattle.lines.specs.Text.{last-line}
+use Rattle.printing.specs.Printing.{prints-in, prints, fields-in, fields}
 
 -- ---- the first field
 

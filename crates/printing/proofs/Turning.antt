@@ -26,7 +26,7 @@ use Rattle.fields.proofs.Sizes.{size-some}
 use Rattle.buffer.specs.Puts.{Puts}
 use Rattle.buffer.proofs.Putting.{rest, back, behind, said, room, puts-none}
 use Rattle.printing.specs.declared.Turned.{Turned}
-use Rattle.printing.specs.Text.{line}
+use Rattle.lines.specs.Text.{line}
 use Rattle.printing.specs.Printing.{prints, fields, Standing, Turns}
 use Rattle.printing.proofs.Streams.{size-whole, size-last, first-step, past-first, prints-field, fields-field}
 

@@ -9,7 +9,8 @@ use Rattle.rules.specs.Tables.{Tables, start}
 use Rattle.rules.specs.Dispatch.{status}
 use Rattle.store.specs.Store.{tables}
 use Rattle.printing.specs.declared.Turned.{Turned}
-use Rattle.printing.specs.Printing.{last-line, prints, output, Turns}
+use Rattle.lines.specs.Text.{last-line}
+use Rattle.printing.specs.Printing.{prints, output, Turns}
 use Rattle.printing.proofs.Streams.{prints-none}
 
 -- A turn, a piece of input read behind what it left, and another turn: the lines of both, and then what the rest prints.

@@ -1,4 +1,3 @@
-pub mod Text
 pub mod Printing
 pub mod Input
 pub mod Listing

@@ -8,8 +8,9 @@ use mathlib.Core.List.{List, [], _∷_, _++_}
 use Rattle.rules.specs.Lists.{each}
 use Rattle.rules.specs.Opened.{opened}
 use Rattle.fields.specs.Fields.{field-size}
-use Rattle.printing.specs.Text.{decimal-in, numbers-line}
-use Rattle.printing.specs.Printing.{last-line, prints-in, output}
+use Rattle.lines.specs.Text.{decimal-in, numbers-line}
+use Rattle.lines.specs.Text.{last-line}
+use Rattle.printing.specs.Printing.{prints-in, output}
 
 -- a text in ASCII, as bytes
 unfoldable pub ascii : String → List ℕ

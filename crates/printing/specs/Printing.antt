@@ -11,20 +11,11 @@ use Rattle.rules.specs.Tables.{Tables, start}
 use Rattle.rules.specs.Dispatch.{status}
 use Rattle.rules.specs.Step.{step}
 use Rattle.rules.specs.Runs.{Input, run}
-use Rattle.rules.specs.declared.Status.{Status}
-use Rattle.rules.specs.declared.Status.the-variants.{Running, Idle, Halted, Panicked}
 use Rattle.store.specs.Store.{limits, tables}
 use Rattle.handling.specs.Standing.{Stands}
 use Rattle.fields.specs.Fields.{field-size, whole}
-use Rattle.printing.specs.Text.{line}
+use Rattle.lines.specs.Text.{line, last-line}
 use Rattle.printing.specs.declared.Turned.{Turned}
-
--- "The last line is `SYSTEM HALTED`, `KERNEL PANIC` or `SYSTEM UP`."
-unfoldable pub last-line : Status → List ℕ
-last-line Halted = 83 ∷ 89 ∷ 83 ∷ 84 ∷ 69 ∷ 77 ∷ 32 ∷ 72 ∷ 65 ∷ 76 ∷ 84 ∷ 69 ∷ 68 ∷ 10 ∷ []
-last-line Panicked = 75 ∷ 69 ∷ 82 ∷ 78 ∷ 69 ∷ 76 ∷ 32 ∷ 80 ∷ 65 ∷ 78 ∷ 73 ∷ 67 ∷ 10 ∷ []
-last-line Running = 83 ∷ 89 ∷ 83 ∷ 84 ∷ 69 ∷ 77 ∷ 32 ∷ 85 ∷ 80 ∷ 10 ∷ []
-last-line Idle = 83 ∷ 89 ∷ 83 ∷ 84 ∷ 69 ∷ 77 ∷ 32 ∷ 85 ∷ 80 ∷ 10 ∷ []
 
 -- "prints per field one line", then the last line; at most n fields
 unfoldable pub prints-in : ℕ → ℕ → Tables → List ℕ → List ℕ

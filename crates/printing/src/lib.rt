@@ -1,8 +1,4 @@
-// What the programs print, and one turn of the event program.
-pub mod decimal;
-pub mod last;
-pub mod line;
-pub mod tables;
+// One turn of the event program, and the window over its input.
 pub mod turn;
 pub mod window;
 

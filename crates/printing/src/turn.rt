@@ -1,6 +1,6 @@
 // One turn of the event program: the fields that have been read are served, and their lines put into a buffer.
 use crate::Turned;
-use crate::line;
+use lines::line;
 use stepping::step;
 ghost use Prim.Native.Nat.{_+_, _<_};
 ghost use lib.ListN.{length};

@@ -1,25 +1,9 @@
-// The head: limits, name given last, runner, time.
+// The head: name given last, runner, time.
 use memory::memory as rows;
 use rules::Runner;
 ghost use mathlib.Core.Path.{_≡_};
 ghost use Rattle.rules.specs.Tables.{with-last, with-runner, with-time};
-ghost use Rattle.store.specs.Store.{limits, tables, Shaped, Holding, Leaves};
-
-// How many threads there can be.
-pub fn thread_limit(m: &[u32]) -> usize
-    requires { ⌜ Shaped (now m) ⌝ }
-    ensures { λ r. ⌜ r ≡ limits (now (m .entry)) .threads ⌝ }
-{
-    rows::limit(m)
-}
-
-// How many ordinary messages there can be in inboxes.
-pub fn block_limit(m: &[u32]) -> usize
-    requires { ⌜ Shaped (now m) ⌝ }
-    ensures { λ r. ⌜ r ≡ limits (now (m .entry)) .blocks ⌝ }
-{
-    rows::blocks(m)
-}
+ghost use Rattle.store.specs.Store.{tables, Shaped, Holding, Leaves};
 
 // The name given last.
 pub fn last(m: &[u32]) -> u8

@@ -20,9 +20,10 @@ use Rattle.laws.proofs.Tests.{or-cases}
 use Rattle.store.specs.Store.{tables}
 use Rattle.fields.specs.Fields.{field-size, whole}
 use Rattle.printing.specs.declared.Turned.{Turned}
-use Rattle.printing.specs.Text.{line}
-use Rattle.printing.specs.Printing.{last-line, prints, Turns}
-use Rattle.printing.proofs.NumberLines.{line-few}
+use Rattle.lines.specs.Text.{line}
+use Rattle.lines.specs.Text.{last-line}
+use Rattle.printing.specs.Printing.{prints, Turns}
+use Rattle.lines.proofs.NumberLines.{line-few}
 use Rattle.printing.proofs.Streams.{first-step, past-first, prints-none, prints-first}
 
 none-whole : {w : List ℕ} → w ≡ [] → whole w ≡ false

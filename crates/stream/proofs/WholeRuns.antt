@@ -20,7 +20,8 @@ use Rattle.io.specs.Counts.{clamped}
 use Rattle.printing.specs.declared.Span.{Span}
 use Rattle.printing.specs.declared.Turned.{Turned}
 use Rattle.printing.specs.Input.{waiting, is-end}
-use Rattle.printing.specs.Printing.{last-line, prints, output, fields, fields-in}
+use Rattle.lines.specs.Text.{last-line}
+use Rattle.printing.specs.Printing.{prints, output, fields, fields-in}
 use Rattle.printing.proofs.Streams.{prints-none}
 use Rattle.stream.specs.declared.Run.{Run}
 use Rattle.stream.specs.Stream.{window, Right, Begins, after-turn, Serves, Reads, Rounds}

@@ -13,7 +13,7 @@ use Rattle.memory.specs.Rows.{no-message}
 use Rattle.memory.specs.Memory.{rows-of}
 use Rattle.moving.proofs.Loops.{Counted, count-starts, count-more, count-skips, count-ends}
 use Rattle.store.specs.Store.{tables, limits}
-use Rattle.indexing.proofs.Both.{fails-first, and-then}
+use Rattle.laws.proofs.Both.{fails-first, and-then}
 use Rattle.agreeing.proofs.Inboxing.{ends-live}
 use Rattle.indexing.proofs.Passing.{Over, over-starts, over-next, over-fails, over-ends, less, not-less, roomy, messages-whole, message-reach}
 use Rattle.agreeing.proofs.inboxes.messages_right.Statement.{statement}

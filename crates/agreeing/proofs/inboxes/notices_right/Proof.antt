@@ -11,7 +11,7 @@ use Rattle.laws.proofs.Words.{Thread, Message}
 use Rattle.memory.specs.Rows.{no-thread, no-message}
 use Rattle.memory.specs.Memory.{rows-of}
 use Rattle.store.specs.Store.{tables}
-use Rattle.indexing.proofs.Both.{failed, passed}
+use Rattle.laws.proofs.Both.{failed, passed}
 use Rattle.agreeing.proofs.Inboxing.{from-place}
 use Rattle.agreeing.proofs.Noticing.{Noticed, notice-starts, notice-skips, no-sender, not-trapped, met-before, met-now, notice-ends}
 use Rattle.indexing.proofs.Passing.{roomy, few, counted, message-reach}

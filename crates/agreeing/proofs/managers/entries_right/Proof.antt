@@ -2,7 +2,7 @@
 -- Assumes nothing.
 use borrow.Author.Needs.{needs}
 use Rattle.rules.specs.Tables.{manager}
-use Rattle.indexing.proofs.Both.{failed, passed}
+use Rattle.laws.proofs.Both.{failed, passed}
 use Rattle.indexing.proofs.Standing.{entry-read}
 use Rattle.agreeing.proofs.managers.entries_right.Statement.{statement}
 use Rattle.agreeing.proofs.managers.entries_right.Tie as tie

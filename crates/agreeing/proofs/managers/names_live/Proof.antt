@@ -10,7 +10,7 @@ use Rattle.laws.proofs.Words.{Thread, State}
 use Rattle.memory.specs.Rows.{view, no-thread}
 use Rattle.memory.specs.Memory.{rows-of}
 use Rattle.store.specs.Store.{tables}
-use Rattle.indexing.proofs.Both.{fails-first, and-then, failed, passed}
+use Rattle.laws.proofs.Both.{fails-first, and-then, failed, passed}
 use Rattle.indexing.proofs.Passing.{Over, over-starts, over-next, over-fails, over-ends, roomy, threads-whole, thread-reach, read-length}
 use Rattle.agreeing.proofs.managers.names_live.Statement.{statement}
 use Rattle.agreeing.proofs.managers.names_live.Tie as tie

@@ -3,7 +3,7 @@
 use native.Mathlib.Omega.{arith}
 use borrow.Author.Needs.{needs}
 use Rattle.store.specs.Store.{tables}
-use Rattle.indexing.proofs.Both.{failed, passed}
+use Rattle.laws.proofs.Both.{failed, passed}
 use Rattle.indexing.proofs.Passing.{roomy, ready-counted, clock-counted, read-length}
 use Rattle.indexing.proofs.Standing.{runner-read, queue-read}
 use Rattle.agreeing.proofs.places.places_agree.Statement.{statement}

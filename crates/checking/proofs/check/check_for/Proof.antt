@@ -5,7 +5,7 @@ use Rattle.rules.specs.Numbers.{Limits}
 use Rattle.rules.specs.TableRules.{table-rules}
 use Rattle.store.specs.Store.{tables}
 use Rattle.checking.specs.Stands.{stands}
-use Rattle.indexing.proofs.Both.{fails-first, and-then, failed, passed}
+use Rattle.laws.proofs.Both.{fails-first, and-then, failed, passed}
 use Rattle.checking.proofs.Shapes.{own-limits, shaped-right}
 use Rattle.checking.proofs.check.check_for.Statement.{statement}
 use Rattle.checking.proofs.check.check_for.Tie as tie

@@ -2,7 +2,7 @@
 -- Assumes nothing.
 use mathlib.Core.Path.{_∙_}
 use Rattle.store.specs.Store.{tables, limits}
-use Rattle.indexing.proofs.Both.{failed, passed}
+use Rattle.laws.proofs.Both.{failed, passed}
 use Rattle.checking.proofs.Together.{broken-at, broken-messages, three-left, names-once}
 use Rattle.checking.proofs.rules_met.rules_met.Statement.{statement}
 use Rattle.checking.proofs.rules_met.rules_met.Tie as tie

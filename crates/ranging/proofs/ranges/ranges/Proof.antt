@@ -3,7 +3,7 @@
 use mathlib.Core.Path.{refl, sym, _∙_}
 use native.Mathlib.Omega.{arith}
 use Rattle.store.specs.Store.{tables}
-use Rattle.indexing.proofs.Both.{fails-first, and-then, failed, passed}
+use Rattle.laws.proofs.Both.{fails-first, and-then, failed, passed}
 use Rattle.indexing.proofs.Passing.{less, not-less, roomy}
 use Rattle.indexing.proofs.Wraps.{ranges-left}
 use Rattle.ranging.proofs.ranges.ranges.Statement.{statement}

@@ -1,0 +1,4 @@
+pub mod Numerals
+pub mod NumberLines
+pub mod Entries
+pub mod Parts
