@@ -1,9 +1,12 @@
 //! dumps ROUNDS FILE..: times writing and reading a full dump over the same tables in one run, by plain Rust, by the
 //! independent program and by the proved functions.
+//! dumps only NAME FILE: runs one of them once on the first 1,000 events of a file, for a profiler. NAME: one of WRITERS, or one of READERS behind a minus sign.
 //!
 //! A time is the best of ROUNDS, of 1,000 dumps each. The bytes must agree, and each must be written and read 1,000 times; a time is never a
 //! test.
 
+#[allow(dead_code)]
+mod proved;
 mod tables;
 mod timing;
 
@@ -27,7 +30,7 @@ type Meter = (&'static str, Run, Run);
 const WRITERS: [Meter; 5] = [
     ("plain", plain_dump, plain_steps),
     ("independent", independent_dump, independent_steps),
-    ("rows", rows_dump, rows_steps),
+    ("write_dump", proved::dump, proved::step),
     ("plain-checked", plain_dump_checked, plain_steps),
     ("independent-lent", independent_dump_lent, independent_steps),
 ];
@@ -36,33 +39,13 @@ const WRITERS: [Meter; 5] = [
 const READERS: [Meter; 5] = [
     ("plain", plain_load, nothing),
     ("independent", independent_load, nothing),
-    ("rows", rows_load, nothing),
+    ("load_in", proved::load, nothing),
     ("plain-checked", plain_load_checked, nothing),
     ("independent-lent", independent_load_lent, nothing),
 ];
 
 /// The place of plain-checked. What stands before it works on tables that are kept, what stands behind it on lent ones.
 const CHECKED: usize = 3;
-
-// The proved functions: a slice is a pointer, then a length. Any bytes will do: they have no `requires`.
-#[link(name = "meter", kind = "static")]
-extern "C" {
-    fn meter_rows(bytes: *const u8, length: usize) -> u64;
-    fn meter_dump(bytes: *const u8, length: usize) -> u64;
-    fn meter_load(bytes: *const u8, length: usize) -> u64;
-}
-
-fn rows_steps(events: &[u8]) -> u64 {
-    unsafe { meter_rows(events.as_ptr(), events.len()) }
-}
-
-fn rows_dump(events: &[u8]) -> u64 {
-    unsafe { meter_dump(events.as_ptr(), events.len()) }
-}
-
-fn rows_load(dump: &[u8]) -> u64 {
-    unsafe { meter_load(dump.as_ptr(), dump.len()) }
-}
 
 fn times(mut done: impl FnMut() -> bool) -> u64 {
     (0..TIMES).filter(|_| done()).count() as u64
@@ -175,10 +158,26 @@ fn compare<const N: usize>(rounds: usize, title: &str, meters: &[Meter; N], all:
     }
 }
 
+/// A meter of this name once, on typical tables.
+fn run_only(name: &str, file: &str) -> Option<u64> {
+    let filled = tables::typical(&[(file.to_string(), timing::read(file))]).pop()?;
+    let named = |meters: &[Meter], name: &str| meters.iter().find(|(other, ..)| *other == name).map(|(_, run, _)| *run);
+    match name.strip_prefix('-') {
+        Some(reader) => Some(named(&READERS, reader)?(&dump_of(&filled))),
+        None => Some(named(&WRITERS, name)?(&filled.events)),
+    }
+}
+
 fn main() -> ExitCode {
     let arguments: Vec<String> = std::env::args().skip(1).collect();
+    if let [Some("only"), Some(name), Some(file), None] = [0, 1, 2, 3].map(|place| arguments.get(place).map(String::as_str)) {
+        if let Some(count) = run_only(name, file) {
+            println!("{count}");
+            return ExitCode::SUCCESS;
+        }
+    }
     let Some((rounds, files)) = timing::files(&arguments) else {
-        eprintln!("usage: dumps ROUNDS FILE..");
+        eprintln!("usage: dumps ROUNDS FILE..  or  dumps only NAME FILE");
         return ExitCode::FAILURE;
     };
     let mut all = tables::typical(&files);

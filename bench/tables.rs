@@ -38,7 +38,7 @@ pub fn fill_head() -> String {
 pub fn typical(files: &[(String, Vec<u8>)]) -> Vec<Filled> {
     let cut = |(name, bytes): &(String, Vec<u8>)| {
         let part: usize = fields(bytes).take(1000).map(<[u8]>::len).sum();
-        let name = name.rsplit('/').next().unwrap_or(name);
+        let name = name.rsplit('/').next().unwrap_or(name).trim_end_matches(".events");
         Filled::new(name.to_string(), bytes[..part].to_vec())
     };
     files.iter().map(cut).collect()

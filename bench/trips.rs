@@ -2,16 +2,13 @@
 //! proved writer. The independent program says which bytes are a dump; what is written again must be those bytes.
 //! The last line is 'N passed, M failed'.
 
+#[allow(dead_code)]
+mod proved;
+
 use nucleus::damage::damage;
 use nucleus::load;
 use nucleus::valid::Dumps;
 use std::process::ExitCode;
-
-// The proved functions: a slice is a pointer, then a length.
-#[link(name = "meter", kind = "static")]
-extern "C" {
-    fn meter_again(bytes: *const u8, length: usize, out: *mut u8, room: usize) -> usize;
-}
 
 /// Always suffices.
 const BUFFER: usize = 1241;
@@ -19,8 +16,7 @@ const BUFFER: usize = 1241;
 /// What the proved writer gives of what the proved reader reads; nothing, if the bytes are no dump.
 fn again(bytes: &[u8]) -> Option<Vec<u8>> {
     let mut out = vec![0xA5; BUFFER];
-    // Any bytes and any buffer will do: the function has no `requires`.
-    let length = unsafe { meter_again(bytes.as_ptr(), bytes.len(), out.as_mut_ptr(), out.len()) };
+    let length = proved::again(bytes, &mut out);
     assert!(out[length..].iter().all(|&byte| byte == 0xA5), "bytes behind the dump have changed");
     out.truncate(length);
     (length > 0).then_some(out)

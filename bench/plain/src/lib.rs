@@ -12,20 +12,28 @@
 //! * `rules`    the table rules
 //! * `lent`     step, dump and load over lent tables, which are numbers alone
 //! * `dump`, `load`: the dump's writer and reader
+//!
+//! With the feature `big` (crate big) the limits are 64 threads and 128 blocks, and there is the step alone: the table rules here have sets of
+//! 32 places.
 
 #![forbid(unsafe_code)]
+#![cfg_attr(feature = "big", allow(dead_code))]
 
 mod dispatch;
+#[cfg(not(feature = "big"))]
 mod dump;
 mod ending;
 mod events;
 mod interrupt;
+#[cfg(not(feature = "big"))]
 pub mod lent;
+#[cfg(not(feature = "big"))]
 mod load;
 pub mod numbers;
 mod receive;
 mod requests;
 mod row;
+#[cfg(not(feature = "big"))]
 mod rules;
 mod send;
 mod step;
@@ -33,11 +41,12 @@ mod threads;
 mod tick;
 mod trap;
 
+#[cfg(not(feature = "big"))]
 pub use load::load;
 pub use step::Decision;
 pub use threads::Answer;
 
-use numbers::{DEVICES, FIRST, MESSAGES, NOBODY, SLICE, THREADS};
+use numbers::{DEVICES, FIRST, MESSAGES, NOBODY, ORDINARY, SLICE, THREADS};
 use row::Row;
 use threads::{Held, Message, State, Thread};
 
@@ -86,6 +95,19 @@ impl Plain {
         plain.slice = SLICE;
         plain.threads.push(Thread::new(FIRST, NOBODY, State::Running));
         plain
+    }
+
+    /// What the bench's busy files are made by: the live names, by rising name; how many of them could run at once; the ordinary messages.
+    pub fn live(&self) -> Vec<u8> {
+        self.threads.iter().map(|thread| thread.name).collect()
+    }
+
+    pub fn active(&self) -> usize {
+        self.threads.iter().filter(|thread| matches!(thread.state, State::Running | State::Ready)).count()
+    }
+
+    pub fn ordinary(&self) -> usize {
+        self.messages.iter().filter(|message| message.kind == ORDINARY).count()
     }
 
     /// The place of a live thread. A walk: over so few names a search by halves was slower when both were measured.

@@ -1,8 +1,8 @@
-//! The fixed numbers of document 01.
+//! The fixed numbers of document 01. The crate big is the same code with other limits.
 
-pub const THREADS: usize = 20;
+pub const THREADS: usize = if cfg!(feature = "big") { 64 } else { 20 };
 /// Blocks for ordinary messages.
-pub const BLOCKS: usize = 20;
+pub const BLOCKS: usize = if cfg!(feature = "big") { 128 } else { 20 };
 /// The ordinary messages, and a notice of each thread.
 pub const MESSAGES: usize = BLOCKS + THREADS;
 pub const DEVICES: usize = 48;

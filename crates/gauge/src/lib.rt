@@ -1,11 +1,26 @@
 // Functions for the programs of bench/, which time the engine in one memory. They only measure: a contract here says no more than its function needs
 // to be proved safe and to end. What a step does is promised where the step stands.
 use checking::check;
+use dumping::writing;
 use lending::WORDS;
 use lending::start;
+use loading::load;
 use stepping::step;
+ghost use mathlib.Core.Path.{_≡_};
+ghost use mathlib.Core.Bool.{true};
 ghost use Prim.Native.Nat.{_<_, _≤_};
+ghost use lib.ListN.{length};
+ghost use Rattle.rules.specs.Numbers.{small};
+ghost use Rattle.store.specs.Store.{limits};
 ghost use Rattle.handling.specs.Standing.{Stands};
+ghost use Rattle.checking.specs.Stands.{stands};
+ghost use Rattle.memory.specs.Layout.{size};
+
+// The words that tables of 64 threads and 128 blocks need.
+const BIG_WORDS: usize = 1968;
+
+// A dump has at most so many bytes.
+const LONGEST: usize = 1241;
 
 fn wide(b: u8) -> usize
     ensures { λ n. ⌜ n < 256 ⌝ }
@@ -32,7 +47,7 @@ fn field_end(s: &[u8], at: usize) -> usize
 // Every field of s, on a memory that stands: how many are accepted.
 fn run_in(m: &mut [u32], s: &[u8]) -> u64
     requires { ⌜ Stands (now m) ⌝ }
-    ensures { λ _. ⌜ Stands (now (m .exit)) ⌝ }
+    ensures { λ _. ⌜ Stands (now (m .exit)) × (limits (now (m .exit)) ≡ limits (now (m .entry))) ⌝ }
 {
     let mut accepted: u64 = 0;
     let mut at = 0;
@@ -70,6 +85,14 @@ pub extern "C" fn gauge_step(s: &[u8]) -> u64 {
     run_in(&mut m, s)
 }
 
+// The same at other limits: 64 threads and 128 blocks. No public step has them.
+#[no_mangle]
+pub extern "C" fn gauge_big(s: &[u8]) -> u64 {
+    let mut m = [0; BIG_WORDS];
+    stepping::start::start(&mut m, 64, 128);
+    run_in(&mut m, s)
+}
+
 // The same with the check at each event.
 #[no_mangle]
 pub extern "C" fn gauge_lent(s: &[u8]) -> u64 {
@@ -101,4 +124,92 @@ pub extern "C" fn gauge_check(s: &[u8]) -> u64 {
     start::start_in(&mut m);
     run_in(&mut m, s);
     passes(&mut m)
+}
+
+// How often, of 1,000 times, the dump of a memory is written.
+fn writes(m: &[u32], out: &mut [u8]) -> u64
+    requires { ⌜ (stands small (now m) ≡ true) × (1241 ≤ length (now out)) ⌝ }
+{
+    let mut written: u64 = 0;
+    let mut i: u32 = 0;
+    while i < 1000 {
+        let n = writing::write_dump(m, out);
+        if 0 < n {
+            written += 1;
+        }
+        i += 1;
+    }
+    written
+}
+
+// How often the dump of the memory that s leaves is written.
+#[no_mangle]
+pub extern "C" fn gauge_dump(s: &[u8]) -> u64 {
+    let mut m = [0; WORDS];
+    start::start_in(&mut m);
+    run_in(&mut m, s);
+    let mut out = [0; LONGEST];
+    writes(&m, &mut out)
+}
+
+// How often, of 1,000 times, the bytes are read as a dump.
+fn reads(m: &mut [u32], bytes: &[u8]) -> u64
+    requires { ⌜ size small ≤ length (now m) ⌝ }
+{
+    let mut good: u64 = 0;
+    let mut i: u32 = 0;
+    while i < 1000 {
+        let refusal = load::load_in(m, bytes);
+        if refusal == 0 {
+            good += 1;
+        }
+        i += 1;
+    }
+    good
+}
+
+// How often these bytes are read as a dump into one memory.
+#[no_mangle]
+pub extern "C" fn gauge_load(bytes: &[u8]) -> u64 {
+    let mut m = [0; WORDS];
+    reads(&mut m, bytes)
+}
+
+// Reads the bytes, and writes what was read into the buffer: the length, or 0 where they are no dump or the buffer is too short.
+#[no_mangle]
+pub extern "C" fn gauge_again(bytes: &[u8], out: &mut [u8]) -> usize {
+    if out.len() < LONGEST {
+        return 0;
+    }
+    let mut m = [0; WORDS];
+    let refusal = load::load_in(&mut m, bytes);
+    if refusal != 0 {
+        return 0;
+    }
+    writing::write_dump(&m, out)
+}
+
+// A start in a lent memory, if it is long enough.
+#[no_mangle]
+pub extern "C" fn gauge_start(m: &mut [u32]) {
+    if m.len() < WORDS {
+        return;
+    }
+    start::start_in(m);
+}
+
+// One step on a lent memory: its refusal. For the stack that it takes.
+#[no_mangle]
+pub extern "C" fn gauge_slice(m: &mut [u32], event: &[u8]) -> u8 {
+    let d = lending::step::step_in(m, event);
+    d.refusal
+}
+
+// One step by value, from a start: its refusal. For the stack that it takes.
+#[no_mangle]
+pub extern "C" fn gauge_value(event: &[u8]) -> u8 {
+    let t = start::start_value();
+    let o = lending::step::step_value(t, event);
+    let d = o.decision;
+    d.refusal
 }
