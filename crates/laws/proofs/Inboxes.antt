@@ -200,11 +200,11 @@ joins-end m (x ∷ ms) c = by-if (λ (l : List Message). keep (addressed (m .to)
     last h = rw (eq-eqb (m .to) (m .to) refl) (ap (λ (l : List Message). m ∷ l) (keep-none-of (addressed (m .to)) (x ∷ ms) (later h)) ∙ ap (λ (l : List Message). l ++ (m ∷ [])) (sym (keep-none-of (addressed (m .to)) (x ∷ ms) (later h))))
 
 -- a runner goes on
-runs-on : (o : Outcome) (n s : ℕ) → o .tables .runner ≡ Runs n s → dispatch o ≡ o
+pub runs-on : (o : Outcome) (n s : ℕ) → o .tables .runner ≡ Runs n s → dispatch o ≡ o
 unfolding dispatch
 runs-on o n s e = ap (by-runner (run-next (o .tables .ready) o) (λ m x. o)) e
 
-dispatch-messages : (o : Outcome) → dispatch o .tables .messages ≡ o .tables .messages
+pub dispatch-messages : (o : Outcome) → dispatch o .tables .messages ≡ o .tables .messages
 dispatch-messages o = by-dispatch (λ (U : Tables). U .messages ≡ o .tables .messages) o (λ _ _ _. refl) (λ _ _. refl) (λ n q _ _. unfold change in refl)
 
 module _ (L : Limits) (T : Tables) (R : Ruled L T) (bytes : List ℕ) (n : ℕ) (r : refusal L T (decode bytes) ≡ 0) where

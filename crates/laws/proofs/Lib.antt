@@ -39,6 +39,8 @@ pub mod Late
 pub mod Handed
 pub mod Due
 pub mod Inboxes
+pub mod Once
+pub mod Sent
 pub mod Rounds
 pub mod Naming
 pub mod Single
