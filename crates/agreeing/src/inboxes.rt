@@ -83,8 +83,7 @@ pub fn notices_right(m: &[u32], at: &[u8; 256]) -> bool
             if j >= n {
                 return false;
             }
-            let x = rows::thread_at(m, j);
-            if !states::awaits(l.to, x) {
+            if !rows::trapped_on_at(m, j, l.to) {
                 return false;
             }
             if seen[j] != 0 {

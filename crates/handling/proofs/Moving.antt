@@ -1,7 +1,7 @@
 -- The moves that events share, as one change after another.
 -- Assumes nothing.
 use Prim.Native.Nat.{ℕ, _≤_, _<_}
-use mathlib.Core.Path.{_≡_, refl, sym, ap, _∙_}
+use mathlib.Core.Path.{_≡_, refl, sym, _∙_}
 use mathlib.Core.Bool.{Bool, true, false}
 use mathlib.Core.List.{List, [], _∷_, _++_}
 use native.Mathlib.Omega.{arith}
@@ -11,7 +11,7 @@ use Rattle.rules.specs.Numbers.{Limits}
 use Rattle.rules.specs.Tables.{Tables, with-runner, with-ready, in-state, named, live, of-thread, change}
 use Rattle.rules.specs.States.{is-ready, receives}
 use Rattle.rules.specs.Waking.{accepts, wake, stop}
-use Rattle.laws.proofs.Words.{State, Running, Ready, Answer, Nothing, Thread, Message, NoRunner}
+use Rattle.laws.proofs.Words.{State, Ready, Answer, Nothing, Thread, Message, NoRunner}
 use Rattle.laws.proofs.Tests.{and-right}
 use Rattle.laws.proofs.Counting.{any-member}
 use Rattle.laws.proofs.Types.{Inv}
@@ -43,15 +43,14 @@ module _ {m m₁ m₂ : List ℕ} (n : ℕ) where
 
 -- whether a message is awaited is what its receiver's state says; of a receiver that is not there it says no
 pub awaited : (T : Tables) → ((n : ℕ) → count (named n) (T .threads) ≤ 1) → (x : Message) →
-    receives (x .from) (of-thread Running (λ t. t .state) (x .to) (T .threads)) ≡ any (accepts x) (T .threads)
+    of-thread false (λ t. receives (x .from) (t .state)) (x .to) (T .threads) ≡ any (accepts x) (T .threads)
 awaited T once x = go (live (x .to) T) refl
   where
-    go : (b : Bool) → live (x .to) T ≡ b → receives (x .from) (of-thread Running (λ t. t .state) (x .to) (T .threads)) ≡ any (accepts x) (T .threads)
+    go : (b : Bool) → live (x .to) T ≡ b → of-thread false (λ t. receives (x .from) (t .state)) (x .to) (T .threads) ≡ any (accepts x) (T .threads)
     go true e =
         let r = any-place (named (x .to)) (T .threads) e in
-        ap (receives (x .from)) (of-at T once (r .1) (r .0) (r .2) Running (λ t. t .state) (x .to) (r .3))
-        ∙ sym (accepts-at T once (r .1) (r .0) (r .2) x (r .3))
-    go false e = ap (receives (x .from)) (of-none T Running (λ t. t .state) (x .to) e) ∙ (unfold receives in sym (accepts-none T x e))
+        of-at T once (r .1) (r .0) (r .2) false (λ t. receives (x .from) (t .state)) (x .to) (r .3) ∙ sym (accepts-at T once (r .1) (r .0) (r .2) x (r .3))
+    go false e = of-none T false (λ t. receives (x .from) (t .state)) (x .to) e ∙ sym (accepts-none T x e)
 
 -- who is not ready has room in the ready queue
 pub woken-room : {L : Limits} (T : Tables) → Inv L T → (p : Thread → Bool) → ((t : Thread) → p t ≡ true → is-ready (t .state) ≡ false) → any p (T .threads) ≡ true → length (T .ready) < L .threads

@@ -37,8 +37,7 @@ pub fn is_awaited(m: &[u32], x: Message) -> bool
     requires { ⌜ Holding (now m) ⌝ }
     ensures { λ b. ⌜ b ≡ any (accepts x) (tables (now (m .entry)) .threads) ⌝ }
 {
-    let s = store::state_of(m, x.to);
-    states::receives(x.from, s)
+    store::receives_from(m, x.to, x.from)
 }
 
 // A message or notice: to a receiver that waits for it as its answer, else into the inbox.

@@ -12,7 +12,6 @@ use Rattle.rules.specs.Numbers.{devices}
 use Rattle.laws.proofs.Words.{Thread, Message, Held, Runner}
 use Rattle.laws.proofs.Tests.{same?}
 use Rattle.words.specs.Saying.{word, byte, runner-in, thread-in, message-in, held-in}
-use Rattle.words.proofs.Said.{byte-same}
 use Rattle.memory.specs.Layout.{thread-place, message-place, held-place, hints}
 use Rattle.memory.specs.Rows.{Rows, put-runner, put-threads, put-ready, put-clock, put-messages, put-held, put-ended}
 use Rattle.memory.specs.Memory.{row, part, thread-of, message-of, held-of, rows-of}
@@ -221,23 +220,23 @@ held-put m m′ hs E e =
     e
     (queue-stays E b 14 (λ j l p q. omega arith))
 
--- a place in a queue: word c of record i
-module _ (m : List ℕ) (i c x : ℕ) (h : i < word m 0) (room : thread-place i + 16 ≤ length m) (low : x < 256) (p : 12 ≤ c) (q : c < 16) where
+-- a place in a queue: word c of record i is written, and says n
+module _ (m : List ℕ) (i c x n : ℕ) (h : i < word m 0) (room : thread-place i + 16 ≤ length m) (says : byte x ≡ n) (p : 12 ≤ c) (q : c < 16) where
   abbrev m′ : List ℕ
   m′ = set m (thread-place i + c) x
 
   -- queue d afterwards
   abbrev pick : ℕ → List ℕ
-  pick d = if d == c then set (queue d m) i x else queue d m
+  pick d = if d == c then set (queue d m) i n else queue d m
 
-  written : cell c m′ i ≡ x
-  written = ap byte (getD-set-same m (thread-place i + c) x 0 (omega arith)) ∙ byte-same x low
+  written : cell c m′ i ≡ n
+  written = ap byte (getD-set-same m (thread-place i + c) x 0 (omega arith)) ∙ says
 
   picked : (d : ℕ) → 12 ≤ d → d < 16 → queue d m′ ≡ pick d
   picked d r s =
       let E = stored m (thread-place i + c) x in
       let b : 2 ≤ thread-place i + c = omega arith in
-      ⊎-elim (λ e. rw (e .1, e .0) (queue-set E b c i x h written (λ j n y z. n (omega arith)))) (λ n. rw (n .1) (queue-stays E b d (λ j l y z. n .0 (omega arith)))) (same? d c)
+      ⊎-elim (λ e. rw (e .1, e .0) (queue-set E b c i n h written (λ j k y z. k (omega arith)))) (λ k. rw (k .1) (queue-stays E b d (λ j l y z. k .0 (omega arith)))) (same? d c)
 
   pub queue-put : rows-of m′ ≡ put-ready (pick 12) (put-clock (pick 13) (put-ended (pick 14) (rows-of m)))
   unfolding rows-of

@@ -9,6 +9,7 @@ use rules::State;
 use rules::Thread;
 use rules::TrapKind;
 use rules::numbers;
+use words::looks;
 use words::saying;
 ghost use mathlib.Core.Path.{_≡_};
 ghost use mathlib.Core.Bool.{true, not};
@@ -19,6 +20,7 @@ ghost use lib.ListN.{getD, set, length, take, drop};
 ghost use Rattle.rules.specs.Lists.{all, any, keep};
 ghost use Rattle.rules.specs.Numbers.{names, devices};
 ghost use Rattle.rules.specs.Tables.{in-state, with-ticks, with-managers, set-entry, manager as manager-of};
+ghost use Rattle.rules.specs.States.{on-clock, waits-for, wakes-from-outside, receives, awaits};
 ghost use Rattle.rules.specs.Interrupt.{held-for, hold as hold-of};
 ghost use Rattle.memory.specs.Layout.{most-blocks, manager-place};
 ghost use Rattle.memory.specs.Shape.{shaped as shaped-of};
@@ -323,6 +325,55 @@ pub fn thread_at(m: &[u32], i: usize) -> Thread
     saying::read_thread(&m[at..at + 11])
 }
 
+// ---- a test on the thread at a place: its state is not made, so a walk over many is short
+
+// Does it wait for the clock?
+pub fn beats_at(m: &[u32], i: usize) -> bool
+    requires { ⌜ Roomy (rows-of (now m)) × (i < rows-of (now m) .limits .threads) ⌝ }
+    ensures { λ b. ⌜ b ≡ on-clock (getD (rows-of (now (m .entry)) .threads) i no-thread .state) ⌝ }
+{
+    let at = THREADS + i * RECORD;
+    looks::on_clock(m[at + 2], m[at + 3])
+}
+
+// Does it wait for this device?
+pub fn waits_at(m: &[u32], i: usize, d: u8) -> bool
+    requires { ⌜ Roomy (rows-of (now m)) × (i < rows-of (now m) .limits .threads) ⌝ }
+    ensures { λ b. ⌜ b ≡ waits-for d (getD (rows-of (now (m .entry)) .threads) i no-thread) ⌝ }
+{
+    let at = THREADS + i * RECORD;
+    looks::at_device(d, m[at + 2], m[at + 3])
+}
+
+// Does it wait for clock or device?
+pub fn wakes_at(m: &[u32], i: usize) -> bool
+    requires { ⌜ Roomy (rows-of (now m)) × (i < rows-of (now m) .limits .threads) ⌝ }
+    ensures { λ b. ⌜ b ≡ wakes-from-outside (getD (rows-of (now (m .entry)) .threads) i no-thread .state) ⌝ }
+{
+    let at = THREADS + i * RECORD;
+    looks::wakes_from_outside(m[at + 2], m[at + 3])
+}
+
+// Would it receive from this sender?
+pub fn receives_at(m: &[u32], i: usize, sender: u8) -> bool
+    requires { ⌜ Roomy (rows-of (now m)) × (i < rows-of (now m) .limits .threads) ⌝ }
+    ensures { λ b. ⌜ b ≡ receives sender (getD (rows-of (now (m .entry)) .threads) i no-thread .state) ⌝ }
+{
+    let at = THREADS + i * RECORD;
+    looks::receives(sender, m[at + 2], m[at + 3])
+}
+
+// Is it trapped, and n the manager that it waits for?
+pub fn trapped_on_at(m: &[u32], i: usize, n: u8) -> bool
+    requires { ⌜ Roomy (rows-of (now m)) × (i < rows-of (now m) .limits .threads) ⌝ }
+    ensures { λ b. ⌜ b ≡ awaits n (getD (rows-of (now (m .entry)) .threads) i no-thread) ⌝ }
+{
+    let at = THREADS + i * RECORD;
+    looks::awaits(n, &m[at..at + 11])
+}
+
+// ---- a thread changed
+
 pub fn set_ticks(m: &mut [u32], i: usize, n: u32)
     requires { ⌜ Roomy (rows-of (now m)) × (i < rows-of (now m) .limits .threads) ⌝ }
     ensures { λ _. ⌜ rows-of (now (m .exit)) ≡ put-threads (set (rows-of (now (m .entry)) .threads) i (with-ticks n (getD (rows-of (now (m .entry)) .threads) i no-thread))) (rows-of (now (m .entry))) ⌝ }
@@ -393,6 +444,14 @@ pub fn put_ready(m: &mut [u32], i: usize, name: u8)
     ensures { λ _. ⌜ rows-of (now (m .exit)) ≡ put-ready (set (rows-of (now (m .entry)) .ready) i name) (rows-of (now (m .entry))) ⌝ }
 {
     m[THREADS + i * RECORD + READY] = name as u32;
+}
+
+// The name at one place of the ready queue is written at another, as the word stands.
+pub fn move_ready(m: &mut [u32], from: usize, to: usize)
+    requires { ⌜ Roomy (rows-of (now m)) × (from < rows-of (now m) .limits .threads) × (to < rows-of (now m) .limits .threads) ⌝ }
+    ensures { λ _. ⌜ rows-of (now (m .exit)) ≡ put-ready (set (rows-of (now (m .entry)) .ready) to (getD (rows-of (now (m .entry)) .ready) from 0)) (rows-of (now (m .entry))) ⌝ }
+{
+    m[THREADS + to * RECORD + READY] = m[THREADS + from * RECORD + READY];
 }
 
 pub fn clock_at(m: &[u32], i: usize) -> u8

@@ -24,8 +24,7 @@ pub fn drop_front(m: &mut [u32])
     let last = rows::readies(m) - 1;
     let mut i = 0;
     while i < last {
-        let x = rows::ready_at(m, i + 1);
-        rows::put_ready(m, i, x);
+        rows::move_ready(m, i + 1, i);
         i += 1;
     }
     rows::set_readies(m, last);

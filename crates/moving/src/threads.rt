@@ -3,7 +3,6 @@ use memory::memory as rows;
 use rules::Answer;
 use rules::State;
 use rules::Thread;
-use words::states;
 ghost use mathlib.Core.Path.{_≡_};
 ghost use mathlib.Core.Bool.{true, not};
 ghost use mathlib.Core.List.{List, _∷_, _++_, map};
@@ -66,8 +65,7 @@ pub fn wake_clock(m: &mut [u32], beats: u32)
     let n = rows::count(m);
     let mut i = 0;
     while i < n {
-        let s = rows::state_at(m, i);
-        if states::on_clock(s) {
+        if rows::beats_at(m, i) {
             rows::turn(m, i, State::Ready, Answer::Result(beats));
             i += 1;
         } else {
@@ -84,8 +82,7 @@ pub fn find_waiter(m: &[u32], d: u8) -> usize
     let n = rows::count(m);
     let mut i = 0;
     while i < n {
-        let s = rows::state_at(m, i);
-        if states::at_device(d, s) {
+        if rows::waits_at(m, i, d) {
             return i;
         }
         i += 1;
@@ -100,8 +97,7 @@ pub fn some_wakes(m: &[u32]) -> bool
 {
     let hint = rows::waiter_hint(m);
     if hint < rows::count(m) {
-        let s = rows::state_at(m, hint);
-        if states::wakes_from_outside(s) {
+        if rows::wakes_at(m, hint) {
             return true;
         }
     }
@@ -116,8 +112,7 @@ fn walk_wakes(m: &[u32]) -> bool
     let n = rows::count(m);
     let mut i = 0;
     while i < n {
-        let s = rows::state_at(m, i);
-        if states::wakes_from_outside(s) {
+        if rows::wakes_at(m, i) {
             return true;
         }
         i += 1;

@@ -6,18 +6,18 @@ use mathlib.Core.Logic.{_≢_}
 use mathlib.Core.Bool.{Bool, true, false, not, true≢false, false≢true}
 use mathlib.Core.List.{List}
 use native.Mathlib.Omega.{arith}
-use lib.ListN.{length, getD}
-use Rattle.rules.specs.Lists.{_==_, Pulled, missing, pulled, pull, keep, count}
+use lib.ListN.{length}
+use Rattle.rules.specs.Lists.{Pulled, missing, pulled, pull, keep, count}
 use Rattle.rules.specs.Numbers.{Limits}
-use Rattle.rules.specs.Words.{by-state, by-manager}
+use Rattle.rules.specs.Words.{by-manager}
 use Rattle.rules.specs.Tables.{Tables, with-messages, named, live, of-thread, change, manager}
-use Rattle.rules.specs.States.{is-running, is-ready, on-clock, trapped-on}
+use Rattle.rules.specs.States.{is-running, is-ready, on-clock, trapped-on, awaits}
 use Rattle.rules.specs.Waking.{_handing_, wake, notice-of, handed, deliver, stop}
 use Rattle.rules.specs.Ending.{end}
 use Rattle.rules.specs.Send.{message, waits-for-decision, decides, decide, send}
 use Rattle.rules.specs.Receive.{wanted-by, received, receive}
 use Rattle.rules.specs.Trap.{notice, trap}
-use Rattle.laws.proofs.Words.{TrapKind, Wanted, State, Running, Ready, Receiving, Clock, Device, Trapped, Answer, Nothing, Manager, Unset, Thread, Message, Runs}
+use Rattle.laws.proofs.Words.{TrapKind, Wanted, Receiving, Trapped, Answer, Nothing, Manager, Unset, Message, Runs}
 use Rattle.laws.proofs.Tests.{and-left, and-right}
 use Rattle.laws.proofs.Counting.{any-member, member-any}
 use Rattle.laws.proofs.Places.{asleep}
@@ -33,36 +33,15 @@ use Rattle.handling.proofs.Moving.{woken-room}
 
 -- ---- who decides
 
--- what a test of the trapped says, by kind
-by-kinds : (f g : TrapKind → Bool) → ((k : TrapKind) → f k ≡ g k) → (s : State) → by-state false (λ w. false) (λ d. false) f s ≡ by-state false (λ w. false) (λ d. false) g s
-by-kinds f g h Running = refl
-by-kinds f g h Ready = refl
-by-kinds f g h (Receiving w) = refl
-by-kinds f g h Clock = refl
-by-kinds f g h (Device d) = refl
-by-kinds f g h (Trapped k) = h k
-
-module _ (T : Tables) (once : (n : ℕ) → count (named n) (T .threads) ≤ 1) (me to : ℕ) where
-  abbrev asks : Manager → Bool
-  asks g = by-manager false (λ n. me == n) g
-
-  -- is the sender the receiver's manager of that kind?
-  abbrev told : TrapKind → Bool
-  told k = asks (of-thread Unset (λ t. manager k (t .managers)) to (T .threads))
-
-  -- whether the receiver waits for the sender's decision is what its state and its manager entry say
-  pub decides-by : (s : State) → s ≡ of-thread Running (λ t. t .state) to (T .threads) → by-state false (λ w. false) (λ d. false) told s ≡ decides me to T
-  unfolding trapped-on
-  decides-by s h = go (live to T) refl
-    where
-      go : (b : Bool) → live to T ≡ b → by-state false (λ w. false) (λ d. false) told s ≡ decides me to T
-      go true e =
-          let r = any-place (named to) (T .threads) e in
-          let x : Thread = getD (T .threads) (r .1) (r .0) in
-          ap (by-state false (λ w. false) (λ d. false) told) (h ∙ of-at T once (r .1) (r .0) (r .2) Running (λ t. t .state) to (r .3))
-          ∙ (by-kinds told (λ k. asks (manager k (x .managers))) (λ k. ap asks (of-at T once (r .1) (r .0) (r .2) Unset (λ t. manager k (t .managers)) to (r .3))) (x .state)
-          ∙ sym (decides-at T once (r .1) (r .0) (r .2) me to (r .3)))
-      go false e = ap (by-state false (λ w. false) (λ d. false) told) (h ∙ of-none T Running (λ t. t .state) to e) ∙ sym (decides-none T me to e)
+-- whether the receiver waits for the sender's decision is what it says; a receiver that is not there says no
+pub decides-by : (T : Tables) → ((n : ℕ) → count (named n) (T .threads) ≤ 1) → (me to : ℕ) → of-thread false (awaits me) to (T .threads) ≡ decides me to T
+decides-by T once me to = go (live to T) refl
+  where
+    go : (b : Bool) → live to T ≡ b → of-thread false (awaits me) to (T .threads) ≡ decides me to T
+    go true e =
+        let r = any-place (named to) (T .threads) e in
+        of-at T once (r .1) (r .0) (r .2) false (awaits me) to (r .3) ∙ sym (decides-at T once (r .1) (r .0) (r .2) me to (r .3))
+    go false e = of-none T false (awaits me) to e ∙ sym (decides-none T me to e)
 
 -- ---- a decision
 

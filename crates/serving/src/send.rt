@@ -2,49 +2,25 @@
 use crate::ending;
 use handling::moves;
 use rules::Answer;
-use rules::Manager;
 use rules::Message;
 use rules::MessageKind;
-use rules::State;
 use store;
 ghost use mathlib.Core.Path.{_≡_};
 ghost use mathlib.Core.Bool.{true, false};
 ghost use Prim.Native.Nat.{_+_, _<_};
 ghost use lib.ListN.{length};
-ghost use Rattle.rules.specs.Lists.{_==_, any};
-ghost use Rattle.rules.specs.Words.{by-manager};
+ghost use Rattle.rules.specs.Lists.{any};
 ghost use Rattle.rules.specs.Waking.{accepts};
 ghost use Rattle.rules.specs.Send.{message as message-of, decides as decides-of, decide as decide-of, send as send-of};
 ghost use Rattle.store.specs.Store.{limits, tables, Holding, Leaves};
 ghost use Rattle.handling.specs.Standing.{Holds};
-
-fn is_set_to(n: u8, g: Manager) -> bool
-    ensures { λ b. ⌜ b ≡ by-manager false (λ k. n == k) g ⌝ }
-{
-    match g {
-        Manager::Unset => false,
-        Manager::Set(k) => n == k,
-        Manager::Gone => false,
-    }
-}
 
 // Is the receiver trapped, and the sender the manager that it waits for?
 pub fn decides(m: &[u32], me: u8, to: u8) -> bool
     requires { ⌜ Holding (now m) ⌝ }
     ensures { λ b. ⌜ b ≡ decides-of me to (tables (now (m .entry))) ⌝ }
 {
-    let s = store::state_of(m, to);
-    match s {
-        State::Running => false,
-        State::Ready => false,
-        State::Receiving(_) => false,
-        State::Clock => false,
-        State::Device(_) => false,
-        State::Trapped(k) => {
-            let g = store::manager_of(m, to, k);
-            is_set_to(me, g)
-        }
-    }
+    store::trapped_on(m, to, me)
 }
 
 pub fn message(to: u8, me: u8, word: u32) -> Message

@@ -51,13 +51,14 @@ pub use threads::answer_of;
 pub use threads::is_live;
 pub use threads::manager_of;
 pub use threads::parent_of;
+pub use threads::receives_from;
 pub use threads::set_manager;
 pub use threads::some_wakes;
-pub use threads::state_of;
 pub use threads::thread_at;
 pub use threads::thread_count;
 pub use threads::threads_full;
 pub use threads::ticks_of;
+pub use threads::trapped_on;
 pub use threads::turn;
 pub use threads::waiter;
 

@@ -16,10 +16,9 @@ ghost use lib.Dec.{ltb};
 ghost use lib.ListN.{length, getD};
 ghost use Rattle.rules.specs.Lists.{any, insert};
 ghost use Rattle.rules.specs.Tables.{of-thread, live, change, in-state, with-ticks, with-threads, with-managers, set-entry, manager as manager-in};
-ghost use Rattle.rules.specs.States.{waits-for, wakes-from-outside};
+ghost use Rattle.rules.specs.States.{receives, waits-for, wakes-from-outside, awaits};
 ghost use Rattle.rules.specs.Tick.{one-more};
 ghost use Rattle.rules.specs.Refusals.{no-thread-free};
-ghost use Rattle.rules.specs.declared.State.the-variants.{Running as RunningState};
 ghost use Rattle.rules.specs.declared.Answer.the-variants.{Nothing as NoAnswer};
 ghost use Rattle.rules.specs.declared.Manager.the-variants.{Unset as NoManager};
 ghost use Rattle.rules.specs.declared.Parent.the-variants.{NoParent as Parentless};
@@ -59,15 +58,29 @@ pub fn is_live(m: &[u32], name: u8) -> bool
 
 // ---- something of the thread of a name; what is said of a name that no thread has is never asked for
 
-pub fn state_of(m: &[u32], name: u8) -> State
+// Would it receive from this sender?
+pub fn receives_from(m: &[u32], name: u8, sender: u8) -> bool
     requires { ⌜ Holding (now m) ⌝ }
-    ensures { λ r. ⌜ r ≡ of-thread RunningState (λ t. t .state) name (tables (now (m .entry)) .threads) ⌝ }
+    ensures { λ b. ⌜ b ≡ of-thread false (λ t. receives sender (t .state)) name (tables (now (m .entry)) .threads) ⌝ }
 {
     let i = threads::find(m, name);
     if i < rows::count(m) {
-        rows::state_at(m, i)
+        rows::receives_at(m, i, sender)
     } else {
-        State::Running
+        false
+    }
+}
+
+// Is it trapped, and n the manager that it waits for?
+pub fn trapped_on(m: &[u32], name: u8, n: u8) -> bool
+    requires { ⌜ Holding (now m) ⌝ }
+    ensures { λ b. ⌜ b ≡ of-thread false (awaits n) name (tables (now (m .entry)) .threads) ⌝ }
+{
+    let i = threads::find(m, name);
+    if i < rows::count(m) {
+        rows::trapped_on_at(m, i, n)
+    } else {
+        false
     }
 }
 

@@ -1,13 +1,13 @@
 -- `inboxes::notices_right` meets its contract. The loop: the notices passed are right, and the marks say whose were met.
 -- Assumes nothing.
 use Prim.Native.Nat.{_-_}
-use mathlib.Core.Path.{sym, ap, ap₂, _∙_}
+use mathlib.Core.Path.{sym, ap, _∙_}
 use native.Mathlib.Omega.{arith}
 use lib.ListN.{getD}
 use borrow.Author.Needs.{needs}
 use Rattle.rules.specs.States.{awaits}
 use Rattle.rules.specs.Waking.{is-ordinary}
-use Rattle.laws.proofs.Words.{Thread, Message}
+use Rattle.laws.proofs.Words.{Message}
 use Rattle.memory.specs.Rows.{no-thread, no-message}
 use Rattle.memory.specs.Memory.{rows-of}
 use Rattle.store.specs.Store.{tables}
@@ -64,49 +64,46 @@ returns c =
     let j = from-place (s .args .m .now) (s .pre .0) (s .args .at .now) (s .pre .1) (c .before .before .before .before .before .before .before .loop .i) no-message (omega (arith, c .before .before .before .before .before .before .loop-test .taken, c .before .before .before .before .before .before .before .before .letters .ensures)) (c .before .place-of .result) (c .before .place-of .ensures ∙ ap (λ (x : Message). getD (s .args .at .now) (x .from) 0) (c .before .before .message-at .ensures)) in
     no-sender (s .args .m .now) (s .pre .0) (c .before .before .before .before .before .before .before .loop .i) no-message (omega (arith, c .before .before .before .before .before .before .loop-test .taken, c .before .before .before .before .before .before .before .before .letters .ensures)) o (c .before .place-of .result) j _ (c .before .before .before .before .before .before .before .loop .inv) (omega (arith, c .if2 .taken, c .before .before .before .before .before .before .before .before .before .count .ensures))
 
-thread-at-requires : tie.Need-thread-at-requires Inv-loop μ-loop
-thread-at-requires c κs = (roomy (c .before .before .before .before .before .before .before .before .before .before .before .args .m .now) (c .before .before .before .before .before .before .before .before .before .before .before .pre .0), omega (arith, c .if2 .left, c .before .before .before .before .before .before .before .before .before .count .ensures, counted (c .before .before .before .before .before .before .before .before .before .before .before .args .m .now) (c .before .before .before .before .before .before .before .before .before .before .before .pre .0)))
-
-awaits-requires : tie.Need-awaits-requires Inv-loop μ-loop
-awaits-requires c κs = search needs
+trapped-on-at-requires : tie.Need-trapped-on-at-requires Inv-loop μ-loop
+trapped-on-at-requires c κs = (roomy (c .before .before .before .before .before .before .before .before .before .before .before .args .m .now) (c .before .before .before .before .before .before .before .before .before .before .before .pre .0), omega (arith, c .if2 .left, c .before .before .before .before .before .before .before .before .before .count .ensures, counted (c .before .before .before .before .before .before .before .before .before .before .before .args .m .now) (c .before .before .before .before .before .before .before .before .before .before .before .pre .0)))
 
 returns-2 : tie.Need-returns-2 Inv-loop μ-loop
 unfolding tables
 returns-2 c =
-    let s = c .before .before .before .before .before .before .before .before .before .before .before .before .before .before in
-    let o = ap is-ordinary (sym (c .before .before .before .before .before .before .before .before .kind-at .ensures)) ∙ (sym (c .before .before .before .before .before .before .before .is-ordinary .ensures) ∙ c .before .before .before .before .before .before .if1 .left) in
-    let j = from-place (s .args .m .now) (s .pre .0) (s .args .at .now) (s .pre .1) (c .before .before .before .before .before .before .before .before .before .before .loop .i) no-message (omega (arith, c .before .before .before .before .before .before .before .before .before .loop-test .taken, c .before .before .before .before .before .before .before .before .before .before .before .letters .ensures)) (c .before .before .before .before .place-of .result) (c .before .before .before .before .place-of .ensures ∙ ap (λ (x : Message). getD (s .args .at .now) (x .from) 0) (c .before .before .before .before .before .message-at .ensures)) in
-    let e = ap₂ (λ (l : Message) (x : Thread). awaits (l .to) x) (sym (c .before .before .before .before .before .message-at .ensures)) (sym (c .before .before .thread-at .ensures)) ∙ failed (c .before .awaits .ensures) (c .if3 .taken) in
-    not-trapped (s .args .m .now) (s .pre .0) (c .before .before .before .before .before .before .before .before .before .before .loop .i) no-message (omega (arith, c .before .before .before .before .before .before .before .before .before .loop-test .taken, c .before .before .before .before .before .before .before .before .before .before .before .letters .ensures)) o (c .before .before .before .before .place-of .result) j (s .pre .2) (omega (arith, c .before .before .before .if2 .left, c .before .before .before .before .before .before .before .before .before .before .before .before .count .ensures)) _ no-thread (c .before .before .before .before .before .before .before .before .before .before .loop .inv) e
+    let s = c .before .before .before .before .before .before .before .before .before .before .before .before .before in
+    let o = ap is-ordinary (sym (c .before .before .before .before .before .before .before .kind-at .ensures)) ∙ (sym (c .before .before .before .before .before .before .is-ordinary .ensures) ∙ c .before .before .before .before .before .if1 .left) in
+    let j = from-place (s .args .m .now) (s .pre .0) (s .args .at .now) (s .pre .1) (c .before .before .before .before .before .before .before .before .before .loop .i) no-message (omega (arith, c .before .before .before .before .before .before .before .before .loop-test .taken, c .before .before .before .before .before .before .before .before .before .before .letters .ensures)) (c .before .before .before .place-of .result) (c .before .before .before .place-of .ensures ∙ ap (λ (x : Message). getD (s .args .at .now) (x .from) 0) (c .before .before .before .before .message-at .ensures)) in
+    let e = ap (λ (l : Message). awaits (l .to) (getD (rows-of (s .args .m .now) .threads) (c .before .before .before .place-of .result) no-thread)) (sym (c .before .before .before .before .message-at .ensures)) ∙ failed (c .before .trapped-on-at .ensures) (c .if3 .taken) in
+    not-trapped (s .args .m .now) (s .pre .0) (c .before .before .before .before .before .before .before .before .before .loop .i) no-message (omega (arith, c .before .before .before .before .before .before .before .before .loop-test .taken, c .before .before .before .before .before .before .before .before .before .before .letters .ensures)) o (c .before .before .before .place-of .result) j (s .pre .2) (omega (arith, c .before .before .if2 .left, c .before .before .before .before .before .before .before .before .before .before .before .count .ensures)) _ no-thread (c .before .before .before .before .before .before .before .before .before .loop .inv) e
 
 array-read-if4 : tie.Need-array-read-if4 Inv-loop μ-loop
-array-read-if4 c = omega (arith, c .before .before .before .if2 .left, c .before .before .before .before .before .before .before .before .before .before .before .before .count .ensures, counted (c .before .before .before .before .before .before .before .before .before .before .before .before .before .before .args .m .now) (c .before .before .before .before .before .before .before .before .before .before .before .before .before .before .pre .0), few (c .before .before .before .before .before .before .before .before .before .before .before .before .before .before .args .m .now) (c .before .before .before .before .before .before .before .before .before .before .before .before .before .before .pre .0))
+array-read-if4 c = omega (arith, c .before .before .if2 .left, c .before .before .before .before .before .before .before .before .before .before .before .count .ensures, counted (c .before .before .before .before .before .before .before .before .before .before .before .before .before .args .m .now) (c .before .before .before .before .before .before .before .before .before .before .before .before .before .pre .0), few (c .before .before .before .before .before .before .before .before .before .before .before .before .before .args .m .now) (c .before .before .before .before .before .before .before .before .before .before .before .before .before .pre .0))
 
 returns-3 : tie.Need-returns-3 Inv-loop μ-loop
 unfolding tables
 returns-3 c =
-    let s = c .before .before .before .before .before .before .before .before .before .before .before .before .before .before .before in
-    let o = ap is-ordinary (sym (c .before .before .before .before .before .before .before .before .before .kind-at .ensures)) ∙ (sym (c .before .before .before .before .before .before .before .before .is-ordinary .ensures) ∙ c .before .before .before .before .before .before .before .if1 .left) in
-    let j = from-place (s .args .m .now) (s .pre .0) (s .args .at .now) (s .pre .1) (c .before .before .before .before .before .before .before .before .before .before .before .loop .i) no-message (omega (arith, c .before .before .before .before .before .before .before .before .before .before .loop-test .taken, c .before .before .before .before .before .before .before .before .before .before .before .before .letters .ensures)) (c .before .before .before .before .before .place-of .result) (c .before .before .before .before .before .place-of .ensures ∙ ap (λ (x : Message). getD (s .args .at .now) (x .from) 0) (c .before .before .before .before .before .before .message-at .ensures)) in
-    met-before (s .args .m .now) (s .pre .0) (c .before .before .before .before .before .before .before .before .before .before .before .loop .i) no-message (omega (arith, c .before .before .before .before .before .before .before .before .before .before .loop-test .taken, c .before .before .before .before .before .before .before .before .before .before .before .before .letters .ensures)) o (c .before .before .before .before .before .place-of .result) j (s .pre .2) (omega (arith, c .before .before .before .before .if2 .left, c .before .before .before .before .before .before .before .before .before .before .before .before .before .count .ensures)) _ (c .before .before .before .before .before .before .before .before .before .before .before .loop .inv) (c .if4 .taken)
+    let s = c .before .before .before .before .before .before .before .before .before .before .before .before .before .before in
+    let o = ap is-ordinary (sym (c .before .before .before .before .before .before .before .before .kind-at .ensures)) ∙ (sym (c .before .before .before .before .before .before .before .is-ordinary .ensures) ∙ c .before .before .before .before .before .before .if1 .left) in
+    let j = from-place (s .args .m .now) (s .pre .0) (s .args .at .now) (s .pre .1) (c .before .before .before .before .before .before .before .before .before .before .loop .i) no-message (omega (arith, c .before .before .before .before .before .before .before .before .before .loop-test .taken, c .before .before .before .before .before .before .before .before .before .before .before .letters .ensures)) (c .before .before .before .before .place-of .result) (c .before .before .before .before .place-of .ensures ∙ ap (λ (x : Message). getD (s .args .at .now) (x .from) 0) (c .before .before .before .before .before .message-at .ensures)) in
+    met-before (s .args .m .now) (s .pre .0) (c .before .before .before .before .before .before .before .before .before .before .loop .i) no-message (omega (arith, c .before .before .before .before .before .before .before .before .before .loop-test .taken, c .before .before .before .before .before .before .before .before .before .before .before .letters .ensures)) o (c .before .before .before .before .place-of .result) j (s .pre .2) (omega (arith, c .before .before .before .if2 .left, c .before .before .before .before .before .before .before .before .before .before .before .before .count .ensures)) _ (c .before .before .before .before .before .before .before .before .before .before .loop .inv) (c .if4 .taken)
 
 array-write-seen : tie.Need-array-write-seen Inv-loop μ-loop
-array-write-seen c = omega (arith, c .before .before .before .before .if2 .left, c .before .before .before .before .before .before .before .before .before .before .before .before .before .count .ensures, counted (c .before .before .before .before .before .before .before .before .before .before .before .before .before .before .before .args .m .now) (c .before .before .before .before .before .before .before .before .before .before .before .before .before .before .before .pre .0), few (c .before .before .before .before .before .before .before .before .before .before .before .before .before .before .before .args .m .now) (c .before .before .before .before .before .before .before .before .before .before .before .before .before .before .before .pre .0))
+array-write-seen c = omega (arith, c .before .before .before .if2 .left, c .before .before .before .before .before .before .before .before .before .before .before .before .count .ensures, counted (c .before .before .before .before .before .before .before .before .before .before .before .before .before .before .args .m .now) (c .before .before .before .before .before .before .before .before .before .before .before .before .before .before .pre .0), few (c .before .before .before .before .before .before .before .before .before .before .before .before .before .before .args .m .now) (c .before .before .before .before .before .before .before .before .before .before .before .before .before .before .pre .0))
 
 add-i-2 : tie.Need-add-i-2 Inv-loop μ-loop
-add-i-2 c = omega (arith, c .before .before .before .before .before .before .before .before .before .before .loop-test .taken)
+add-i-2 c = omega (arith, c .before .before .before .before .before .before .before .before .before .loop-test .taken)
 
 loop-less-2 : tie.Need-loop-less-2 Inv-loop μ-loop
-loop-less-2 c = omega (arith, c .before .before .before .before .before .before .before .before .before .before .loop-test .taken)
+loop-less-2 c = omega (arith, c .before .before .before .before .before .before .before .before .before .loop-test .taken)
 
 loop-again-2 : tie.Need-loop-again-2 Inv-loop μ-loop
 unfolding tables
 loop-again-2 c =
-    let s = c .before .before .before .before .before .before .before .before .before .before .before .before .before .before .before in
-    let o = ap is-ordinary (sym (c .before .before .before .before .before .before .before .before .before .kind-at .ensures)) ∙ (sym (c .before .before .before .before .before .before .before .before .is-ordinary .ensures) ∙ c .before .before .before .before .before .before .before .if1 .left) in
-    let j = from-place (s .args .m .now) (s .pre .0) (s .args .at .now) (s .pre .1) (c .before .before .before .before .before .before .before .before .before .before .before .loop .i) no-message (omega (arith, c .before .before .before .before .before .before .before .before .before .before .loop-test .taken, c .before .before .before .before .before .before .before .before .before .before .before .before .letters .ensures)) (c .before .before .before .before .before .place-of .result) (c .before .before .before .before .before .place-of .ensures ∙ ap (λ (x : Message). getD (s .args .at .now) (x .from) 0) (c .before .before .before .before .before .before .message-at .ensures)) in
-    let e = ap₂ (λ (l : Message) (x : Thread). awaits (l .to) x) (sym (c .before .before .before .before .before .before .message-at .ensures)) (sym (c .before .before .before .thread-at .ensures)) ∙ passed (c .before .before .awaits .ensures) (c .before .if3 .left) in
-    met-now (s .args .m .now) (s .pre .0) (c .before .before .before .before .before .before .before .before .before .before .before .loop .i) no-message (omega (arith, c .before .before .before .before .before .before .before .before .before .before .loop-test .taken, c .before .before .before .before .before .before .before .before .before .before .before .before .letters .ensures)) o (c .before .before .before .before .before .place-of .result) j (s .pre .2) (omega (arith, c .before .before .before .before .if2 .left, c .before .before .before .before .before .before .before .before .before .before .before .before .before .count .ensures)) _ no-thread (c .before .before .before .before .before .before .before .before .before .before .before .loop .inv) e (c .if4 .left)
+    let s = c .before .before .before .before .before .before .before .before .before .before .before .before .before .before in
+    let o = ap is-ordinary (sym (c .before .before .before .before .before .before .before .before .kind-at .ensures)) ∙ (sym (c .before .before .before .before .before .before .before .is-ordinary .ensures) ∙ c .before .before .before .before .before .before .if1 .left) in
+    let j = from-place (s .args .m .now) (s .pre .0) (s .args .at .now) (s .pre .1) (c .before .before .before .before .before .before .before .before .before .before .loop .i) no-message (omega (arith, c .before .before .before .before .before .before .before .before .before .loop-test .taken, c .before .before .before .before .before .before .before .before .before .before .before .letters .ensures)) (c .before .before .before .before .place-of .result) (c .before .before .before .before .place-of .ensures ∙ ap (λ (x : Message). getD (s .args .at .now) (x .from) 0) (c .before .before .before .before .before .message-at .ensures)) in
+    let e = ap (λ (l : Message). awaits (l .to) (getD (rows-of (s .args .m .now) .threads) (c .before .before .before .before .place-of .result) no-thread)) (sym (c .before .before .before .before .before .message-at .ensures)) ∙ passed (c .before .before .trapped-on-at .ensures) (c .before .if3 .left) in
+    met-now (s .args .m .now) (s .pre .0) (c .before .before .before .before .before .before .before .before .before .before .loop .i) no-message (omega (arith, c .before .before .before .before .before .before .before .before .before .loop-test .taken, c .before .before .before .before .before .before .before .before .before .before .before .letters .ensures)) o (c .before .before .before .before .place-of .result) j (s .pre .2) (omega (arith, c .before .before .before .if2 .left, c .before .before .before .before .before .before .before .before .before .before .before .before .count .ensures)) _ no-thread (c .before .before .before .before .before .before .before .before .before .before .loop .inv) e (c .if4 .left)
 
 returns-4 : tie.Need-returns-4 Inv-loop μ-loop
 unfolding tables
@@ -129,8 +126,7 @@ notices-right-spec =
     message-at-requires
     place-of-requires
     returns
-    thread-at-requires
-    awaits-requires
+    trapped-on-at-requires
     returns-2
     array-read-if4
     returns-3

@@ -1,7 +1,7 @@
 -- `moving::queues::drop_front` meets its contract. The loop: what is moved up and the rest of the queue are the queue without its front.
 -- Assumes nothing.
 use Prim.Native.Nat.{ℕ, _-_}
-use mathlib.Core.Path.{_≡_, ap, _∙_}
+use mathlib.Core.Path.{_≡_, refl, ap, _∙_}
 use mathlib.Core.List.{List}
 use native.Mathlib.Omega.{arith}
 use lib.ListN.{take}
@@ -10,7 +10,7 @@ use Rattle.memory.specs.Rows.{Rows, Roomy}
 use Rattle.memory.specs.Memory.{rows-of}
 use Rattle.memory.proofs.Sizes.{ready-long, same-room}
 use Rattle.moving.proofs.Loops.{Closing, close-starts, close-next, close-ends}
-use Rattle.moving.proofs.Steps.{by, Within, Only, the-ready, begins, writes, ready-is}
+use Rattle.moving.proofs.Steps.{by, BothWithin, Only, the-ready, begins, writes, ready-is}
 use Rattle.moving.proofs.queues.drop_front.Statement.{statement}
 use Rattle.moving.proofs.queues.drop_front.Tie as tie
 
@@ -29,14 +29,13 @@ sub-last c = omega (arith, c .readies .ensures, c .before .before .before .pre .
 loop-holds : tie.Need-loop-holds Inv-loop μ-loop
 loop-holds c = (begins the-ready (close-starts 0 _ _ (omega (arith, ready-long (c .before .before .before .args .m .now), c .before .before .before .pre .2)) (c .before .before .before .pre .1)), ap (λ (k : ℕ). k - 1) (c .readies .ensures))
 
-add-ready-at : tie.Need-add-ready-at Inv-loop μ-loop
-add-ready-at c = omega arith
+add-move-ready : tie.Need-add-move-ready Inv-loop μ-loop
+add-move-ready c = omega arith
 
-ready-at-requires : tie.Need-ready-at-requires Inv-loop μ-loop
-ready-at-requires c κs = by (Within _) (c .before .before .loop .inv .0 .only) (c .before .before .before .before .before .before .pre .0, omega (arith, c .before .before .before .before .before .before .pre .2, c .before .before .loop .inv .1, c .before .loop-test .taken))
-
-put-ready-requires : tie.Need-put-ready-requires Inv-loop μ-loop
-put-ready-requires c κs = by (Within _) (c .before .before .before .before .loop .inv .0 .only) (c .before .before .before .before .before .before .before .before .pre .0, omega (arith, c .before .before .before .before .before .before .before .before .pre .2, c .before .before .before .before .loop .inv .1, c .before .before .before .loop-test .taken))
+move-ready-requires : tie.Need-move-ready-requires Inv-loop μ-loop
+move-ready-requires c κs = let last = c .before .before .loop .inv .1 in
+    by (BothWithin _ _) (c .before .before .loop .inv .0 .only)
+    (c .before .before .before .before .before .before .pre .0, omega (arith, c .before .before .before .before .before .before .pre .2, last, c .before .loop-test .taken), omega (arith, c .before .before .before .before .before .before .pre .2, last, c .before .loop-test .taken))
 
 add-i : tie.Need-add-i Inv-loop μ-loop
 add-i c = omega arith
@@ -45,7 +44,8 @@ loop-less : tie.Need-loop-less Inv-loop μ-loop
 loop-less c = omega arith
 
 loop-again : tie.Need-loop-again Inv-loop μ-loop
-loop-again c = (writes the-ready _ (c .before .before .before .before .before .before .before .loop .inv .0) (c .before .before .put-ready .ensures) (close-next _ _ _ _ _ _ 0 (c .before .before .before .before .before .before .before .loop .inv .0 .so) (omega (arith, c .before .before .before .before .before .before .before .loop .inv .1, c .before .before .before .before .before .before .loop-test .taken)) (c .before .before .before .before .ready-at .ensures)), c .before .before .before .before .before .before .before .loop .inv .1)
+loop-again c = let at-loop = c .before .before .before .before .before in
+    (writes the-ready _ (at-loop .loop .inv .0) (c .before .before .move-ready .ensures) (close-next _ _ _ _ _ _ 0 (at-loop .loop .inv .0 .so) (omega (arith, at-loop .loop .inv .1, c .before .before .before .before .loop-test .taken)) refl), at-loop .loop .inv .1)
 
 set-readies-requires : tie.Need-set-readies-requires Inv-loop μ-loop
 set-readies-requires c κs = (by Roomy (c .before .before .loop .inv .0 .only) (c .before .before .before .before .before .before .pre .0), omega (arith, c .before .before .before .before .before .before .pre .0 .low, c .before .before .before .before .before .before .pre .2, c .before .before .loop .inv .1))
@@ -67,9 +67,8 @@ drop-front-spec =
     readies-requires
     sub-last
     loop-holds
-    add-ready-at
-    ready-at-requires
-    put-ready-requires
+    add-move-ready
+    move-ready-requires
     add-i
     loop-less
     loop-again

@@ -1,9 +1,10 @@
 -- `moving::threads::find_waiter` meets its contract. The loop: no thread passed waits for the device.
 -- Assumes nothing.
 use Prim.Native.Nat.{_-_}
+use mathlib.Core.Path.{sym, _∙_}
 use native.Mathlib.Omega.{arith}
 use borrow.Author.Needs.{needs}
-use Rattle.rules.specs.States.{at-device, waits-for}
+use Rattle.rules.specs.States.{waits-for}
 use Rattle.memory.specs.Rows.{no-thread}
 use Rattle.memory.specs.Memory.{rows-of}
 use Rattle.memory.proofs.Sizes.{threads-long}
@@ -23,14 +24,11 @@ count-requires c κs = search needs
 loop-holds : tie.Need-loop-holds Inv-loop μ-loop
 loop-holds c = seek-starts _ _ _ (omega (arith, c .count .ensures, c .before .before .pre .1, threads-long (c .before .before .args .m .now)))
 
-state-at-requires : tie.Need-state-at-requires Inv-loop μ-loop
-state-at-requires c κs = (c .before .before .before .before .pre .0, omega (arith, c .loop-test .taken, c .before .before .count .ensures, c .before .before .before .before .pre .1))
-
-at-device-requires : tie.Need-at-device-requires Inv-loop μ-loop
-at-device-requires c κs = search needs
+waits-at-requires : tie.Need-waits-at-requires Inv-loop μ-loop
+waits-at-requires c κs = (c .before .before .before .before .pre .0, omega (arith, c .loop-test .taken, c .before .before .count .ensures, c .before .before .before .before .pre .1))
 
 returns : tie.Need-returns Inv-loop μ-loop
-returns c = rw (← c .before .before .before .before .before .count .ensures) (seek-finds _ _ _ _ no-thread (c .before .before .before .before .loop .inv) (c .before .before .before .loop-test .taken) (rw (← c .before .before .state-at .ensures, ← c .before .at-device .ensures) (c .if1 .taken)))
+returns c = rw (← c .before .before .before .before .count .ensures) (seek-finds _ _ _ _ no-thread (c .before .before .before .loop .inv) (c .before .before .loop-test .taken) (sym (c .before .waits-at .ensures) ∙ c .if1 .taken))
 
 add-i : tie.Need-add-i Inv-loop μ-loop
 add-i c = omega arith
@@ -39,7 +37,7 @@ loop-less : tie.Need-loop-less Inv-loop μ-loop
 loop-less c = omega arith
 
 loop-again : tie.Need-loop-again Inv-loop μ-loop
-loop-again c = seek-next _ _ _ _ no-thread (c .before .before .before .before .loop .inv) (c .before .before .before .loop-test .taken) (rw (← c .before .before .state-at .ensures, ← c .before .at-device .ensures) (c .if1 .left))
+loop-again c = seek-next _ _ _ _ no-thread (c .before .before .before .loop .inv) (c .before .before .loop-test .taken) (sym (c .before .waits-at .ensures) ∙ c .if1 .left)
 
 returns-2 : tie.Need-returns-2 Inv-loop μ-loop
 returns-2 c = rw (← c .before .before .count .ensures) (seek-ends _ _ _ _ (c .before .loop .inv) (c .loop-test .left))
@@ -52,8 +50,7 @@ find-waiter-spec =
     μ-loop
     count-requires
     loop-holds
-    state-at-requires
-    at-device-requires
+    waits-at-requires
     returns
     add-i
     loop-less

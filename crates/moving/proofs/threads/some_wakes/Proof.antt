@@ -1,6 +1,6 @@
 -- `moving::threads::some_wakes` meets its contract. The thread at the hint is one of the threads.
 -- Assumes nothing.
-use mathlib.Core.Path.{sym}
+use mathlib.Core.Path.{sym, _∙_}
 use native.Mathlib.Omega.{arith}
 use borrow.Author.Needs.{needs}
 use Rattle.rules.specs.States.{wakes-from-outside}
@@ -18,15 +18,12 @@ waiter-hint-requires c κs = search needs
 count-requires : tie.Need-count-requires
 count-requires c κs = search needs
 
-state-at-requires : tie.Need-state-at-requires
-state-at-requires c κs = search needs
-
-wakes-from-outside-requires : tie.Need-wakes-from-outside-requires
-wakes-from-outside-requires c κs = search needs
+wakes-at-requires : tie.Need-wakes-at-requires
+wakes-at-requires c κs = search needs
 
 returns : tie.Need-returns
-returns c = let r = rows-of (c .before .before .before .before .before .before .before .args .m .now) in
-    sym (hint-any (λ (t : Thread). wakes-from-outside (t .state)) (r .count) (r .threads) (c .before .before .before .before .before .waiter-hint .result) no-thread (omega (arith, threads-long (c .before .before .before .before .before .before .before .args .m .now), c .before .before .before .before .before .before .before .pre .1)) (omega (arith, c .before .before .before .if1 .taken, c .before .before .before .before .count .ensures)) (rw (← c .before .before .state-at .ensures, ← c .before .wakes-from-outside .ensures) (c .if2 .taken)))
+returns c = let r = rows-of (c .before .before .before .before .before .before .args .m .now) in
+    sym (hint-any (λ (t : Thread). wakes-from-outside (t .state)) (r .count) (r .threads) (c .before .before .before .before .waiter-hint .result) no-thread (omega (arith, threads-long (c .before .before .before .before .before .before .args .m .now), c .before .before .before .before .before .before .pre .1)) (omega (arith, c .before .before .if1 .taken, c .before .before .before .count .ensures)) (sym (c .before .wakes-at .ensures) ∙ c .if2 .taken))
 
 walk-wakes-requires : tie.Need-walk-wakes-requires
 walk-wakes-requires c κs = search needs
@@ -40,8 +37,7 @@ some-wakes-spec =
     (tie.spec
     waiter-hint-requires
     count-requires
-    state-at-requires
-    wakes-from-outside-requires
+    wakes-at-requires
     returns
     walk-wakes-requires
     returns-2)

@@ -1,7 +1,7 @@
 -- `moving::threads::wake_clock` meets its contract. The loop: what is written, and the rest as it is to become, are all threads as they are to become.
 -- Assumes nothing.
 use Prim.Native.Nat.{_-_}
-use mathlib.Core.Path.{refl, ap}
+use mathlib.Core.Path.{refl, sym, ap, _∙_}
 use mathlib.Core.List.{List}
 use native.Mathlib.Omega.{arith}
 use borrow.Author.Needs.{needs}
@@ -28,14 +28,11 @@ count-requires c κs = search needs
 loop-holds : tie.Need-loop-holds Inv-loop μ-loop
 loop-holds c = begins the-threads (turn-starts _ _ _ _ (omega (arith, c .count .ensures, c .before .before .before .pre .1, threads-long (c .before .before .before .args .m .now))))
 
-state-at-requires : tie.Need-state-at-requires Inv-loop μ-loop
-state-at-requires c κs = by (Within _) (c .before .before .loop .inv .only) (c .before .before .before .before .before .before .pre .0, omega (arith, c .before .before .before .before .before .before .pre .1, c .before .before .before .count .ensures, c .before .loop-test .taken))
-
-on-clock-requires : tie.Need-on-clock-requires Inv-loop μ-loop
-on-clock-requires c κs = search needs
+beats-at-requires : tie.Need-beats-at-requires Inv-loop μ-loop
+beats-at-requires c κs = by (Within _) (c .before .before .loop .inv .only) (c .before .before .before .before .before .before .pre .0, omega (arith, c .before .before .before .before .before .before .pre .1, c .before .before .before .count .ensures, c .before .loop-test .taken))
 
 turn-requires : tie.Need-turn-requires Inv-loop μ-loop
-turn-requires c κs = by (Within _) (c .before .before .before .before .before .before .loop .inv .only) (c .before .before .before .before .before .before .before .before .before .before .pre .0, omega (arith, c .before .before .before .before .before .before .before .before .before .before .pre .1, c .before .before .before .before .before .before .before .count .ensures, c .before .before .before .before .before .loop-test .taken))
+turn-requires c κs = by (Within _) (c .before .before .before .before .before .loop .inv .only) (c .before .before .before .before .before .before .before .before .before .pre .0, omega (arith, c .before .before .before .before .before .before .before .before .before .pre .1, c .before .before .before .before .before .before .count .ensures, c .before .before .before .before .loop-test .taken))
 
 add-i : tie.Need-add-i Inv-loop μ-loop
 add-i c = omega arith
@@ -44,7 +41,7 @@ loop-less : tie.Need-loop-less Inv-loop μ-loop
 loop-less c = omega arith
 
 loop-again : tie.Need-loop-again Inv-loop μ-loop
-loop-again c = writes the-threads _ (c .before .before .before .before .before .before .before .before .before .loop .inv) (c .before .before .turn .ensures) (turn-next _ _ _ _ _ _ _ no-thread (c .before .before .before .before .before .before .before .before .before .loop .inv .so) (c .before .before .before .before .before .before .before .before .loop-test .taken) (rw (← c .before .before .before .before .before .before .state-at .ensures, ← c .before .before .before .before .before .on-clock .ensures) (c .before .before .before .before .if1 .taken)) refl)
+loop-again c = writes the-threads _ (c .before .before .before .before .before .before .before .before .loop .inv) (c .before .before .turn .ensures) (turn-next _ _ _ _ _ _ _ no-thread (c .before .before .before .before .before .before .before .before .loop .inv .so) (c .before .before .before .before .before .before .before .loop-test .taken) (sym (c .before .before .before .before .before .beats-at .ensures) ∙ c .before .before .before .before .if1 .taken) refl)
 
 add-i-2 : tie.Need-add-i-2 Inv-loop μ-loop
 add-i-2 c = omega arith
@@ -53,7 +50,7 @@ loop-less-2 : tie.Need-loop-less-2 Inv-loop μ-loop
 loop-less-2 c = omega arith
 
 loop-again-2 : tie.Need-loop-again-2 Inv-loop μ-loop
-loop-again-2 c = stays the-threads (c .before .before .before .before .before .loop .inv) (turn-by _ _ _ _ _ _ no-thread (c .before .before .before .before .before .loop .inv .so) (c .before .before .before .before .loop-test .taken) (rw (← c .before .before .state-at .ensures, ← c .before .on-clock .ensures) (c .if1 .left)))
+loop-again-2 c = stays the-threads (c .before .before .before .before .loop .inv) (turn-by _ _ _ _ _ _ no-thread (c .before .before .before .before .loop .inv .so) (c .before .before .before .loop-test .taken) (sym (c .before .beats-at .ensures) ∙ c .if1 .left))
 
 same-length : tie.Need-same-length Inv-loop μ-loop
 same-length c = same-room (c .before .before .before .before .before .args .m .now) _ (ap (λ (r : Rows). r .room) (c .before .loop .inv .only))
@@ -69,8 +66,7 @@ wake-clock-spec =
     μ-loop
     count-requires
     loop-holds
-    state-at-requires
-    on-clock-requires
+    beats-at-requires
     turn-requires
     add-i
     loop-less
