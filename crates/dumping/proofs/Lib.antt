@@ -1,3 +1,4 @@
 pub mod Walks
 pub mod Puttings
 pub mod Parts
+pub mod Showing

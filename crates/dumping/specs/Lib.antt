@@ -1,1 +1,2 @@
 pub mod Dumping
+pub mod Shown

@@ -1,22 +1,25 @@
 // The fields of a dump, each written into the rest of the buffer behind the last one.
+use crate::shown;
 use handling::dispatch;
-use rules::Answer;
+use memory::memory as rows;
 use rules::Message;
-use rules::Thread;
 use rules::codes;
 use rules::numbers;
 use rules::tags;
 use store;
+use words::saying;
 ghost use mathlib.Core.Path.{_≡_};
 ghost use Prim.Native.Nat.{_+_, _*_, _<_, _≤_};
 ghost use lib.ListN.{length};
 ghost use Rattle.rules.specs.Lists.{each};
 ghost use Rattle.rules.specs.Numbers.{devices};
 ghost use Rattle.rules.specs.Tags.{before-value, head-tag, head-size, thread-tag, thread-size, ready-tag, clock-tag, message-tag, message-size, held-tag, held-size};
-ghost use Rattle.rules.specs.Dump.{field, head-value, answer-value, thread-value, message-value, held-value, dump};
+ghost use Rattle.rules.specs.Dump.{field, head-value, thread-value, message-value, held-value, dump};
+ghost use Rattle.words.specs.Saying.{thread-in};
 ghost use Rattle.store.specs.Store.{tables, Shaped};
 ghost use Rattle.buffer.specs.Puts.{Puts};
 ghost use Rattle.dumping.specs.Dumping.{Dumpable, held-at};
+ghost use Rattle.dumping.specs.Shown.{thread-front};
 
 // What every dump has: a head, and the fields of the two queues without their names.
 const ALWAYS: usize = tags::HEAD_FIELD + 2 * tags::BEFORE_VALUE;
@@ -41,44 +44,31 @@ fn write_head(m: &[u32], out: &mut [u8]) -> usize
     tags::HEAD_FIELD
 }
 
-// The answer that waits for a thread: the end of field 2.
-fn write_answer(a: Answer, out: &mut [u8]) -> usize
-    requires { ⌜ 6 ≤ length (now out) ⌝ }
-    ensures { λ n. ⌜ Puts (answer-value a) (now (out .entry)) (now (out .exit)) n ⌝ }
+// Field 2 up to the managers, from a thread's words.
+fn write_front(w: &[u32], out: &mut [u8]) -> usize
+    requires { ⌜ (length (now w) ≡ 11) × (before-value + thread-size ≤ length (now out)) ⌝ }
+    ensures { λ n. ⌜ Puts (thread-front (thread-in (now (w .entry)))) (now (out .entry)) (now (out .exit)) n ⌝ }
 {
-    buffer::put_two(out, codes::kind_code(a), codes::sender_code(a));
-    buffer::put_word(&mut out[2..], codes::word_code(a));
-    6
-}
-
-// Field 2.
-fn write_thread(t: Thread, out: &mut [u8]) -> usize
-    requires { ⌜ before-value + thread-size ≤ length (now out) ⌝ }
-    ensures { λ n. ⌜ Puts (field thread-tag (thread-value t)) (now (out .entry)) (now (out .exit)) n ⌝ }
-{
-    let parent = t.parent;
-    let s = t.state;
-    let g = t.managers;
-    let a = t.answer;
-    let program = g.program;
-    let tlb = g.tlb;
-    let sysbp = g.sysbp;
     buffer::put_head(out, tags::THREAD, tags::THREAD_SIZE);
-    buffer::put_four(
-        &mut out[3..],
-        t.name,
-        codes::parent_code(parent),
-        codes::state_code(s),
-        codes::detail_code(s),
-    );
+    buffer::put_two(&mut out[3..], saying::byte(w[0]), saying::byte(w[1]));
+    shown::write_state(w[2], w[3], &mut out[5..]);
     buffer::put_three(
         &mut out[7..],
-        codes::manager_code(program),
-        codes::manager_code(tlb),
-        codes::manager_code(sysbp),
+        shown::manager_number(w[4]),
+        shown::manager_number(w[5]),
+        shown::manager_number(w[6]),
     );
-    buffer::put_word(&mut out[10..], t.ticks);
-    write_answer(a, &mut out[14..]);
+    10
+}
+
+// Field 2, from a thread's words.
+fn write_thread(w: &[u32], out: &mut [u8]) -> usize
+    requires { ⌜ (length (now w) ≡ 11) × (before-value + thread-size ≤ length (now out)) ⌝ }
+    ensures { λ n. ⌜ Puts (field thread-tag (thread-value (thread-in (now (w .entry))))) (now (out .entry)) (now (out .exit)) n ⌝ }
+{
+    write_front(w, out);
+    buffer::put_word(&mut out[10..], w[7]);
+    shown::write_answer(w[8], w[9], w[10], &mut out[14..]);
     tags::THREAD_FIELD
 }
 
@@ -90,8 +80,8 @@ fn write_threads(m: &[u32], out: &mut [u8]) -> usize
     let mut at = 0;
     let mut i = 0;
     while i < n {
-        let t = store::thread_at(m, i);
-        at += write_thread(t, &mut out[at..]);
+        let w = rows::thread_words(m, i);
+        at += write_thread(w, &mut out[at..]);
         i += 1;
     }
     at

@@ -26,7 +26,7 @@ const LONGEST: usize = 1241;
 // "13: bytes that are no dump"
 const NO_DUMP: u8 = 13;
 
-// Are the first n bytes of a all the bytes of b?
+// Are the first n bytes of a all the bytes of b? It goes on behind a byte that differs: a loop with one end is compiled to compare many at once.
 fn same(a: &[u8], n: usize, b: &[u8]) -> bool
     requires { ⌜ n ≤ length (now a) ⌝ }
     ensures { λ r. ⌜ r ≡ same-of (take n (now (a .entry))) (now (b .entry)) ⌝ }
@@ -34,14 +34,15 @@ fn same(a: &[u8], n: usize, b: &[u8]) -> bool
     if b.len() != n {
         return false;
     }
+    let mut good = true;
     let mut i = 0;
     while i < n {
         if a[i] != b[i] {
-            return false;
+            good = false;
         }
         i += 1;
     }
-    true
+    good
 }
 
 // Does the writer give these bytes?

@@ -22,6 +22,7 @@ ghost use Rattle.rules.specs.Numbers.{names, devices};
 ghost use Rattle.rules.specs.Tables.{in-state, with-ticks, with-managers, set-entry, manager as manager-of};
 ghost use Rattle.rules.specs.States.{on-clock, waits-for, wakes-from-outside, receives, awaits};
 ghost use Rattle.rules.specs.Interrupt.{held-for, hold as hold-of};
+ghost use Rattle.words.specs.Saying.{thread-in};
 ghost use Rattle.memory.specs.Layout.{most-blocks, manager-place};
 ghost use Rattle.memory.specs.Shape.{shaped as shaped-of};
 ghost use Rattle.memory.specs.Rows.{Room, Roomy, view, nothing, word-for, no-thread, no-message, put-last, put-runner, put-since, put-beats, put-count, put-readies, put-clocks, put-letters, put-ends, put-threads, put-ready, put-clock, put-messages, put-held, put-ended};
@@ -468,13 +469,6 @@ pub fn put_clock(m: &mut [u32], i: usize, name: u8)
     m[THREADS + i * RECORD + CLOCK] = name as u32;
 }
 
-pub fn ended_at(m: &[u32], i: usize) -> u8
-    requires { ⌜ Roomy (rows-of (now m)) × (i < rows-of (now m) .limits .threads) ⌝ }
-    ensures { λ r. ⌜ r ≡ getD (rows-of (now (m .entry)) .ended) i 0 ⌝ }
-{
-    saying::byte(m[THREADS + i * RECORD + ENDED])
-}
-
 pub fn put_ended(m: &mut [u32], i: usize, name: u8)
     requires { ⌜ Roomy (rows-of (now m)) × (i < rows-of (now m) .limits .threads) ⌝ }
     ensures { λ _. ⌜ rows-of (now (m .exit)) ≡ put-ended (set (rows-of (now (m .entry)) .ended) i name) (rows-of (now (m .entry))) ⌝ }
@@ -645,4 +639,15 @@ pub fn shaped(m: &[u32], threads: u32, blocks: u32) -> bool
         return false;
     }
     m[LETTERS] <= messages
+}
+
+// ---- words as they stand, for a dump
+
+// The words of the thread at a place.
+pub fn thread_words(m: &[u32], i: usize) -> &[u32]
+    requires { ⌜ Roomy (rows-of (now m)) × (i < rows-of (now m) .limits .threads) ⌝ }
+    ensures { λ r. ⌜ (length (now r) ≡ 11) × (thread-in (now r) ≡ getD (rows-of (now (m .entry)) .threads) i no-thread) ⌝ }
+{
+    let at = THREADS + i * RECORD;
+    &m[at..at + 11]
 }
