@@ -14,7 +14,7 @@ use Rattle.laws.proofs.Words.{Call, Send, Receive, CreateBrother, Creat
 use Rattle.rules.specs.Tags.{facts-in, tag-facts, rule-in, argument-rule, meets}
 use Rattle.rules.specs.Pick.{pick}
 use Rattle.rules.specs.Events.{asked-in, request, trap-of, interrupt-of, meaning, field-of, decode}
-use Rattle.rules.proofs.Bits.{pick-lowest}
+use Rattle.laws.proofs.Pick.{pick-foremost}
 use Rattle.laws.proofs.Tests.{by-if, and-left, and-right}
 use Rattle.laws.proofs.Counting.{all-drop}
 use Rattle.laws.proofs.Bytes.{number-below}
@@ -68,7 +68,7 @@ trap-proper k c h = by-if Proper (k == 0) (λ _. h) λ _. by-if Proper (k == 1) 
 
 interrupt-proper : (p w : ℕ) → w < wrap → Proper (interrupt-of (pick p) w)
 unfolding interrupt-of Proper
-interrupt-proper p w h = by-if Proper (pick p .refusal == 0) (λ e. (pick-lowest p (eqb-true _ 0 e) .1, h)) (λ _. tt)
+interrupt-proper p w h = by-if Proper (pick p .refusal == 0) (λ e. (pick-foremost p (eqb-true _ 0 e) .1, h)) (λ _. tt)
 
 meaning-proper : (tag : ℕ) (v : List ℕ) → Bytes v → length v ≡ tag-facts tag .length → Proper (meaning tag v)
 unfolding meaning Proper ProperCall

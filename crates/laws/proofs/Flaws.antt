@@ -11,8 +11,9 @@ use lib.ListN.{length, take, drop, getD}
 use borrow.Author.Tests.{ltb-true, ltb-false, le-ltb, eqb-true, eqb-false, eq-eqb, ne-eqb}
 use Rattle.rules.specs.Lists.{if_then_else_, _==_, all, any, is-byte, from-on, number-from, number}
 use Rattle.rules.specs.Tags.{facts-in, tag-facts, Service, services, rule-in, argument-rule, meets}
-use Rattle.rules.specs.Pick.{pending, first-pending, pick, no-pick}
+use Rattle.rules.specs.Pick.{pending, pick-order, first-pending, pick, no-pick}
 use Rattle.rules.specs.Events.{asked-in, request, trap-of, interrupt-of, meaning, field-of, decode}
+use Rattle.laws.proofs.Pick.{NoDevice, by-order}
 use Rattle.laws.proofs.Words.{Picked, Event, Malformed, Argument, ByRunner}
 use Rattle.laws.proofs.Tests.{by-if, clash, same?, and-left, and-right, and-false}
 use Rattle.laws.proofs.Counting.{any-member, all-at, not-any}
@@ -170,24 +171,6 @@ on-low a (suc k) n (List·Memᴰ·tail m) = let r = on-low (suc a) k n m in (ome
 bit-0 : (w n : ℕ) → pending w n ≡ false → bit w n ≡ 0
 bit-0 w n e = omega (arith, eqb-false (bit w n) 1 e)
 
--- the first that is pending is picked, or none is
-first-or-none : (w : ℕ) (ds : List ℕ) → ((first-pending w ds .refusal ≡ 0) × ((d : ℕ) × List·Memᴰ d ds × (pending w d ≡ true))) ⊎ ((first-pending w ds ≡ no-pick) × ((d : ℕ) → List·Memᴰ d ds → pending w d ≡ false))
-unfolding first-pending
-first-or-none w [] = inr (refl, λ d m. elim m [ ])
-first-or-none w (d ∷ ds) = go (pending w d) refl (first-or-none w ds)
-  where
-    Later : Picked → List ℕ → Type 0
-    Later p l = ((p .refusal ≡ 0) × ((x : ℕ) × List·Memᴰ x l × (pending w x ≡ true))) ⊎ ((p ≡ no-pick) × ((x : ℕ) → List·Memᴰ x l → pending w x ≡ false))
-
-    none : (pending w d ≡ false) → ((x : ℕ) → List·Memᴰ x ds → pending w x ≡ false) → (x : ℕ) → List·Memᴰ x (d ∷ ds) → pending w x ≡ false
-    none e h x (List·Memᴰ·head i) = rw i e
-    none e h x (List·Memᴰ·tail m) = h x m
-
-    go : (b : Bool) → pending w d ≡ b → Later (first-pending w ds) ds → Later (if b then record { refusal = 0; device = d } else first-pending w ds) (d ∷ ds)
-    go true e later = inl (refl, (d, List·Memᴰ·head refl, e))
-    go false e (inl r) = inl (r .0, (r .1 .0, List·Memᴰ·tail (r .1 .1), r .1 .2))
-    go false e (inr r) = inr (r .0, none e (r .1))
-
 -- a word is served, or it has one of the two flaws
 abbrev Picks : ℕ → Type 0
 Picks w = ((pick w .refusal ≡ 0) × ((d : ℕ) × (d < 48) × (bit w d ≡ 1)) × ((n : ℕ) → 47 < n → n < 64 → bit w n ≡ 0)) ⊎ ((pick w ≡ no-pick) × (((n : ℕ) → n < 64 → bit w n ≡ 0) ⊎ ((n : ℕ) × (47 < n) × (n < 64) × (bit w n ≡ 1))))
@@ -199,17 +182,17 @@ picks w = go (any (pending w) (from-on 48 16)) refl
     P : Picked → Type 0
     P p = ((p .refusal ≡ 0) × ((d : ℕ) × (d < 48) × (bit w d ≡ 1)) × ((n : ℕ) → 47 < n → n < 64 → bit w n ≡ 0)) ⊎ ((p ≡ no-pick) × (((n : ℕ) → n < 64 → bit w n ≡ 0) ⊎ ((n : ℕ) × (47 < n) × (n < 64) × (bit w n ≡ 1))))
 
-    none : (n : ℕ) → n < 64 → any (pending w) (from-on 48 16) ≡ false → ((d : ℕ) → List·Memᴰ d (from-on 0 48) → pending w d ≡ false) → (b : Bool) → ltb n 48 ≡ b → pending w n ≡ false
-    none n h e f true i = let k = ltb-true n 48 i in f n (from-on-mem 0 48 n (omega arith) (omega arith))
+    none : (n : ℕ) → n < 64 → any (pending w) (from-on 48 16) ≡ false → NoDevice w → (b : Bool) → ltb n 48 ≡ b → pending w n ≡ false
+    none n h e f true i = f n (ltb-true n 48 i)
     none n h e f false i = not-any (pending w) (from-on 48 16) n e (from-on-mem 48 16 n (ltb-false n 48 i) h)
 
-    go : (b : Bool) → any (pending w) (from-on 48 16) ≡ b → P (if b then no-pick else first-pending w (from-on 0 48))
+    go : (b : Bool) → any (pending w) (from-on 48 16) ≡ b → P (if b then no-pick else first-pending w pick-order)
     go true e = let r = any-member (pending w) (from-on 48 16) e in let o = on-low 48 16 (r .0) (r .1) in inr (refl, inr (r .0, omega (arith, o .0), omega (arith, o .1), eqb-true (bit w (r .0)) 1 (r .2)))
     go false e =
         ⊎-elim
-        (λ r. inl (r .0, (r .1 .0, omega (arith, on-low 0 48 (r .1 .0) (r .1 .1) .1), eqb-true (bit w (r .1 .0)) 1 (r .1 .2)), λ n a b. bit-0 w n (not-any (pending w) (from-on 48 16) n e (from-on-mem 48 16 n a b))))
+        (λ r. inl (ap (λ (x : Picked). x .refusal) (r .1), (r .0, r .2, eqb-true (bit w (r .0)) 1 (r .3)), λ n a b. bit-0 w n (not-any (pending w) (from-on 48 16) n e (from-on-mem 48 16 n a b))))
         (λ r. inr (r .0, inl (λ n h. bit-0 w n (none n h e (r .1) (ltb n 48) refl))))
-        (first-or-none w (from-on 0 48))
+        (by-order w)
 
 -- ---- a flaw makes the bytes malformed
 

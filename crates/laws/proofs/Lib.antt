@@ -17,6 +17,7 @@ pub mod Closure
 pub mod Ending
 pub mod Right
 pub mod Ends
+pub mod Pick
 pub mod Decoded
 pub mod Good
 pub mod Calm

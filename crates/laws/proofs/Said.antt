@@ -6,13 +6,13 @@ use mathlib.Core.Logic.{_≢_}
 use mathlib.Core.Bool.{Bool, true}
 use mathlib.Core.List.{List, [], _∷_, _++_}
 use native.Mathlib.Omega.{arith}
-use borrow.Author.Tests.{eqb-true, eqb-false, lt-ltb, ne-eqb}
-use Rattle.rules.specs.Lists.{if_then_else_, _==_, all, is-byte, number-from, number, four-bytes}
+use borrow.Author.Tests.{eqb-true, lt-ltb, ne-eqb}
+use Rattle.rules.specs.Lists.{if_then_else_, all, is-byte, number-from, number, four-bytes}
 use Rattle.rules.specs.Numbers.{wrap}
 use Rattle.rules.specs.Tags.{facts-in, tag-facts, rule-in, argument-rule, meets}
 use Rattle.rules.specs.Pick.{pick}
 use Rattle.rules.specs.Events.{asked-in, request, trap-of, interrupt-of, meaning, field-of, decode}
-use Rattle.rules.proofs.Bits.{pick-trailing, pick-lowest}
+use Rattle.laws.proofs.Pick.{Foremost, pick-takes}
 use Rattle.laws.proofs.Words.{Anybody, Only, Program, Tlb, SysBp, Oneself, Named, Send, Receive, CreateBrother, CreateSon, Terminate, SetManager, GetCpuTime, WaitForClock, WaitForIo, Trap, Malformed, ByRunner, Tick, Interrupt, Picked}
 use Rattle.laws.proofs.Counting.{all-both}
 use Rattle.laws.proofs.Bytes.{four-are-bytes, four-back, four-number}
@@ -84,18 +84,18 @@ are-bytes : (p w : ℕ) → all is-byte (interrupting p w) ≡ true
 unfolding all
 are-bytes p w = all-both is-byte (four-bytes (p / wrap)) (four-bytes p ++ four-bytes w) (four-are-bytes (p / wrap)) (all-both is-byte (four-bytes p) (four-bytes w) (four-are-bytes p) (four-are-bytes w))
 
--- With a device pending and none over 47, the event is an interrupt of the lowest that is: "The pick is the lowest pending device number".
+-- With a device pending and none over 47, the event is an interrupt of the foremost that is: "the lowest pending number from 0 to 31, then the
+-- lowest transmitter, then the lowest receiver".
 pub interrupt-says : (p w : ℕ) → 0 < p → p < 2 ^ 48 → w < wrap →
-    (d : ℕ) × (decode (interrupting p w) ≡ Interrupt d w) × (d < 48) × (p / 2 ^ d % 2 ≡ 1) × ((n : ℕ) → n < d → p / 2 ^ n % 2 ≢ 1)
+    (d : ℕ) × (decode (interrupting p w) ≡ Interrupt d w) × (d < 48) × (p / 2 ^ d % 2 ≡ 1) × Foremost p d
 unfolding decode field-of tag-facts facts-in meaning interrupt-of
 interrupt-says p w o h k =
-    let e : pick p .refusal ≡ 0 = ap (λ (x : Picked). x .refusal) (pick-trailing p o h) in
-    let r = pick-lowest p e in (
-      pick p .device,
+    let r = pick-takes p o h in (
+      r .0,
       ap (λ (b : Bool). if b then field-of (interrupting p w) else Malformed) (are-bytes p w)
           ∙ ap₂ (λ (x y : ℕ). interrupt-of (pick x) y) (eight-back p h) (four-back w k)
-          ∙ ap (λ (x : ℕ). if x == 0 then Interrupt (pick p .device) w else Malformed) e,
-      r .1,
-      eqb-true (p / 2 ^ (pick p .device) % 2) 1 (r .0),
-      λ n i. eqb-false (p / 2 ^ n % 2) 1 (r .2 n i),
+          ∙ ap (λ (x : Picked). interrupt-of x w) (r .1),
+      r .2,
+      eqb-true (p / 2 ^ (r .0) % 2) 1 (r .3),
+      r .4,
     )

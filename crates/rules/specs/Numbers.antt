@@ -34,6 +34,14 @@ beat-ticks = 20
 abbrev pub devices : ℕ
 devices = 48
 
+-- "Lines 3 to 6 have eight devices each, .. 0 to 31"; the terminals' numbers begin behind them
+abbrev pub line-devices : ℕ
+line-devices = 32
+
+-- the terminals of line 7: 32 to 47 are eight pairs of transmitter and receiver
+abbrev pub terminals : ℕ
+terminals = 8
+
 -- "pending devices 8": eight bytes
 abbrev pub pending-bits : ℕ
 pending-bits = 64

@@ -75,12 +75,23 @@ word-held-and-taken = record {
   last = on 0 ∷ on 0 ∷ made 9 ∷ idle ∷ made 5 ∷ [];
 }
 
--- "The picked device's waiter becomes ready with the status word" and "The pick is the lowest pending device number": 0 waits for 5, 1 for
+-- "The picked device's waiter becomes ready with the status word" and "the lowest pending number from 0 to 31": 0 waits for 5, 1 for
 -- 3. Wrong: another may wait for 5 too, 5 is picked, both are served, the waiter takes the processor at once, or the word is lost
 abbrev pub waiter-gets-the-word : Bench
 waiter-gets-the-word = record {
   input = ask 2 0 ∷ ask 9 5 ∷ ask 9 5 ∷ ask 9 3 ∷ interrupting (2 ^ 5 + 2 ^ 3) 7 ∷ interrupting (2 ^ 5) 9 ∷ ask 8 0 ∷ [];
   last = on 1 ∷ (8 ∷ 0 ∷ 1 ∷ 0 ∷ 255 ∷ 0 ∷ []) ∷ idle ∷ (0 ∷ 0 ∷ 1 ∷ 4 ∷ 254 ∷ 7 ∷ []) ∷ on 1 ∷ made 9 ∷ [];
+}
+
+-- "the lowest pending number from 0 to 31, then the lowest transmitter, then the lowest receiver": 42, by which terminal 5 transmits, is
+-- picked and not 33, by which terminal 0 receives; 31 and not 32; 33 and not 35. The words are held, and each is taken. Wrong: the lowest
+-- number of all, the highest of a class, or a terminal before the other lines
+abbrev pub writes-before-reads : Bench
+writes-before-reads = record {
+  input =
+      interrupting (2 ^ 33 + 2 ^ 42 + 2 ^ 44) 7 ∷ interrupting (2 ^ 31 + 2 ^ 32) 8 ∷ interrupting (2 ^ 33 + 2 ^ 35) 9
+      ∷ ask 9 42 ∷ ask 9 31 ∷ ask 9 33 ∷ [];
+  last = made 7 ∷ made 8 ∷ made 9 ∷ [];
 }
 
 -- "no pending device or one over 47": device 48 is refused beside device 0 too, and no word is held for 0. Wrong: 48 is looked at only
@@ -139,7 +150,7 @@ abbrev pub slips : List Bench
 slips =
     idling-behind-a-trap ∷ notice-in-no-block ∷ slice-not-renewed ∷ waiters-before-the-runner ∷ blocks-freed ∷ late-answer ∷ name-comes-round
     ∷ down-before-rubbish ∷ rubbish-before-no-runner ∷ first-before-full ∷ dead-before-full
-    ∷ word-held-and-taken ∷ waiter-gets-the-word ∷ none-or-one-over-47 ∷ brother-outlives
+    ∷ word-held-and-taken ∷ waiter-gets-the-word ∷ writes-before-reads ∷ none-or-one-over-47 ∷ brother-outlives
     ∷ gone-is-not-unset ∷ set-again-ends ∷ gone-manager-is-none ∷ oldest-first ∷ notice-read-once ∷ []
 
 pub the-slips-are-told-apart : map given slips ≡ map (λ s. s .last) slips
