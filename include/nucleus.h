@@ -168,7 +168,8 @@ struct nucleus_dumped nucleus_dump(const struct nucleus_tables *tables, uint8_t 
 /* Puts the tables of a dump there: 0, or 13 for "bytes that are no dump". The room may hold anything before. */
 uint8_t nucleus_load(struct nucleus_tables *tables, const uint8_t *bytes, size_t length);
 
-/* "The pick is the lowest pending device number", bit n for device n. Refusal 2 with none pending, or one over 47. */
+/* Bit n of pending is device n. The pick takes "the lowest pending number from 0 to 31, then the lowest transmitter" (32, 34 .. 46), "then the
+   lowest receiver" (33, 35 .. 47), so that a held key does not delay a log. Refusal 2 with none pending, or one over 47. */
 struct nucleus_picked nucleus_pick(uint64_t pending);
 
 /* The library's own sizes, to hold this file to. */

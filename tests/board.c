@@ -564,7 +564,9 @@ static void picks(void)
         uint64_t pending;
         unsigned long refusal, device;
     } picks[] = {{0, 2, 255}, {1, 0, 0}, {(uint64_t)1 << 47, 0, 47}, {(uint64_t)1 << 48, 2, 255}, {~(uint64_t)0, 2, 255},
-                 {(uint64_t)1 << 40 | 1 << 9 | 1 << 5, 0, 5}, {(uint64_t)1 << 63 | 1, 2, 255}};
+                 {(uint64_t)1 << 40 | 1 << 9 | 1 << 5, 0, 5}, {(uint64_t)1 << 63 | 1, 2, 255},
+                 {(uint64_t)1 << 42 | (uint64_t)1 << 33, 0, 42}, {(uint64_t)1 << 46 | (uint64_t)1 << 44 | (uint64_t)1 << 33, 0, 44},
+                 {(uint64_t)1 << 47 | (uint64_t)1 << 35, 0, 35}, {(uint64_t)3 << 32 | (uint64_t)1 << 31, 0, 31}, {(uint64_t)3 << 32, 0, 32}};
     for (size_t i = 0; i < sizeof picks / sizeof picks[0]; i++) {
         struct nucleus_picked p = nucleus_pick(picks[i].pending);
         equal(p.refusal, picks[i].refusal, "refusal of a pick", i);

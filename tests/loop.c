@@ -88,6 +88,11 @@ int main(void)
     pending = (uint64_t)1 << 48;
     on_device(), noted_is("");
     call(NUCLEUS_REQUEST, 2, NUCLEUS_WAITFORIO, 33, "answer:0,4,254,C1C2C321 resumed:0 ");
+    call(NUCLEUS_REQUEST, 2, NUCLEUS_WAITFORIO, 33, "waits ");
+    pending = (uint64_t)1 << 33 | (uint64_t)1 << 42; /* the log on terminal 5 goes before the key on terminal 0 */
+    on_device(), noted_is("waits ");
+    on_device(), noted_is("answer:0,4,254,C1C2C321 resumed:0 ");
+    call(NUCLEUS_REQUEST, 2, NUCLEUS_WAITFORIO, 42, "answer:0,4,254,C1C2C32A resumed:0 ");
     on_tick(), noted_is("resumed:0 ");
     call(NUCLEUS_RECEIVE, 1, NUCLEUS_NOBODY, 0, "stopped:3 ");
     on_tick(), noted_is("stopped:3 ");

@@ -1,6 +1,6 @@
 //! Events as bytes. The patterns are the table of tags: tag, length, value.
 
-use crate::numbers::{DEVICES, TRAP_KINDS};
+use crate::numbers::{DEVICES, LINES, RECEIVERS, TRANSMITTERS, TRAP_KINDS};
 
 #[derive(Clone, Copy, Debug)]
 pub enum Event {
@@ -57,7 +57,12 @@ fn request(service: u8, argument: u8) -> Option<Call> {
     }
 }
 
-/// The lowest pending device; none if nothing is pending or anything over 47 is.
+/// The lowest pending device of lines 3 to 6, else the lowest transmitter, else the lowest receiver; none if nothing is pending or anything
+/// over 47 is.
 fn pick(pending: u64) -> Option<u8> {
-    (pending != 0 && pending >> DEVICES == 0).then(|| pending.trailing_zeros() as u8)
+    if pending >> DEVICES != 0 {
+        return None;
+    }
+    let mut classes = [LINES, TRANSMITTERS, RECEIVERS].into_iter().map(|class| pending & class);
+    classes.find(|&pending| pending != 0).map(|pending| pending.trailing_zeros() as u8)
 }

@@ -6,6 +6,10 @@ pub const BLOCKS: usize = if cfg!(feature = "big") { 128 } else { 20 };
 /// The ordinary messages, and a notice of each thread.
 pub const MESSAGES: usize = BLOCKS + THREADS;
 pub const DEVICES: usize = 48;
+/// Devices 0 to 31, what terminals transmit by and what they receive by, as bits of the pending word.
+pub const LINES: u64 = 0x0000_0000_FFFF_FFFF;
+pub const TRANSMITTERS: u64 = 0x0000_5555_0000_0000;
+pub const RECEIVERS: u64 = 0x0000_AAAA_0000_0000;
 pub const TRAP_KINDS: u8 = 3;
 /// Names are 0 to 253.
 pub const NAMES: u8 = 254;

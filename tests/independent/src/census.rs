@@ -5,7 +5,7 @@
 
 use crate::event::{self, Event, Request};
 use crate::node::{Decision, Node, Status};
-use crate::numbers::{Name, NAMES, SLICE, THREADS};
+use crate::numbers::{Name, LINE_DEVICES, NAMES, SLICE, THREADS};
 use crate::rings::{entries_between, in_ring_of_traps, traps_behind};
 use crate::thread::{Manager, MessageKind, State, Thread, Wanted};
 use std::collections::{BTreeMap, BTreeSet};
@@ -25,7 +25,7 @@ pub struct Census {
 
 /// Everything that can be noted.
 #[rustfmt::skip]
-pub const STATES: [&str; 79] = [
+pub const STATES: [&str; 81] = [
     // Full tables and full blocks.
     "20 threads", "20 messages", "20 threads and 20 messages", "8 messages in one inbox", "notice among 20 messages",
     "send to a waiting thread, blocks full", "decision with blocks full", "trap, blocks full", "send to oneself",
@@ -52,7 +52,8 @@ pub const STATES: [&str; 79] = [
     "slice ends with empty queue", "idle tick", "20 idle ticks", "beat while idle wakes", "beat while idle wakes 3",
     // Devices.
     "held word taken", "held word overwritten", "5 held words", "20 held words", "48 held words", "interrupt ends idling",
-    "interrupt while running wakes", "interrupt with others pending", "8 device waiters",
+    "interrupt while running wakes", "interrupt with others pending", "transmitter before a lower receiver",
+    "receiver with others pending", "8 device waiters",
     // Stops.
     "halts", "panics", "panics with somebody trapped",
 ];
@@ -163,8 +164,11 @@ impl Census {
         self.mark("held word overwritten", before.held().contains_key(&device));
         self.mark("interrupt ends idling", before.runner().is_none() && after.runner().is_some());
         self.mark("interrupt while running wakes", before.runner().is_some() && waited);
-        let pending: u32 = bytes[3..11].iter().map(|byte| byte.count_ones()).sum();
-        self.mark("interrupt with others pending", pending > 1);
+        let pending = bytes[3..11].iter().fold(0u64, |word, &byte| word << 8 | u64::from(byte));
+        let others = pending.count_ones() > 1;
+        self.mark("interrupt with others pending", others);
+        self.mark("transmitter before a lower receiver", pending.trailing_zeros() < device.into());
+        self.mark("receiver with others pending", others && device > LINE_DEVICES && device % 2 == 1);
     }
 
     /// The events that need a runner.

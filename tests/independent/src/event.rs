@@ -1,6 +1,6 @@
 //! Events as bytes.
 
-use crate::numbers::{Name, Refusal, DEVICES, KINDS, NOBODY};
+use crate::numbers::{Name, Refusal, DEVICES, KINDS, LINE_DEVICES, NOBODY, TERMINALS};
 use crate::thread::Wanted;
 
 pub const SEND: u8 = 16;
@@ -132,7 +132,7 @@ fn service_facts(service: u8) -> Option<&'static ServiceFacts> {
     SERVICES.iter().find(|facts| facts.service == service)
 }
 
-/// The lowest pending device, as refusal and device.
+/// The device to serve, as refusal and device.
 pub fn pick(pending: u64) -> (u8, u8) {
     match picked(pending) {
         Some(device) => (0, device),
@@ -144,7 +144,14 @@ fn picked(pending: u64) -> Option<u8> {
     if pending >> DEVICES != 0 {
         return None;
     }
-    (0..DEVICES).find(|&device| pending & (1u64 << device) != 0)
+    pick_order().find(|&device| pending & (1u64 << device) != 0)
+}
+
+/// In which order devices are looked at: the lines, then the terminals, all that transmit before all that receive (document 02, CR 1).
+pub fn pick_order() -> impl Iterator<Item = u8> {
+    let transmitters = (0..TERMINALS).map(|terminal| LINE_DEVICES + 2 * terminal);
+    let receivers = (0..TERMINALS).map(|terminal| LINE_DEVICES + 2 * terminal + 1);
+    (0..LINE_DEVICES).chain(transmitters).chain(receivers)
 }
 
 /// The bytes as one event, or `None` for refusal 2.

@@ -23,6 +23,10 @@ pub const SLICE: u8 = 5;
 pub const BEAT: u8 = 20;
 /// Devices are 0 to `DEVICES` - 1.
 pub const DEVICES: u8 = 48;
+/// Devices of lines 3 to 6: 0 to `LINE_DEVICES` - 1.
+pub const LINE_DEVICES: u8 = 32;
+/// Terminals of line 7, with two devices each.
+pub const TERMINALS: u8 = 8;
 /// Trap kinds are 0 to `KINDS` - 1.
 pub const KINDS: u8 = 3;
 

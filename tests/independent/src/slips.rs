@@ -5,7 +5,7 @@
 use crate::dump;
 use crate::event::{self, bytes, Event, Request};
 use crate::node::{Decision, Node};
-use crate::numbers::{DEVICES, GONE, NOBODY, SLICE};
+use crate::numbers::{GONE, NOBODY, SLICE};
 use crate::program::{self, FieldReader};
 use crate::tables::{state, Rule, Tables};
 use std::io::{self, Read, Write};
@@ -13,7 +13,7 @@ use std::io::{self, Read, Write};
 /// Changes what comes of a step: the node before it, the field, the tables after it, the decision.
 pub type Slip = fn(&Node, &[u8], &mut Tables, &mut Decision);
 
-pub const IN_STEP: [(&str, Slip); 14] = [
+pub const IN_STEP: [(&str, Slip); 16] = [
     ("idles with somebody trapped", idles_with_somebody_trapped),
     ("counts notices among the 20", counts_notices),
     ("renews the slice after a receive", renews_the_slice),
@@ -27,6 +27,8 @@ pub const IN_STEP: [(&str, Slip); 14] = [
     ("counts ticks in a byte", counts_in_a_byte),
     ("goes round after name 254", goes_round_late),
     ("picks the highest device", picks_the_highest),
+    ("picks the lowest number", picks_the_lowest_number),
+    ("picks receivers before transmitters", picks_receivers_first),
     ("answers sender gone with a word", sender_gone_with_a_word),
 ];
 
@@ -145,14 +147,27 @@ fn goes_round_late(before: &Node, field: &[u8], _: &mut Tables, decision: &mut D
 }
 
 fn picks_the_highest(before: &Node, field: &[u8], tables: &mut Tables, decision: &mut Decision) {
+    picks(before, field, tables, decision, |pending| 63 - pending.leading_zeros());
+}
+
+fn picks_the_lowest_number(before: &Node, field: &[u8], tables: &mut Tables, decision: &mut Decision) {
+    picks(before, field, tables, decision, u64::trailing_zeros);
+}
+
+fn picks_receivers_first(before: &Node, field: &[u8], tables: &mut Tables, decision: &mut Decision) {
+    picks(before, field, tables, decision, |pending| {
+        let mut order = (0..32).chain((33..48).step_by(2)).chain((32..48).step_by(2));
+        order.find(|device| pending & (1 << device) != 0).unwrap_or(0)
+    });
+}
+
+/// What an accepted interrupt would have done with another of its pending devices.
+fn picks(before: &Node, field: &[u8], tables: &mut Tables, decision: &mut Decision, device: impl Fn(u64) -> u32) {
     let Some(Event::Interrupt { status, .. }) = event::read(field) else { return };
     let pending = field[3..11].iter().fold(0u64, |number, &byte| number << 8 | u64::from(byte));
-    let highest = 63 - pending.leading_zeros().min(63);
-    if highest < DEVICES.into() {
-        let mut other = before.clone();
-        *decision = other.step(&bytes::interrupt(1 << highest, status));
-        *tables = other.tables();
-    }
+    let mut other = before.clone();
+    *decision = other.step(&bytes::interrupt(1 << device(pending), status));
+    *tables = other.tables();
 }
 
 fn sender_gone_with_a_word(_: &Node, _: &[u8], _: &mut Tables, decision: &mut Decision) {

@@ -79,6 +79,34 @@ fn the_pick() {
     assert_eq!(pick((1 << 48) - 2), (0, 1));
 }
 
+/// Document 02, CR 1.
+#[test]
+fn terminals_write_before_they_read() {
+    let of = |devices: &[u8]| pick(devices.iter().fold(0, |word, device| word | 1u64 << device));
+    // The log on terminal 5 before the key on terminal 0.
+    assert_eq!(of(&[42, 33]), (0, 42));
+    assert_eq!(of(&[46, 33]), (0, 46));
+    assert_eq!(of(&[33, 32]), (0, 32));
+    assert_eq!(of(&[42, 44, 46]), (0, 42));
+    assert_eq!(of(&[47, 33, 35]), (0, 33));
+    assert_eq!(of(&[31, 32, 33]), (0, 31));
+    assert_eq!(of(&[47, 46, 31, 0]), (0, 0));
+    assert_eq!(of(&[42, 33, 48]), (2, 255));
+    for device in 0..48 {
+        assert_eq!(of(&[device]), (0, device));
+    }
+}
+
+#[test]
+fn an_interrupt_serves_the_picked_device() {
+    let mut node = Node::start();
+    accept(&mut node, interrupt(1 << 33 | 1 << 42, 7));
+    accept(&mut node, interrupt(1 << 33, 8));
+    for (device, word) in [(42, 7), (33, 8)] {
+        assert_eq!(accept(&mut node, request(9, device)), (0, 0, 0, 4, 254, word));
+    }
+}
+
 #[test]
 fn names_that_are_not_live() {
     let mut node = Node::start();

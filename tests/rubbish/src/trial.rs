@@ -143,11 +143,13 @@ impl Trial<'_> {
 
     fn pick(&mut self) {
         let bits = self.random.bits() & self.random.bits() & self.random.bits();
-        let pending = match self.random.below(4) {
+        let pending = match self.random.below(5) {
             0 => 0,
             1 => 1 << self.random.below(64),
             2 => bits,
-            _ => bits << 16 >> 16,
+            3 => bits << 16 >> 16,
+            // Terminals alone.
+            _ => bits << 16 >> 48 << 32,
         };
         let (refusal, device) = nucleus::pick(pending);
         count(&mut self.tally.picks, refusal);

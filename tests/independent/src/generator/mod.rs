@@ -9,7 +9,7 @@ mod actions;
 mod moods;
 mod wrong;
 
-use crate::event::bytes;
+use crate::event::{self, bytes};
 use crate::node::{Decision, Node};
 use crate::numbers::{Name, BEAT, DEVICES, FIRST, KINDS, SLICE, THREADS};
 use crate::random::Random;
@@ -250,12 +250,12 @@ impl Generator {
         self.interrupt_of(device)
     }
 
-    /// The device is the lowest pending one; others may be pending too.
+    /// The device is the one to be picked; others may be pending too, behind it in the order.
     fn interrupt_of(&mut self, device: u8) -> Vec<u8> {
         let mut pending = 1u64 << device;
         if self.random.one_in(3) {
-            let all = (1u64 << DEVICES) - 1;
-            pending |= self.random.bits() & self.random.bits() & all & !(pending - 1);
+            let behind = event::pick_order().skip_while(|&other| other != device).fold(0, |word, other| word | 1u64 << other);
+            pending |= self.random.bits() & self.random.bits() & behind;
         }
         bytes::interrupt(pending, self.word())
     }
