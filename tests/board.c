@@ -1,7 +1,8 @@
 /* Holds include/nucleus.h to the library, by what the calls do: built and run by tests/board. The last line is 'N passed, M failed'.
 
    Tables are made as a model of this file, which knows document 01 alone, written as a dump and loaded. Every call is made with guard
-   bytes around all that is lent to it, and on a stack of its own, which shows how much of it was written. */
+   bytes around all that is lent to it, and on a stack of its own, which shows how much of it was written. A line for each call says how many
+   bytes of stack it took at the deepest: 'stack CALL BYTES'. tests/board judges them. */
 #define _POSIX_C_SOURCE 200809L
 #include "nucleus.h"
 
@@ -10,7 +11,6 @@
 #include <string.h>
 
 #define GUARD 0xA5
-#define ENOUGH_STACK 16384 /* what docs/BOARD.md says of it */
 
 /* ---- what is lent, with guard bytes around it */
 
@@ -75,34 +75,54 @@ static void after_call(const char *call, unsigned refusal, int tables_stand, siz
 
 /* ---- each call, on a stack of its own */
 
-enum call { NO_CALL, START, STEP, CHECK, DUMP, LOAD, CALLS };
-static const char *const call_names[] = {"no call", "start", "step", "check", "dump", "load"};
-static size_t deepest[CALLS]; /* bytes of stack */
+enum call { NO_CALL, START, STEP, CHECK, DUMP, LOAD, PICK, SIZES, CALLS };
+static const char *const call_names[] = {"no call", "nucleus_start", "nucleus_step", "nucleus_check", "nucleus_dump", "nucleus_load",
+                                         "nucleus_pick", "nucleus_sizes"};
+static size_t deepest[CALLS]; /* bytes, from the top of the stack */
+static uint8_t stack[1 << 17];
+
+/* A call is made so far down the stack. A thread writes some KB of it by itself when it starts and ends: nearer to the top this would
+   hide what a call writes. */
+#define DOWN 32768
 
 static struct {
-    size_t length; /* of the event, of the buffer or of the dump */
+    uintptr_t down; /* that place; since it is kept, the compiler leaves the way to it as long as it is */
+    size_t length;  /* of the event, of the buffer or of the dump */
+    uint64_t pending;
     struct nucleus_report report;
     struct nucleus_dumped dumped;
+    struct nucleus_picked picked;
+    struct nucleus_sizes sizes;
     uint8_t refusal;
 } now;
 
+static void nothing(void)
+{
+}
+
+/* The compiler cannot know what it calls, and leave that out. */
+static void (*volatile no_call)(void) = nothing;
+
 static void *make_call(void *which)
 {
+    volatile uint8_t above[DOWN];
+    above[0] = 0;
+    now.down = (uintptr_t)above;
     switch (*(enum call *)which) {
     case START: nucleus_start(t); break;
     case STEP: now.report = nucleus_step(t, buffer.bytes, now.length); break;
     case CHECK: now.refusal = nucleus_check(t); break;
     case DUMP: now.dumped = nucleus_dump(t, buffer.bytes, now.length); break;
     case LOAD: now.refusal = nucleus_load(t, buffer.bytes, now.length); break;
-    default: break;
+    case PICK: now.picked = nucleus_pick(now.pending); break;
+    case SIZES: now.sizes = nucleus_sizes(); break;
+    default: no_call(); break;
     }
     return NULL;
 }
 
-/* What a thread takes of a stack by itself is what it takes with no call. */
 static void call(enum call which, size_t length)
 {
-    static uint8_t stack[1 << 17];
     pthread_attr_t with_stack;
     pthread_t thread;
     size_t untouched = 0;
@@ -157,6 +177,23 @@ static uint8_t load(const uint8_t *bytes, size_t length)
     call(LOAD, length);
     after_call("load", now.refusal, now.refusal != 0, 0);
     return now.refusal;
+}
+
+static struct nucleus_picked pick(uint64_t pending)
+{
+    now.pending = pending;
+    before_call();
+    call(PICK, 0);
+    after_call("pick", now.picked.refusal, 1, 0);
+    return now.picked;
+}
+
+static struct nucleus_sizes sizes(void)
+{
+    before_call();
+    call(SIZES, 0);
+    after_call("sizes", 0, 1, 0);
+    return now.sizes;
 }
 
 /* ---- tables as this file knows them */
@@ -325,9 +362,9 @@ static void make_full(void)
 
 /* ---- the tests */
 
-static void sizes(void)
+static void its_sizes(void)
 {
-    struct nucleus_sizes s = nucleus_sizes();
+    struct nucleus_sizes s = sizes();
     equal(s.tables, sizeof(struct nucleus_tables), "bytes of tables", 0);
     equal(s.tables, NUCLEUS_TABLES_BYTES, "bytes of tables", 1);
     equal(sizeof t->words / sizeof t->words[0], NUCLEUS_TABLES_WORDS, "words of tables", 0);
@@ -398,6 +435,9 @@ static void no_dumps(void)
     for (size_t n = 0; n < 12; n++)
         equal(load(made, n), NUCLEUS_NO_DUMP, "a dump cut in field 1", n);
     equal(load(made, made_length - 1), NUCLEUS_NO_DUMP, "a dump cut short", 0);
+    made[3] ^= 1; /* tables hold no status: this is refused last of all, when the dump is written again */
+    equal(load(made, made_length), NUCLEUS_NO_DUMP, "another status", 0);
+    made[3] ^= 1;
     made[4] = 254;
     equal(load(made, made_length), NUCLEUS_NO_DUMP, "a name given last that cannot be", 0);
 }
@@ -510,20 +550,70 @@ static size_t from_hex(const char *hex, uint8_t *bytes)
     return n / 2;
 }
 
+/* The report for the last of them. */
+static struct nucleus_report steps(const char *hex, unsigned times)
+{
+    uint8_t bytes[32] = {0};
+    size_t n = from_hex(hex, bytes);
+    struct nucleus_report r = {0};
+    for (unsigned k = 0; k < times; k++)
+        r = step(bytes, n);
+    return r;
+}
+
 static void each_event(void)
 {
     for (size_t i = 0; i < sizeof events / sizeof events[0]; i++) {
-        uint8_t bytes[32] = {0};
-        struct nucleus_report r = {0};
         if (!events[i].hex) {
             start();
             continue;
         }
-        size_t n = from_hex(events[i].hex, bytes);
-        for (unsigned k = 0; k < events[i].times; k++)
-            r = step(bytes, n);
-        reports(events[i].hex, r, events[i].report);
+        reports(events[i].hex, steps(events[i].hex, events[i].times), events[i].report);
         equal(check(), 0, events[i].hex, 6);
+    }
+}
+
+/* The full tables are checked before the event is refused. */
+static void a_stopped_node(void)
+{
+    equal(steps("14 0000", 1).refusal, NUCLEUS_NODE_STOPPED, "full tables", 7);
+}
+
+/* Every kind of event on the mixed tables, where most rows are full: for the stack. Of what they do, only the refusal is looked at. */
+static void each_kind(void)
+{
+    static const struct {
+        const char *hex;
+        unsigned times;
+        unsigned long refusal;
+    } kinds[] = {
+        {"10 0005 52 00000001", 1, 0}, /* to one that waits for anybody, to oneself with the last block, and once more */
+        {"10 0005 26 00000001", 1, 0},
+        {"10 0005 26 00000001", 2, 5},
+        {"11 0001 FF", 1, 0}, /* a message is there; one from thread 0 is not */
+        {"11 0001 00", 1, 0},
+        {"12 0002 01 00", 1, 6},
+        {"12 0002 02 00", 1, 6},
+        {"12 0002 03 FF", 1, 0},
+        {"12 0002 03 00", 1, 0},
+        {"12 0002 04 00", 1, 0},
+        {"12 0002 05 00", 1, 0},
+        {"12 0002 06 00", 1, 0},
+        {"12 0002 07 00", 1, 0},
+        {"12 0002 08 00", 1, 0},
+        {"12 0002 09 05", 1, 0}, /* a word is held; another thread waits */
+        {"12 0002 09 15", 1, 8},
+        {"13 0005 00 00000001", 1, 0},
+        {"13 0005 01 00000001", 1, 0},
+        {"13 0005 02 00000001", 1, 0}, /* nobody manages it */
+        {"14 0000", 3, 0},             /* the slice is used up, and the beat comes */
+        {"15 000C 0000000000000001 00000001", 1, 0}, /* a thread waits for it, and nobody does */
+        {"15 000C 0000000000000002 00000001", 1, 0},
+    };
+    for (size_t i = 0; i < sizeof kinds / sizeof kinds[0]; i++) {
+        put_model("each kind", NUCLEUS_RUNNING);
+        equal(steps(kinds[i].hex, kinds[i].times).refusal, kinds[i].refusal, kinds[i].hex, 7);
+        equal(check(), 0, kinds[i].hex, 8);
     }
 }
 
@@ -568,30 +658,28 @@ static void picks(void)
                  {(uint64_t)1 << 42 | (uint64_t)1 << 33, 0, 42}, {(uint64_t)1 << 46 | (uint64_t)1 << 44 | (uint64_t)1 << 33, 0, 44},
                  {(uint64_t)1 << 47 | (uint64_t)1 << 35, 0, 35}, {(uint64_t)3 << 32 | (uint64_t)1 << 31, 0, 31}, {(uint64_t)3 << 32, 0, 32}};
     for (size_t i = 0; i < sizeof picks / sizeof picks[0]; i++) {
-        struct nucleus_picked p = nucleus_pick(picks[i].pending);
+        struct nucleus_picked p = pick(picks[i].pending);
         equal(p.refusal, picks[i].refusal, "refusal of a pick", i);
         equal(p.device, picks[i].device, "device of a pick", i);
     }
 }
 
-/* By itself the thread takes some stack too, which is not counted. */
+/* What a call takes lies below its caller's frame. An empty call shows where that ends: it writes a return address at most, which is counted as
+   taken. It ends next below the place of the calls; else the thread by itself has reached down to it, and nothing is known. */
 static void stacks(void)
 {
     call(NO_CALL, 0);
-    printf("bytes of stack at the deepest:");
-    for (int which = START; which < CALLS; which++) {
-        size_t taken = deepest[which] - deepest[NO_CALL];
-        expect(taken <= ENOUGH_STACK, call_names[which], taken);
-        printf(" %s %zu", call_names[which], taken);
-    }
-    putchar('\n');
+    size_t down = (uintptr_t)(stack + sizeof stack) - now.down, reached = deepest[NO_CALL];
+    expect(down > DOWN && reached >= down && reached <= down + 256, "the thread by itself reaches down to the calls", reached);
+    for (int which = START; which < CALLS; which++)
+        printf("stack %s %zu\n", call_names[which], deepest[which] - reached + sizeof(void *));
 }
 
 int main(void)
 {
     memset(&room, GUARD, sizeof room);
     memset(&buffer, GUARD, sizeof buffer);
-    sizes();
+    its_sizes();
     for (size_t i = 0; i < FILLINGS; i++)
         no_tables(fillings[i]);
     starts();
@@ -599,9 +687,11 @@ int main(void)
     make_full();
     there_and_back("full tables", NUCLEUS_PANICKED);
     no_dumps();
+    a_stopped_node();
     make_mixed();
     there_and_back("mixed tables", NUCLEUS_RUNNING);
     no_dumps();
+    each_kind();
     a_tick();
     each_event();
     the_end_of_all();
