@@ -95,13 +95,17 @@ fresh (suc k) n T b l = go (live (after n 1) T) refl (λ le. fresh k (after n 1)
 pub name-low : (T : Tables) → next-name T < names
 name-low T = let p = found (length (T .threads)) (T .last) T in rw (p .given) (mod-lt (T .last + p .steps) (omega arith))
 
+-- where there are fewer than 254 threads, it is no live thread's
+pub name-fresh : (T : Tables) → length (T .threads) < names → live (next-name T) T ≡ false
+name-fresh T few = fresh (length (T .threads)) (T .last) T few (omega arith)
+
 -- with room for fewer than 254 threads, and no more there than the room, the name given is no live thread's
 pub name-free : (L : Limits) (T : Tables) → L .threads < names → T .last < names → length (T .threads) ≤ L .threads → live (next-name T) T ≡ false
-name-free L T l h few = fresh (length (T .threads)) (T .last) T (omega arith) (omega arith)
+name-free L T l h few = name-fresh T (omega arith)
 
 -- Law 7: the name given is the first of the successors, modulo 254, of the name given last that no live thread has.
 pub name-is-first-free : (T : Tables) → T .last < names → length (T .threads) < names →
     (i : ℕ) × (1 ≤ i) × (next-name T ≡ (T .last + i) % names) × (live (next-name T) T ≡ false) × ((j : ℕ) → 1 ≤ j → j < i → live ((T .last + j) % names) T ≡ true)
 name-is-first-free T h few =
     let p = found (length (T .threads)) (T .last) T in
-    (p .steps, p .some, p .given, fresh (length (T .threads)) (T .last) T few (omega arith), p .passed)
+    (p .steps, p .some, p .given, name-fresh T few, p .passed)

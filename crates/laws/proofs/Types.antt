@@ -20,6 +20,10 @@ use Rattle.rules.specs.TableRules.{answer-in-range}
 
 -- ---- places
 
+-- threads stand by rising name
+abbrev pub Rising : List Thread → Type 0
+Rising ts = chain (λ t u. ltb (t .name) (u .name)) ts ≡ true
+
 -- how many threads of name n are in a kind of state
 unfoldable pub here : (State → Bool) → ℕ → List Thread → ℕ
 here p n ts = count (λ t. named n t && p (t .state)) ts
@@ -94,7 +98,7 @@ pub record Good (b : ℕ) (ts : List Thread) (ms : List Message) (hs : List Held
   pub messages : (m : Message) → List·Memᴰ m ms → Post ts m
   pub notices : (n : ℕ) → count (notice-of n) ms ≤ 1
   pub blocks : count (λ m. is-ordinary (m .kind)) ms ≤ b
-  pub rising : chain (λ t u. ltb (t .name) (u .name)) ts ≡ true
+  pub rising : Rising ts
   pub order : chain (λ m n. leb (m .to) (n .to)) ms ≡ true
   pub held : (h : Held) → List·Memᴰ h hs → (h .device < devices) × (h .word < wrap)
   pub held-order : chain (λ h k. ltb (h .device) (k .device)) hs ≡ true

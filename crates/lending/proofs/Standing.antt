@@ -28,7 +28,7 @@ checked m e =
     let s : shaped small m ≡ true = and-left (shaped small m) _ e in
     let l : limits m ≡ small = own-limits small m s in
     let r : Ruled (limits m) (tables m) = rw l (tested-ruled small (tables m) (and-right (shaped small m) _ e)) in
-    (record { holding = record { shaped = shaped-right small m s (omega arith) (omega arith); once = r .inv .agree .once }; ruled = r }, l)
+    (record { holding = record { shaped = shaped-right small m s (omega arith) (omega arith); rising = r .fits .rising; once = r .inv .agree .once }; ruled = r }, l)
 
 -- and one that stands with these limits passes
 pub passes : (m : List ℕ) → Stands m → limits m ≡ small → stands small m ≡ true

@@ -1,4 +1,5 @@
 pub mod Found
+pub mod Halving
 pub mod Loops
 pub mod Marking
 pub mod Sets

@@ -11,6 +11,7 @@ ghost use lib.Dec.{ltb};
 ghost use lib.ListN.{getD, take, drop};
 ghost use Rattle.rules.specs.Lists.{if_then_else_, any, count as count-of};
 ghost use Rattle.rules.specs.Tables.{named, in-state};
+ghost use Rattle.laws.proofs.Types.{Rising};
 ghost use Rattle.rules.specs.States.{on-clock, waits-for, wakes-from-outside};
 ghost use Rattle.rules.specs.declared.State.the-variants.{Ready as ReadyState};
 ghost use Rattle.rules.specs.declared.Answer.the-variants.{Result as ResultIs};
@@ -120,20 +121,22 @@ fn walk_wakes(m: &[u32]) -> bool
     false
 }
 
-// The place of a newcomer's name: where the first thread stands whose name is not below it.
+// The place of a name: where the first thread stands whose name is not below it. The names rise, so each look halves what is left.
 pub fn find_place(m: &[u32], name: u8) -> usize
-    requires { ⌜ Roomy (rows-of (now m)) × (rows-of (now m) .count ≤ rows-of (now m) .limits .threads) ⌝ }
+    requires { ⌜ Roomy (rows-of (now m)) × (rows-of (now m) .count ≤ rows-of (now m) .limits .threads) × Rising (view (rows-of (now m)) .threads) ⌝ }
     ensures { λ r. ⌜ r ≡ place (λ t. not (ltb (t .name) name)) (view (rows-of (now (m .entry))) .threads) ⌝ }
 {
-    let n = rows::count(m);
-    let mut i = 0;
-    while i < n {
-        if rows::name_at(m, i) >= name {
-            return i;
+    let mut low = 0;
+    let mut high = rows::count(m);
+    while low < high {
+        let middle = low + (high - low) / 2;
+        if rows::name_at(m, middle) < name {
+            low = middle + 1;
+        } else {
+            high = middle;
         }
-        i += 1;
     }
-    i
+    low
 }
 
 // A thread comes in at a place: each from there on goes one further.

@@ -1,7 +1,7 @@
 -- What the requests leave, in the words of the rules: a newcomer, an ending or a new entry, a runner that waits, a held word that is taken.
 -- Assumes nothing.
-use Prim.Native.Nat.{ℕ, _+_, _-_, _%_, _≤_, _<_}
-use mathlib.Core.Path.{_≡_, refl, sym, ap, ap₂, _∙_}
+use Prim.Native.Nat.{ℕ, _+_, _≤_, _<_}
+use mathlib.Core.Path.{_≡_, refl, sym, ap, _∙_}
 use mathlib.Core.Bool.{Bool, true, false, _||_, not, false≢true}
 use mathlib.Core.List.{List, [], _∷_, _++_}
 use native.Mathlib.Omega.{arith}
@@ -16,17 +16,12 @@ use Rattle.rules.specs.Requests.{next-name, create, create-brother, terminate, 
 use Rattle.laws.proofs.Words.{TrapKind, Ready, Clock, Device, Answer, Nothing, Result, Manager, Unset, Parent, NoParent, Thread, Held, Target}
 use Rattle.laws.proofs.Single.{rest-once, rest-none}
 use Rattle.laws.proofs.Names.{name-free}
-use Rattle.laws.proofs.Naming.{from-name, loop-begins}
 use Rattle.laws.proofs.Room.{queues-room}
 use Rattle.store.specs.Store.{limits, tables, Leaves, Hands, word-for}
 use Rattle.handling.specs.Standing.{Holds, Stands}
 use Rattle.handling.proofs.Leaving.{and-then, and-hands}
 
 -- ---- a newcomer
-
--- the search begins at the successor k of the name l given last, with as many tries as there are threads
-pub search-begins : (T : Tables) (n l k : ℕ) → n ≡ length (T .threads) → l ≡ T .last → k ≡ (l + 1) % names → from-name (n - 0) k T ≡ next-name T
-search-begins T n l k e f g = ap₂ (λ (i j : ℕ). from-name (i - 0) j T) e (g ∙ ap (λ (j : ℕ). (j + 1) % names) f) ∙ loop-begins T
 
 module _ {m : List ℕ} (p : Parent) (n : ℕ) (x : Thread) (e : n ≡ next-name (tables m)) (f : x ≡ new-thread n p Ready) where
   -- its name is no thread's

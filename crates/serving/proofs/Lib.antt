@@ -1,3 +1,4 @@
 pub mod Ends
 pub mod Sending
 pub mod Asking
+pub mod Naming

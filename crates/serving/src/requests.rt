@@ -13,12 +13,12 @@ use rules::numbers;
 use store;
 ghost use mathlib.Core.Path.{_≡_};
 ghost use mathlib.Core.Bool.{true, false};
-ghost use Prim.Native.Nat.{_+_, _%_, _<_};
+ghost use Prim.Native.Nat.{_+_, _-_, _%_, _<_};
 ghost use lib.ListN.{length};
 ghost use Rattle.rules.specs.Numbers.{names, devices};
 ghost use Rattle.rules.specs.Tables.{live, new-thread as new-thread-of};
 ghost use Rattle.rules.specs.Refusals.{ends-nobody};
-ghost use Rattle.rules.specs.Requests.{next-name as next-name-of, create as create-of, create-brother as create-brother-of, create-son as create-son-of, terminate as terminate-of, set-manager as set-manager-of, get-cpu-time as get-cpu-time-of, wait-for-clock as wait-for-clock-of, wait-for-io as wait-for-io-of};
+ghost use Rattle.rules.specs.Requests.{free-name, next-name as next-name-of, create as create-of, create-brother as create-brother-of, create-son as create-son-of, terminate as terminate-of, set-manager as set-manager-of, get-cpu-time as get-cpu-time-of, wait-for-clock as wait-for-clock-of, wait-for-io as wait-for-io-of};
 ghost use Rattle.store.specs.Store.{limits, tables, Holding, Hands};
 ghost use Rattle.handling.specs.Standing.{Holds, Stands};
 
@@ -30,23 +30,36 @@ fn successor(name: u8) -> u8
     next as u8
 }
 
-// The first name behind the one given last that no thread has.
+// The first name behind `last`, up to 253, that no thread has, or 0 where all of them are in use. The threads stand by rising name: the walk
+// begins at the first one that is not below, and each that has the name moves it on. It ends before a higher name, or behind the last thread.
+fn free_behind(m: &[u32], last: u8) -> u8
+    requires { ⌜ Holding (now m) ⌝ }
+    ensures { λ n. ⌜ n ≡ free-name (names - (last + 1) % names) last (tables (now (m .entry))) ⌝ }
+{
+    let n = store::thread_count(m);
+    let mut name = successor(last);
+    let mut i = store::place_of(m, name);
+    while i < n {
+        if store::name_at(m, i) != name {
+            return name;
+        }
+        name = successor(name);
+        i += 1;
+    }
+    name
+}
+
+// The first name behind the one given last that no thread has. Behind 253 the walk comes round, once.
 fn next_name(m: &[u32]) -> u8
     requires { ⌜ Holding (now m) ⌝ }
     ensures { λ n. ⌜ n ≡ next-name-of (tables (now (m .entry))) ⌝ }
 {
-    let n = store::thread_count(m);
-    let mut name = successor(store::last(m));
-    let mut tries = 0;
-    while tries < n {
-        if store::is_live(m, name) {
-            name = successor(name);
-            tries += 1;
-        } else {
-            return name;
-        }
+    let name = free_behind(m, store::last(m));
+    if name == 0 {
+        free_behind(m, numbers::NAMES - 1)
+    } else {
+        name
     }
-    name
 }
 
 // A thread with no managers and count 0.

@@ -7,7 +7,7 @@ use native.Mathlib.Numerals.{add-one}
 use native.Mathlib.Omega.{arith}
 use lib.ListN.{length, take, set}
 use lib.Seq.{take-suc-set}
-use Rattle.rules.specs.Lists.{count}
+use Rattle.rules.specs.Lists.{count, chain}
 use Rattle.rules.specs.Numbers.{Limits}
 use Rattle.rules.specs.Tables.{Tables, with-threads, with-messages}
 use Rattle.laws.proofs.Words.{Thread, Message}
@@ -48,9 +48,10 @@ room-is m = refl
 
 -- a memory of that length, with these limits, that holds nothing
 pub empty : (m : List ℕ) (L : Limits) (w : ℕ) → Room L w → length m ≡ w → view (rows-of m) ≡ nothing → rows-of m .limits ≡ L → rows-of m .count ≡ 0 → rows-of m .readies ≡ 0 → rows-of m .clocks ≡ 0 → rows-of m .letters ≡ 0 → Holding m
-unfolding tables Shaped count
+unfolding tables Shaped count chain
 empty m L w R l v e t r c k =
     record {
       shaped = record { limits = refl; roomy = rw (e, room-is m ∙ l) R; threads = omega arith; ready = omega arith; clock = omega arith; messages = omega arith };
+      rising = rw (ap (λ (T : Tables). T .threads) v);
       once = λ n. rw (ap (λ (T : Tables). T .threads) v) (omega arith);
     }

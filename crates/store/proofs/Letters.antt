@@ -41,7 +41,7 @@ module _ (m : List ℕ) (H : Holding m) where
         let e : insert (λ y. leb (y .to) (x .to)) x (tables m .messages) ≡ take i (tables m .messages) ++ x ∷ drop i (tables m .messages)
         = insert-at (λ y. leb (y .to) (x .to)) (λ y. not (leb (y .to) (x .to))) (λ y. refl) x (tables m .messages)
         ∙ ap (λ (j : ℕ). take j (tables m .messages) ++ x ∷ drop j (tables m .messages)) (sym f) in
-        leaves (rw e (messages-are (H .shaped) q)) (H .once)
+        leaves (rw e (messages-are (H .shaped) q)) (H .rising)
 
   -- the oldest that is wanted is at i
   module _ (p : Message → Bool) (i : ℕ) (f : i ≡ place p (view (rows-of m) .messages)) where
@@ -52,7 +52,7 @@ module _ (m : List ℕ) (H : Holding m) where
         let l : List Message = take i (tables m .messages) ++ drop (i + 1) (tables m .messages) in
         let w : pull p (tables m .messages) ≡ pulled x l
         = found-pull p (rows-of m .letters) (rows-of m .messages) i (messages-whole m _ (H .shaped)) f no-message h ∙ ap (λ (y : Message). pulled y l) (sym e) in
-        go (pull p (tables m .messages)) l w (leaves (messages-are (H .shaped) q) (H .once))
+        go (pull p (tables m .messages)) l w (leaves (messages-are (H .shaped) q) (H .rising))
       where
         go : (P : Pulled Message) (l : List Message) → P ≡ pulled x l → Leaves m m′ (with-messages l (tables m)) → Takes m m′ (Took x) P
         go P l w L =

@@ -10,11 +10,12 @@ use Rattle.rules.specs.Words.{by-runner}
 use Rattle.rules.specs.Tables.{Tables, with-runner, with-threads, with-ready, with-clock, with-messages}
 use Rattle.rules.specs.Ending.{without-managers, remove}
 use Rattle.laws.proofs.Words.{Runner, NoRunner, Runs}
+use Rattle.laws.proofs.Types.{Rising}
 use Rattle.memory.specs.Rows.{Rows, view, members, put-runner, ThreadsLeft, ReadyIs, ClockIs, MessagesAre}
 use Rattle.memory.specs.Memory.{rows-of}
 use Rattle.moving.proofs.Steps.{by}
 use Rattle.store.specs.Store.{limits, tables, Leaves, Fills, found, Finding, Removes}
-use Rattle.store.proofs.Written.{Once, leaves, ready-is, clock-is, messages-are, threads-left, runner-put, after, once-map, once-keep}
+use Rattle.store.proofs.Written.{leaves, ready-is, clock-is, messages-are, threads-left, runner-put, after, rising-map, rising-keep}
 
 module _ (set : List ℕ) where
   abbrev no-threads : Tables → Tables
@@ -40,10 +41,10 @@ module _ (set : List ℕ) where
   unfolding remove
   shed-is T = refl
 
-  -- the names that are left stand there once
-  once-left : (T : Tables) → Once (T .threads) → Once (remove set T .threads)
+  -- those who are left stand by rising name
+  rising-left : (T : Tables) → Rising (T .threads) → Rising (remove set T .threads)
   unfolding remove without-managers
-  once-left T o = once-map _ (once-keep (T .threads) o (λ t. not (has (t .name) set))) (without-managers set) (λ t. refl)
+  rising-left T r = rising-map _ (rising-keep (T .threads) r (λ t. not (has (t .name) set))) (without-managers set) (λ t. refl)
 
 -- what is asked of a part, where the set is as it was
 along : {m m₁ m′ : List ℕ} {T : Tables} {s₁ s : List ℕ} (f : List ℕ → Tables → Tables) → s₁ ≡ s → Fills m m₁ T → Fills m₁ m′ (f s₁ (tables m₁)) → Fills m m′ (f s T)
@@ -105,7 +106,7 @@ module _ (m : List ℕ) (F : Finding m) where
               let l : Leaves m m′ (remove gone (tables m))
               = leaves
               (record { says = f .says ∙ (ap (λ (q : Runner). with-runner q (shed gone (tables m))) (sym e) ∙ shed-is gone (tables m)); same = f .same; shaped = f .shaped })
-              (once-left gone (tables m) (F .holding .once)) in
+              (rising-left gone (tables m) (F .holding .rising)) in
               record { leaves = l; set = k .0; finding = record { holding = l .holding; low = k .1 } }
 
           pub removed-idle : (r : Runner) → r ≡ rows-of m₄ .runner → r ≡ NoRunner → Removes m m₄ (remove (found m) (tables m))

@@ -12,13 +12,14 @@ use Rattle.rules.specs.Lists.{if_then_else_, count, insert}
 use Rattle.rules.specs.Numbers.{nobody}
 use Rattle.rules.specs.Tables.{with-threads, named, live, of-thread, change}
 use Rattle.laws.proofs.Words.{Thread}
+use Rattle.laws.proofs.Types.{Rising}
 use Rattle.memory.specs.Rows.{view, Roomy, place, no-thread, no-message, put-threads, ThreadsLeft}
 use Rattle.memory.specs.Memory.{rows-of}
 use Rattle.memory.proofs.Sizes.{threads-whole, threads-count, ready-count, clock-count, messages-count}
 use Rattle.moving.proofs.Steps.{by}
 use Rattle.moving.proofs.Found.{any-place, found-thread, no-such-thread, found-map, no-map, found-within, insert-at}
 use Rattle.store.specs.Store.{limits, tables, Shaped, Holding, Leaves, name-where}
-use Rattle.store.proofs.Written.{fills, leaves, threads-left, once-where, once-insert}
+use Rattle.store.proofs.Written.{fills, leaves, threads-left, rising-where, rising-insert}
 
 -- ---- what the row functions ask
 
@@ -48,6 +49,11 @@ module _ (m : List ℕ) (s : Shaped m) where
 pub can-find : (m : List ℕ) → Holding m → (n : ℕ) → Roomy (rows-of m) × (rows-of m .count ≤ rows-of m .limits .threads) × (count (named n) (view (rows-of m) .threads) ≤ 1)
 unfolding tables Shaped
 can-find m H n = (H .shaped .roomy, H .shaped .threads, H .once n)
+
+-- where a name belongs is told by the order
+pub can-place : (m : List ℕ) → Holding m → Roomy (rows-of m) × (rows-of m .count ≤ rows-of m .limits .threads) × Rising (view (rows-of m) .threads)
+unfolding tables Shaped
+can-place m H = (H .shaped .roomy, H .shaped .threads, H .rising)
 
 -- ---- an entry of a table is the row's
 
@@ -161,7 +167,7 @@ module _ (m : List ℕ) (H : Holding m) (k i : ℕ) (f : i ≡ place (named k) (
         (ap (λ (l : List Thread). with-threads l (view (rows-of m))) (sym (found-map (named k) (rows-of m .count) (rows-of m .threads) i (threads-whole m _ (H .shaped)) f g no-thread (H .once k) h)))
         refl
         (H .shaped))
-        (once-where (tables m .threads) (H .once) (named k) g keeps)
+        (rising-where (tables m .threads) (H .rising) (named k) g keeps)
 
     -- a hint is no part of the rows
     pub changed-hinted : {m′ : List ℕ} (m₁ : List ℕ) → i < rows-of m .count → rows-of m₁ ≡ put-threads (set (rows-of m .threads) i (g (getD (rows-of m .threads) i no-thread))) (rows-of m) → rows-of m′ ≡ rows-of m₁ → Leaves m m′ (change k g (tables m))
@@ -175,7 +181,7 @@ module _ (m : List ℕ) (H : Holding m) (k i : ℕ) (f : i ≡ place (named k) (
         (ap (λ (l : List Thread). with-threads l (view (rows-of m))) (sym (no-map (named k) (rows-of m .count) (rows-of m .threads) i (threads-whole m _ (H .shaped)) f g h)))
         refl
         (H .shaped))
-        (once-where (tables m .threads) (H .once) (named k) g keeps)
+        (rising-where (tables m .threads) (H .rising) (named k) g keeps)
 
 -- ---- the place of a newcomer
 
@@ -191,4 +197,4 @@ module _ (m : List ℕ) (H : Holding m) (t : Thread) (i : ℕ) (f : i ≡ place 
       let e : insert (λ u. ltb (u .name) (t .name)) t (tables m .threads) ≡ take i (tables m .threads) ++ t ∷ drop i (tables m .threads)
       = insert-at (λ u. ltb (u .name) (t .name)) (λ u. not (ltb (u .name) (t .name))) (λ u. refl) t (tables m .threads)
       ∙ ap (λ (j : ℕ). take j (tables m .threads) ++ t ∷ drop j (tables m .threads)) (sym f) in
-      leaves (rw e (threads-left (H .shaped) q)) (once-insert (tables m .threads) (H .once) _ t new)
+      leaves (rw e (threads-left (H .shaped) q)) (rising-insert (tables m .threads) (H .rising) t new)

@@ -5,21 +5,19 @@ use mathlib.Core.Path.{_≡_, refl, sym, ap, _∙_}
 use mathlib.Core.Bool.{Bool, true, false}
 use mathlib.Core.List.{List, [], map}
 use native.Mathlib.Omega.{arith}
-use borrow.Author.Tests.{eqb-true}
-use lib.Dec.{eqb}
-use lib.ListN.{take, set}
-use Rattle.rules.specs.Lists.{if_then_else_, one-if, any, keep, count, insert}
+use borrow.Author.Tests.{eqb-false}
+use lib.Dec.{ltb}
+use lib.ListN.{take}
+use Rattle.rules.specs.Lists.{if_then_else_, any, keep, count, insert}
 use Rattle.rules.specs.Tables.{Tables, with-last, with-runner, with-time, with-threads, with-ready, with-clock, with-messages, with-held, named}
 use Rattle.laws.proofs.Words.{Thread, Message, Held, Runner}
-use Rattle.laws.proofs.Counting.{count-map, count-same, count-insert, count-keep-le, none-count}
+use Rattle.laws.proofs.Types.{Rising}
+use Rattle.laws.proofs.Counting.{not-any}
+use Rattle.laws.proofs.Ordered.{keep-less, up-less, up-map, up-insert, up-once}
 use Rattle.memory.specs.Rows.{Rows, view, Fits, put-last, put-runner, put-since, put-beats, put-clocks, put-held, ReadyIs, ClockIs, ThreadsAre, ThreadsLeft, MessagesAre, MembersAre, Woken}
 use Rattle.memory.specs.Memory.{rows-of}
 use Rattle.moving.proofs.Steps.{by}
 use Rattle.store.specs.Store.{limits, tables, Shaped, Holding, Leaves, Fills, found, Finds}
-
--- each name is there once at most
-abbrev pub Once : List Thread → Type 0
-Once ts = (n : ℕ) → count (named n) ts ≤ 1
 
 -- ---- the memory m became m′
 
@@ -29,8 +27,9 @@ module _ {m m′ : List ℕ} where
   unfolding tables limits Shaped
   fills r e v l f = record { says = ap view e ∙ v; same = ap (λ (s : Rows). s .limits) e ∙ l; shaped = by (λ (s : Rows). Fits (s .limits) s) e f }
 
-  pub leaves : {T : Tables} → Fills m m′ T → Once (T .threads) → Leaves m m′ T
-  leaves f o = record { says = f .says; same = f .same; holding = record { shaped = f .shaped; once = λ n. rw (f .says) (o n) } }
+  pub leaves : {T : Tables} → Fills m m′ T → Rising (T .threads) → Leaves m m′ T
+  leaves {T} f r =
+      record { says = f .says; same = f .same; holding = record { shaped = f .shaped; rising = rw (f .says) r; once = λ n. rw (f .says) (up-once (λ t. t .name) n (T .threads) r) } }
 
   module _ (s : Shaped m) where
     pub last-put : (n : ℕ) → rows-of m′ ≡ put-last n (rows-of m) → Fills m m′ (with-last n (tables m))
@@ -108,7 +107,11 @@ module _ {m m′ : List ℕ} where
         says = ap view (q .only);
         same = ap (λ (r : Rows). r .limits) (q .only);
         finding = record {
-          holding = record { shaped = by (λ (r : Rows). Fits (r .limits) r) (q .only) (h .shaped); once = by (λ (r : Rows). Once (view r .threads)) (q .only) (h .once) };
+          holding = record {
+            shaped = by (λ (r : Rows). Fits (r .limits) r) (q .only) (h .shaped);
+            rising = by (λ (r : Rows). Rising (view r .threads)) (q .only) (h .rising);
+            once = by (λ (r : Rows). (n : ℕ) → count (named n) (view r .threads) ≤ 1) (q .only) (h .once);
+          };
           low = by (λ (r : Rows). rows-of m′ .ends ≤ r .limits .threads) (q .only) (q .fits);
         };
       }
@@ -117,29 +120,26 @@ module _ {m m′ : List ℕ} where
 pub after : {m m₁ m′ : List ℕ} {T : Tables} (f : Tables → Tables) → Fills m m₁ T → Fills m₁ m′ (f (tables m₁)) → Fills m m′ (f T)
 after f a b = record { says = b .says ∙ ap f (a .says); same = b .same ∙ a .same; shaped = b .shaped }
 
--- ---- each name is there once at most
+-- ---- threads stand by rising name
 
-module _ (ts : List Thread) (o : Once ts) where
+module _ (ts : List Thread) (r : Rising ts) where
   -- where a change keeps names
-  pub once-map : (f : Thread → Thread) → ((t : Thread) → f t .name ≡ t .name) → Once (map f ts)
-  once-map f e n = omega (arith, o n, count-map (named n) f ts, count-same (λ t. named n (f t)) (named n) ts (λ t. ap (λ (k : ℕ). eqb n k) (e t)))
+  pub rising-map : (f : Thread → Thread) → ((t : Thread) → f t .name ≡ t .name) → Rising (map f ts)
+  rising-map f e = up-map (λ t. t .name) f e ts r
 
-  pub once-where : (p : Thread → Bool) (f : Thread → Thread) → ((t : Thread) → f t .name ≡ t .name) → Once (map (λ t. if p t then f t else t) ts)
-  once-where p f e = once-map _ (λ t. go t (p t))
+  pub rising-where : (p : Thread → Bool) (f : Thread → Thread) → ((t : Thread) → f t .name ≡ t .name) → Rising (map (λ t. if p t then f t else t) ts)
+  rising-where p f e = rising-map _ (λ t. go t (p t))
     where
       go : (t : Thread) (b : Bool) → (if b then f t else t) .name ≡ t .name
       go t true = e t
       go t false = refl
 
-  pub once-keep : (p : Thread → Bool) → Once (keep p ts)
-  once-keep p n = omega (arith, o n, count-keep-le (named n) p ts)
+  pub rising-keep : (p : Thread → Bool) → Rising (keep p ts)
+  rising-keep p = up-less (λ t. t .name) (keep-less p ts) r
 
-  -- a newcomer whose name nobody has
-  pub once-insert : (p : Thread → Bool) (t : Thread) → any (named (t .name)) ts ≡ false → Once (insert p t ts)
-  once-insert p t e n = go (named n t) refl
-    where
-      go : (b : Bool) → named n t ≡ b → count (named n) (insert p t ts) ≤ 1
-      go true h =
-          let z : count (named n) ts ≡ 0 = ap (λ (k : ℕ). count (named k) ts) (eqb-true n (t .name) h) ∙ none-count (named (t .name)) ts e in
-          omega (arith, count-insert (named n) p t ts, ap one-if h)
-      go false h = omega (arith, o n, count-insert (named n) p t ts, ap one-if h)
+  -- a newcomer whose name nobody has, at the place of its name
+  pub rising-insert : (t : Thread) → any (named (t .name)) ts ≡ false → Rising (insert (λ u. ltb (u .name) (t .name)) t ts)
+  rising-insert t e =
+      up-insert (λ u. u .name) t ts
+      (λ u m h. eqb-false (t .name) (u .name) (not-any (named (t .name)) ts u e m) (sym h))
+      r

@@ -7,11 +7,12 @@ use mathlib.Core.List.{List, [], _∷_}
 use Rattle.rules.specs.Lists.{if_then_else_, count, Pulled, missing, pulled}
 use Rattle.rules.specs.Numbers.{Limits, nobody}
 use Rattle.laws.proofs.Words.{Thread, Message, Answer}
+use Rattle.laws.proofs.Types.{Rising}
 use Rattle.rules.specs.Tables.{Tables, named, with-messages}
 use Rattle.rules.specs.Waking.{Outcome, _handing_}
 use Rattle.memory.specs.Rows.{view, members, Fits}
 pub use Rattle.memory.specs.Rows.{Room, nothing}
-unfoldable pub use Rattle.memory.specs.Rows.{word-for}
+unfoldable pub use Rattle.memory.specs.Rows.{word-for, place}
 pub use Rattle.moving.specs.Marks.{Marks}
 use Rattle.memory.specs.Memory.{rows-of}
 use Rattle.store.specs.declared.Taken.{Taken}
@@ -27,9 +28,10 @@ tables m = view (rows-of m)
 unfoldable pub Shaped : List ℕ → Type 0
 Shaped m = Fits (rows-of m .limits) (rows-of m)
 
--- and each name is there once at most: what the store asks of handlers
+-- and its threads stand by rising name, so that each name is there once at most: what the store asks of handlers
 pub record Holding (m : List ℕ) : Type 0 where
   pub shaped : Shaped m
+  pub rising : Rising (tables m .threads)
   pub once : (n : ℕ) → count (named n) (tables m .threads) ≤ 1
 
 -- the memory m became m′, which stands for these tables, with the same limits

@@ -10,7 +10,7 @@ use rules::TrapKind;
 use rules::numbers;
 use words::states;
 ghost use mathlib.Core.Path.{_≡_};
-ghost use mathlib.Core.Bool.{false};
+ghost use mathlib.Core.Bool.{false, not};
 ghost use Prim.Native.Nat.{_<_};
 ghost use lib.Dec.{ltb};
 ghost use lib.ListN.{length, getD};
@@ -23,7 +23,7 @@ ghost use Rattle.rules.specs.declared.Answer.the-variants.{Nothing as NoAnswer}
 ghost use Rattle.rules.specs.declared.Manager.the-variants.{Unset as NoManager};
 ghost use Rattle.rules.specs.declared.Parent.the-variants.{NoParent as Parentless};
 ghost use Rattle.memory.specs.Rows.{no-thread};
-ghost use Rattle.store.specs.Store.{limits, tables, Shaped, Holding, Leaves, name-where};
+ghost use Rattle.store.specs.Store.{limits, tables, Shaped, Holding, Leaves, place, name-where};
 
 // How many threads there are.
 pub fn thread_count(m: &[u32]) -> usize
@@ -39,6 +39,22 @@ pub fn thread_at(m: &[u32], i: usize) -> Thread
     ensures { λ r. ⌜ r ≡ getD (tables (now (m .entry)) .threads) i no-thread ⌝ }
 {
     rows::thread_at(m, i)
+}
+
+// The name of that thread.
+pub fn name_at(m: &[u32], i: usize) -> u8
+    requires { ⌜ Shaped (now m) × (i < length (tables (now m) .threads)) ⌝ }
+    ensures { λ r. ⌜ r ≡ getD (tables (now (m .entry)) .threads) i no-thread .name ⌝ }
+{
+    rows::name_at(m, i)
+}
+
+// Where the first thread stands whose name is not below this one, or how many there are.
+pub fn place_of(m: &[u32], name: u8) -> usize
+    requires { ⌜ Holding (now m) ⌝ }
+    ensures { λ r. ⌜ r ≡ place (λ t. not (ltb (t .name) name)) (tables (now (m .entry)) .threads) ⌝ }
+{
+    threads::find_place(m, name)
 }
 
 // Is no thread block free?

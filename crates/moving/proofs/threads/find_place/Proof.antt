@@ -1,48 +1,61 @@
--- `moving::threads::find_place` meets its contract. The loop: every thread passed has a name below.
+-- `moving::threads::find_place` meets its contract. The loop: the place is one of those from `low` to `high`.
 -- Assumes nothing.
 use Prim.Native.Nat.{_-_}
-use mathlib.Core.Bool.{not}
 use native.Mathlib.Omega.{arith}
-use lib.Dec.{ltb}
-use borrow.Author.Tests.{lt-ltb, le-ltb}
 use borrow.Author.Needs.{needs}
-use Rattle.laws.proofs.Words.{Thread}
 use Rattle.memory.specs.Rows.{no-thread}
 use Rattle.memory.specs.Memory.{rows-of}
 use Rattle.memory.proofs.Sizes.{threads-long}
-use Rattle.moving.proofs.Loops.{Sought, seek-starts, seek-next, seek-finds, seek-ends}
+use Rattle.moving.proofs.Halving.{Between, anywhere, above, not-above, only-place}
 use Rattle.moving.proofs.threads.find_place.Statement.{statement}
 use Rattle.moving.proofs.threads.find_place.Tie as tie
 
 abbrev Inv-loop : tie.InvT-loop
-Inv-loop m name n i₀ i = Sought (λ (t : Thread). not (ltb (t .name) name)) n (rows-of m .threads) i
+Inv-loop m name low₀ high₀ low high = Between name (rows-of m .count) (rows-of m .threads) low high
 
 abbrev μ-loop : tie.MeasureT-loop
-μ-loop m name n i₀ i = n - i
+μ-loop m name low₀ high₀ low high = high - low
 
 count-requires : tie.Need-count-requires Inv-loop μ-loop
 count-requires c κs = search needs
 
 loop-holds : tie.Need-loop-holds Inv-loop μ-loop
-loop-holds c = seek-starts _ _ _ (omega (arith, c .count .ensures, c .before .before .pre .1, threads-long (c .before .before .args .m .now)))
+loop-holds c =
+    let s = c .before .before in
+    anywhere _ _ _ (omega (arith, s .pre .1, threads-long (s .args .m .now))) _ (c .count .ensures)
+
+sub-middle : tie.Need-sub-middle Inv-loop μ-loop
+sub-middle c = omega arith
+
+add-middle : tie.Need-add-middle Inv-loop μ-loop
+add-middle c = omega arith
 
 name-at-requires : tie.Need-name-at-requires Inv-loop μ-loop
-name-at-requires c κs = (c .before .before .before .before .pre .0, omega (arith, c .loop-test .taken, c .before .before .count .ensures, c .before .before .before .before .pre .1))
+name-at-requires c κs =
+    let s = c .before .before .before .before in
+    (s .pre .0, omega (arith, c .loop-test .taken, c .before .loop .inv .within, s .pre .1))
 
-returns : tie.Need-returns Inv-loop μ-loop
-returns c = rw (← c .before .before .before .before .count .ensures) (seek-finds _ _ _ _ no-thread (c .before .before .before .loop .inv) (c .before .before .loop-test .taken) (rw (← c .before .name-at .ensures, le-ltb _ _ (c .if1 .taken))))
-
-add-i : tie.Need-add-i Inv-loop μ-loop
-add-i c = omega arith
+add-low : tie.Need-add-low Inv-loop μ-loop
+add-low c = omega arith
 
 loop-less : tie.Need-loop-less Inv-loop μ-loop
 loop-less c = omega arith
 
 loop-again : tie.Need-loop-again Inv-loop μ-loop
-loop-again c = seek-next _ _ _ _ no-thread (c .before .before .before .loop .inv) (c .before .before .loop-test .taken) (rw (← c .before .name-at .ensures, lt-ltb _ _ (c .if1 .left)))
+loop-again c =
+    let s = c .before .before .before .before .before .before in
+    above _ _ _ (omega (arith, s .pre .1, threads-long (s .args .m .now))) _ _ _ no-thread (c .before .before .before .loop .inv) (omega (arith, c .before .before .loop-test .taken)) (s .pre .2) (omega (arith, c .if1 .taken, c .before .name-at .ensures))
 
-returns-2 : tie.Need-returns-2 Inv-loop μ-loop
-returns-2 c = rw (← c .before .before .count .ensures) (seek-ends _ _ _ _ (c .before .loop .inv) (c .loop-test .left))
+loop-less-2 : tie.Need-loop-less-2 Inv-loop μ-loop
+loop-less-2 c = omega arith
+
+loop-again-2 : tie.Need-loop-again-2 Inv-loop μ-loop
+loop-again-2 c =
+    let s = c .before .before .before .before .before .before in
+    not-above _ _ _ (omega (arith, s .pre .1, threads-long (s .args .m .now))) _ _ _ no-thread (c .before .before .before .loop .inv) (omega (arith, c .before .before .loop-test .taken)) (omega (arith, c .if1 .left, c .before .name-at .ensures))
+
+returns : tie.Need-returns Inv-loop μ-loop
+returns c = only-place _ _ _ _ _ (c .before .loop .inv) (c .loop-test .left)
 
 pub find-place-spec : {M : Type 1} → statement M
 find-place-spec =
@@ -52,9 +65,12 @@ find-place-spec =
     μ-loop
     count-requires
     loop-holds
+    sub-middle
+    add-middle
     name-at-requires
-    returns
-    add-i
+    add-low
     loop-less
     loop-again
-    returns-2)
+    loop-less-2
+    loop-again-2
+    returns)

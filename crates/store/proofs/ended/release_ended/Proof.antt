@@ -5,7 +5,7 @@ use native.Mathlib.Omega.{arith}
 use borrow.Author.Needs.{needs}
 use Rattle.rules.specs.Tables.{in-state}
 use Rattle.store.specs.Store.{limits, tables, Shaped, found}
-use Rattle.store.proofs.Written.{leaves, woken, once-where}
+use Rattle.store.proofs.Written.{leaves, woken, rising-where}
 use Rattle.store.proofs.Searched.{ready-length}
 use Rattle.rules.specs.Waking.{wake-those}
 use Rattle.laws.proofs.Words.{Ready}
@@ -23,7 +23,7 @@ same-length c = search needs
 returns : tie.Need-returns
 unfolding tables found release wake-those
 returns c = leaves (woken (c .before .before .before .before .before .pre .0 .holding .shaped) (c .before .before .receivers .ensures))
-    (once-where (tables (c .before .before .before .before .before .args .m .now) .threads) (c .before .before .before .before .before .pre .0 .holding .once) (λ t. misses (found (c .before .before .before .before .before .args .m .now)) (t .state)) (λ t. in-state Ready (told-gone (t .state)) t) (λ t. refl))
+    (rising-where (tables (c .before .before .before .before .before .args .m .now) .threads) (c .before .before .before .before .before .pre .0 .holding .rising) (λ t. misses (found (c .before .before .before .before .before .args .m .now)) (t .state)) (λ t. in-state Ready (told-gone (t .state)) t) (λ t. refl))
 
 pub release-ended-spec : {M : Type 1} → statement M
 release-ended-spec = tie.close (tie.spec receivers-requires same-length returns)

@@ -15,7 +15,7 @@ same-length c = search needs
 returns : tie.Need-returns
 returns c =
     let s = c .before .before .before .before .before in
-    leaves (last-put (s .pre .shaped) _ (c .before .before .set-last .ensures)) (s .pre .once)
+    leaves (last-put (s .pre .shaped) _ (c .before .before .set-last .ensures)) (s .pre .rising)
 
 pub set-last-spec : {M : Type 1} → statement M
 set-last-spec = tie.close (tie.spec set-last-requires same-length returns)

@@ -15,7 +15,7 @@ same-length c = search needs
 returns : tie.Need-returns
 returns c =
     let s = c .before .before .before .before .before in
-    leaves (runner-put (s .pre .shaped) _ (c .before .before .set-runner .ensures)) (s .pre .once)
+    leaves (runner-put (s .pre .shaped) _ (c .before .before .set-runner .ensures)) (s .pre .rising)
 
 pub set-runner-spec : {M : Type 1} → statement M
 set-runner-spec = tie.close (tie.spec set-runner-requires same-length returns)

@@ -24,7 +24,7 @@ returns : tie.Need-returns
 returns c =
     let at-set-since = c .before .before .before .before .before .before in
     let s = at-set-since .before .before .before in
-    leaves (time-put (s .pre .shaped) _ _ _ (at-set-since .set-since .ensures) (c .before .before .set-beats .ensures)) (s .pre .once)
+    leaves (time-put (s .pre .shaped) _ _ _ (at-set-since .set-since .ensures) (c .before .before .set-beats .ensures)) (s .pre .rising)
 
 pub set-time-spec : {M : Type 1} → statement M
 set-time-spec = tie.close (tie.spec set-since-requires set-beats-requires same-length returns)

@@ -19,7 +19,7 @@ returns : tie.Need-returns
 unfolding tables
 returns c =
     let s = c .before .before .before .before .before in
-    leaves (held-put (s .pre .0 .shaped) _ (c .before .before .clear-held .ensures)) (s .pre .0 .once)
+    leaves (held-put (s .pre .0 .shaped) _ (c .before .before .clear-held .ensures)) (s .pre .0 .rising)
 
 pub clear-held-spec : {M : Type 1} → statement M
 clear-held-spec = tie.close (tie.spec clear-held-requires same-length returns)

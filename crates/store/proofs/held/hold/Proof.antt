@@ -19,7 +19,7 @@ returns : tie.Need-returns
 unfolding tables
 returns c =
     let s = c .before .before .before .before .before in
-    leaves (held-put (s .pre .0 .shaped) _ (c .before .before .hold .ensures)) (s .pre .0 .once)
+    leaves (held-put (s .pre .0 .shaped) _ (c .before .before .hold .ensures)) (s .pre .0 .rising)
 
 pub hold-spec : {M : Type 1} → statement M
 hold-spec = tie.close (tie.spec hold-requires same-length returns)

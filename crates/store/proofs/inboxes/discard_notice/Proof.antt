@@ -17,7 +17,7 @@ returns : tie.Need-returns
 unfolding tables
 returns c =
     let s = c .before .before .before .before .before in
-    leaves (messages-are (s .pre .shaped) (c .before .before .drop-notice .ensures)) (s .pre .once)
+    leaves (messages-are (s .pre .shaped) (c .before .before .drop-notice .ensures)) (s .pre .rising)
 
 pub discard-notice-spec : {M : Type 1} → statement M
 discard-notice-spec = tie.close (tie.spec drop-notice-requires same-length returns)

@@ -21,7 +21,7 @@ returns : tie.Need-returns
 unfolding tables
 returns c =
     let s = c .before .before .before .before .before in
-    leaves (ready-is (s .pre .0 .shaped) (c .before .before .drop-front .ensures)) (s .pre .0 .once)
+    leaves (ready-is (s .pre .0 .shaped) (c .before .before .drop-front .ensures)) (s .pre .0 .rising)
 
 pub drop-front-spec : {M : Type 1} → statement M
 drop-front-spec = tie.close (tie.spec drop-front-requires same-length returns)

@@ -21,7 +21,7 @@ returns : tie.Need-returns
 unfolding tables
 returns c =
     let s = c .before .before .before .before .before in
-    leaves (clock-is (s .pre .0 .shaped) (c .before .before .join-waiters .ensures)) (s .pre .0 .once)
+    leaves (clock-is (s .pre .0 .shaped) (c .before .before .join-waiters .ensures)) (s .pre .0 .rising)
 
 pub join-clock-spec : {M : Type 1} → statement M
 join-clock-spec = tie.close (tie.spec join-waiters-requires same-length returns)

@@ -21,7 +21,7 @@ returns : tie.Need-returns
 unfolding tables
 returns c =
     let s = c .before .before .before .before .before in
-    leaves (ready-is (s .pre .0 .shaped) (c .before .before .join .ensures)) (s .pre .0 .once)
+    leaves (ready-is (s .pre .0 .shaped) (c .before .before .join .ensures)) (s .pre .0 .rising)
 
 pub join-ready-spec : {M : Type 1} → statement M
 join-ready-spec = tie.close (tie.spec join-requires same-length returns)

@@ -9,7 +9,7 @@ use Rattle.rules.specs.Tables.{in-state, with-clock, with-ready}
 use Rattle.memory.specs.Rows.{Rows, Roomy}
 use Rattle.moving.proofs.Steps.{by}
 use Rattle.store.specs.Store.{limits, tables}
-use Rattle.store.proofs.Written.{leaves, ready-is, threads-are, after, once-where, clock-none}
+use Rattle.store.proofs.Written.{leaves, ready-is, threads-are, after, rising-where, clock-none}
 use Rattle.store.proofs.Searched.{ready-length, clock-length, roomy, few-threads}
 use Rattle.rules.specs.Waking.{wake-those}
 use Rattle.rules.specs.States.{on-clock}
@@ -48,7 +48,7 @@ returns c =
     let b = ready-is (a .shaped) (at-join-clock .join-clock .ensures) in
     leaves
     (after (λ T. with-clock [] T) (after (λ T. with-ready (T .ready ++ T .clock) T) a b) (clock-none (b .shaped) (c .before .before .set-clocks .ensures)))
-    (once-where (tables (s .args .m .now) .threads) (s .pre .0 .once) (λ t. on-clock (t .state)) (in-state Ready (Result (s .args .beats))) (λ t. refl))
+    (rising-where (tables (s .args .m .now) .threads) (s .pre .0 .rising) (λ t. on-clock (t .state)) (in-state Ready (Result (s .args .beats))) (λ t. refl))
 
 pub wake-clock-spec : {M : Type 1} → statement M
 wake-clock-spec = tie.close (tie.spec wake-clock-requires join-clock-requires set-clocks-requires same-length returns)

@@ -1,14 +1,14 @@
--- `threads::add_thread` meets its contract: nobody has the newcomer's name, so each name is there once still.
+-- `threads::add_thread` meets its contract: nobody has the newcomer's name, so at its place the names rise still.
 -- Assumes nothing.
 use native.Mathlib.Omega.{arith}
 use borrow.Author.Needs.{needs}
 use Rattle.store.specs.Store.{limits}
-use Rattle.store.proofs.Searched.{threads-length, place-inside, came-in, roomy, few-threads}
+use Rattle.store.proofs.Searched.{threads-length, place-inside, came-in, roomy, can-place}
 use Rattle.store.proofs.threads.add_thread.Statement.{statement}
 use Rattle.store.proofs.threads.add_thread.Tie as tie
 
 find-place-requires : tie.Need-find-place-requires
-find-place-requires c κs = few-threads (c .before .before .args .m .now) (c .before .before .pre .0 .shaped)
+find-place-requires c κs = can-place (c .before .before .args .m .now) (c .before .before .pre .0)
 
 open-gap-requires : tie.Need-open-gap-requires
 unfolding limits
