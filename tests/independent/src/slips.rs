@@ -5,7 +5,7 @@
 use crate::dump;
 use crate::event::{self, bytes, Event, Request};
 use crate::node::{Decision, Node};
-use crate::numbers::{GONE, NOBODY, SLICE};
+use crate::numbers::{GONE, NAMES, NOBODY, SLICE};
 use crate::program::{self, FieldReader};
 use crate::tables::{state, Rule, Tables};
 use std::io::{self, Read, Write};
@@ -13,7 +13,7 @@ use std::io::{self, Read, Write};
 /// Changes what comes of a step: the node before it, the field, the tables after it, the decision.
 pub type Slip = fn(&Node, &[u8], &mut Tables, &mut Decision);
 
-pub const IN_STEP: [(&str, Slip); 16] = [
+pub const IN_STEP: [(&str, Slip); 18] = [
     ("idles with somebody trapped", idles_with_somebody_trapped),
     ("counts notices among the 20", counts_notices),
     ("renews the slice after a receive", renews_the_slice),
@@ -26,6 +26,8 @@ pub const IN_STEP: [(&str, Slip); 16] = [
     ("refuses 5 before 9", refuses_5_before_9),
     ("counts ticks in a byte", counts_in_a_byte),
     ("goes round after name 254", goes_round_late),
+    ("stops behind name 253", stops_behind_253),
+    ("gives the lowest free name", gives_the_lowest),
     ("picks the highest device", picks_the_highest),
     ("picks the lowest number", picks_the_lowest_number),
     ("picks receivers before transmitters", picks_receivers_first),
@@ -139,11 +141,29 @@ fn counts_in_a_byte(_: &Node, field: &[u8], _: &mut Tables, decision: &mut Decis
 }
 
 fn goes_round_late(before: &Node, field: &[u8], _: &mut Tables, decision: &mut Decision) {
-    let makes =
-        matches!(event::read(field), Some(Event::Request(Request::CreateSon | Request::CreateBrother)));
-    if makes && decision.refusal == 0 && decision.word < before.name_given_last().into() {
+    if makes(field, decision) && decision.word < before.name_given_last().into() {
         decision.word = 254;
     }
+}
+
+/// The names in use from 0 on are not passed over.
+fn stops_behind_253(before: &Node, field: &[u8], _: &mut Tables, decision: &mut Decision) {
+    if makes(field, decision) && decision.word < before.name_given_last().into() {
+        decision.word = 0;
+    }
+}
+
+/// It may be below the name given last.
+fn gives_the_lowest(before: &Node, field: &[u8], _: &mut Tables, decision: &mut Decision) {
+    if makes(field, decision) {
+        decision.word = (0..NAMES).find(|&name| !before.is_live(name)).unwrap_or(NOBODY).into();
+    }
+}
+
+/// Is a thread made, so that the word is its name?
+fn makes(field: &[u8], decision: &Decision) -> bool {
+    let made = matches!(event::read(field), Some(Event::Request(Request::CreateSon | Request::CreateBrother)));
+    made && decision.refusal == 0
 }
 
 fn picks_the_highest(before: &Node, field: &[u8], tables: &mut Tables, decision: &mut Decision) {

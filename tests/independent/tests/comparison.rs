@@ -129,11 +129,14 @@ fn differs(slip: &str, fields: &[Vec<u8>]) -> Option<usize> {
     (wanted != said).then(|| fields.len().min(lines + 1))
 }
 
+/// The fields of a file in which a slip is sought.
+const LONG: usize = 5_000;
+
 /// The most fields that the shortest file of each slip may have.
 fn bound(slip: &str) -> usize {
     match slip {
         "counts ticks in a byte" => 257,
-        "goes round after name 254" => 5_000,
+        "goes round after name 254" | "stops behind name 253" => LONG,
         "counts notices among the 20" | "refuses 6 before 7" | "refuses 5 before 9" => 40,
         _ => 26,
     }
@@ -142,12 +145,12 @@ fn bound(slip: &str) -> usize {
 #[test]
 fn slips_in_the_step_are_found_and_made_short() {
     for (slip, _) in IN_STEP {
-        let of_seed = |seed| fields_of(&file(mixed(seed, 5_000)));
+        let of_seed = |seed| fields_of(&file(mixed(seed, LONG as u64)));
         let shown = |fields: Vec<Vec<u8>>| differs(slip, &fields).map(|needed| fields[..needed].to_vec());
         let start = (1..=8).filter_map(|seed| shown(of_seed(seed))).min_by_key(Vec::len).expect(slip);
         let mut still = |fields: &[Vec<u8>]| differs(slip, fields);
-        // Its files stay long, and every try is slow.
-        let seconds = if slip == "goes round after name 254" { 3 } else { 120 };
+        // Where the names have to go round files stay long, and every try is slow.
+        let seconds = if bound(slip) == LONG { 3 } else { 120 };
         let until = Instant::now() + Duration::from_secs(seconds);
         let mut shrinker = Shrinker::new(start.clone(), true, &mut still, until);
         let shortest = shrinker.shortest();
