@@ -16,7 +16,7 @@ use Rattle.rules.specs.Load.{answer-from}
 use Rattle.rules.specs.Events.{decode}
 use Rattle.rules.specs.Dispatch.{status}
 use Rattle.rules.specs.Step.{step}
-use Rattle.rules.specs.Runs.{Input, run, line, lines}
+use Rattle.rules.specs.Runs.{Input, run, line, decisions, lines}
 use Rattle.rules.specs.declared.Decision.{Decision}
 use Rattle.laws.proofs.Words.{Status, Working, Idle, Halted, Panicked, Answer, Nothing, FromMessage, FromNotice, SenderGone, Result, NoRunner, Event}
 use Rattle.laws.proofs.Tests.{clash}
@@ -117,7 +117,7 @@ is-a-series f = goes-on (lent.started (f .first) (f .started)) (f .calls)
 -- On valid words the reports of calls are the lines of the rules' run, and tell its accepted ticks.
 lines-told : {m : List ℕ} → valid m ≡ true → {es : Input} {rs : List Report} {m′ : List ℕ} → Calls m es rs m′ →
     (map line-of rs ≡ lines small (tables m) es) × (ticks-told es rs ≡ ticks-accepted small (tables m) es)
-unfolding lines line report-of ticks-told ticks-accepted tick-accepted
+unfolding decisions line report-of ticks-told ticks-accepted tick-accepted
 lines-told v (none m) = (refl, refl)
 lines-told v (then m e m₁ r es rs m′ c cs) =
     let k = c .leaves v in

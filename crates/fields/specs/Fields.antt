@@ -1,26 +1,22 @@
--- The fields of a stream of events.
+-- The fields of a stream of events, and the end of lent bytes.
 -- Assumes nothing.
-use Prim.Native.Nat.{ℕ, _+_, _*_, min}
-use mathlib.Core.Bool.{Bool, false}
-use mathlib.Core.List.{List, [], _∷_}
-use lib.Dec.{leb}
+use Prim.Native.Nat.{ℕ, _+_, _-_}
+use mathlib.Core.Path.{_≡_}
+use mathlib.Core.List.{List}
 use lib.ListN.{length, drop}
+use denote.Ref.{RefT, ptr, now}
 use Rattle.fields.specs.declared.Cut.{Cut}
-
--- "reading goes on behind their length; a field cut off by the end of input is the last": how long the first field of these bytes is
-unfoldable pub field-size : List ℕ → ℕ
-field-size [] = 0
-field-size (tag ∷ []) = 1
-field-size (tag ∷ high ∷ []) = 2
-field-size (tag ∷ high ∷ low ∷ rest) = 3 + min (high * 256 + low) (length rest)
-
--- is the first field all there?
-unfoldable pub whole : List ℕ → Bool
-whole [] = false
-whole (tag ∷ []) = false
-whole (tag ∷ high ∷ []) = false
-whole (tag ∷ high ∷ low ∷ rest) = leb (high * 256 + low) (length rest)
+unfoldable pub use Rattle.rules.specs.Fields.{field-size, whole}
 
 -- the field at a place of these bytes: where it ends, and whether it is all there; at their end and past it, none: it ends at the place
 abbrev pub cut : List ℕ → ℕ → Cut
 cut bytes place = record { end = place + field-size (drop place bytes); whole = whole (drop place bytes) }
+
+-- r ends where the lent bytes s end, in the same memory: it is a part of them, no copy, and not the same bytes at another place
+abbrev pub EndsWith : RefT (List ℕ) → RefT (List ℕ) → Type 0
+EndsWith s r = ptr r ≡ (ptr s .0, (length (now s) - length (now r)) + ptr s .1)
+
+-- r is the end of the lent bytes s from a place on
+pub record EndOf (s : RefT (List ℕ)) (place : ℕ) (r : RefT (List ℕ)) : Type 0 where
+  pub bytes : now r ≡ drop place (now s)
+  pub stands : EndsWith s r

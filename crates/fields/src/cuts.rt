@@ -2,8 +2,7 @@
 use crate::Cut;
 ghost use Prim.Native.Nat.{_<_};
 ghost use mathlib.Core.Path.{_≡_};
-ghost use lib.ListN.{drop};
-ghost use Rattle.fields.specs.Fields.{cut};
+ghost use Rattle.fields.specs.Fields.{cut, EndOf};
 
 fn wide(b: u8) -> usize
     ensures { λ n. ⌜ (n ≡ b) × (n < 256) ⌝ }
@@ -41,9 +40,9 @@ pub fn cut_at(input: &[u8], place: usize) -> Cut
     }
 }
 
-// The bytes from a place on; past the end there are none.
+// The bytes from a place on, where they stand; past the end there are none.
 pub fn rest_at(input: &[u8], place: usize) -> &[u8]
-    ensures { λ s. ⌜ now s ≡ drop place (now (input .entry)) ⌝ }
+    ensures { λ s. ⌜ EndOf (input .entry) place s ⌝ }
 {
     let n = input.len();
     if n <= place {

@@ -3,8 +3,7 @@
 use crate::Cut;
 use crate::cuts;
 ghost use mathlib.Core.Path.{_≡_};
-ghost use lib.ListN.{drop};
-ghost use Rattle.fields.specs.Fields.{cut};
+ghost use Rattle.fields.specs.Fields.{cut, EndOf};
 ghost use Rattle.fields.specs.Reading.{reader-at};
 
 pub struct Reader<'a> {
@@ -30,9 +29,9 @@ pub fn place<'a>(r: Reader<'a>) -> usize
     r.place
 }
 
-// The bytes from the place on; past the end there are none.
+// The bytes from the place on, where they stand; past the end there are none.
 pub fn rest<'a>(r: Reader<'a>) -> &'a [u8]
-    ensures { λ s. ⌜ now s ≡ drop (r .entry .place) (now (r .entry .input)) ⌝ }
+    ensures { λ s. ⌜ EndOf (r .entry .input) (r .entry .place) s ⌝ }
 {
     cuts::rest_at(r.input, r.place)
 }

@@ -52,3 +52,4 @@ pub mod Flaws
 pub mod Entries
 pub mod Said
 pub mod Both
+pub mod Batch

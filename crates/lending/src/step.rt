@@ -9,7 +9,7 @@ ghost use mathlib.Core.Path.{_≡_};
 ghost use Rattle.lending.specs.Lent.{no-tables as no-tables-of, Answered, AnsweredValue};
 
 // Refusal 11.
-fn no_tables() -> Decision
+pub fn no_tables() -> Decision
     ensures { λ d. ⌜ d ≡ no-tables-of ⌝ }
 {
     Decision {

@@ -1,19 +1,17 @@
 -- The fields of a stream and what the event program prints for it: field by field, whatever comes behind a field that is all there.
 -- Assumes nothing.
-use Prim.Native.Nat.{ℕ, zero, suc, _+_, _*_, _≤_, _<_}
-use mathlib.Core.Path.{_≡_, refl, sym, ap, ap₂, _∙_}
-use mathlib.Core.Bool.{true, false≢true}
+use Prim.Native.Nat.{ℕ, zero, suc, _≤_, _<_}
+use mathlib.Core.Path.{_≡_, refl, ap, ap₂, _∙_}
 use mathlib.Core.List.{List, [], _∷_, _++_, append-nil}
 use native.Mathlib.Omega.{arith}
 use lib.ListN.{length, take, drop, length-append, length-drop}
 use lib.Seq.{take-append-le, drop-append-le}
-use borrow.Author.Tests.{leb-true}
 use Rattle.rules.specs.Numbers.{small}
 use Rattle.rules.specs.Tables.{Tables}
 use Rattle.rules.specs.Dispatch.{status}
 use Rattle.rules.specs.Step.{Stepped, step}
 use Rattle.rules.specs.Runs.{Input}
-use Rattle.fields.specs.Fields.{field-size, whole}
+use Rattle.fields.specs.Fields.{field-size}
 use Rattle.fields.proofs.Sizes.{size-some, size-within}
 use Rattle.lines.specs.Text.{line}
 use Rattle.lines.specs.Text.{last-line}
@@ -21,15 +19,7 @@ use Rattle.printing.specs.Printing.{prints-in, prints, fields-in, fields
 
 -- ---- the first field
 
--- a field that is all there ends where it ends, whatever comes behind it
-pub size-whole : (a more : List ℕ) → whole a ≡ true → field-size (a ++ more) ≡ field-size a
-unfolding field-size whole
-size-whole [] more w = absurd (false≢true w)
-size-whole (a ∷ []) more w = absurd (false≢true w)
-size-whole (a ∷ b ∷ []) more w = absurd (false≢true w)
-size-whole (a ∷ b ∷ c ∷ l) more w = omega (arith, leb-true (b * 256 + c) (length l) w, length-append l more)
-
--- so does one that is cut off, where nothing comes behind it
+-- a field that is cut off ends where it ends, where nothing comes behind it
 pub size-last : (a more : List ℕ) → more ≡ [] → field-size (a ++ more) ≡ field-size a
 size-last a more e = ap (λ (t : List ℕ). field-size (a ++ t)) e ∙ ap field-size (append-nil a)
 

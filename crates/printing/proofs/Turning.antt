@@ -19,6 +19,7 @@ use Rattle.rules.specs.Runs.{Input, run}
 use Rattle.rules.specs.declared.Decision.{Decision}
 use Rattle.laws.proofs.Tests.{or-left, or-right, _&_}
 use Rattle.laws.proofs.Steps.{run-last}
+use Rattle.laws.proofs.Batch.{size-whole}
 use Rattle.store.specs.Store.{limits, tables}
 use Rattle.stepping.specs.Stepping.{Steps}
 use Rattle.fields.specs.Fields.{field-size, whole}
@@ -28,7 +29,7 @@ use Rattle.buffer.proofs.Putting.{rest, back, behind, said, room, puts-none}
 use Rattle.printing.specs.declared.Turned.{Turned}
 use Rattle.lines.specs.Text.{line}
 use Rattle.printing.specs.Printing.{prints, fields, Standing, Turns}
-use Rattle.printing.proofs.Streams.{size-whole, size-last, first-step, past-first, prints-field, fields-field}
+use Rattle.printing.proofs.Streams.{size-last, first-step, past-first, prints-field, fields-field}
 
 -- ---- bytes in a buffer
 

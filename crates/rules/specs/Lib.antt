@@ -19,6 +19,8 @@ pub mod Refusals
 pub mod Codes
 pub mod Step
 pub mod Runs
+pub mod Fields
+pub mod Batch
 pub mod TableRules
 pub mod Dump
 pub mod Load

@@ -1,4 +1,4 @@
--- The numbers of document 01 ("Numbers"), each once.
+-- The numbers of document 01 ("Numbers") and of document 02, each once.
 -- Assumes nothing.
 use Prim.Native.Nat.{ℕ}
 
@@ -49,3 +49,7 @@ pending-bits = 64
 -- counts, beats and words are 32-bit: they are below this, and counts "go from 4,294,967,295 to 0"
 abbrev pub wrap : ℕ
 wrap = 4294967296
+
+-- document 02, CR 2: "the decisions as 32-bit numbers, six per event"
+abbrev pub decision-numbers : ℕ
+decision-numbers = 6

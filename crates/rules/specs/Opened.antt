@@ -19,11 +19,13 @@ use Rattle.rules.specs.Events.{asked-in, request, trap-of, interrupt-of,
 use Rattle.rules.specs.Refusals.{first-of, over, is-malformed, needs-runner, ends-nobody, call-rules, own-rules, refusal}
 use Rattle.rules.specs.Codes.{status-code, answer-numbers, trap-code, state-numbers, manager-code, message-code}
 use Rattle.rules.specs.Step.{serve, act, settle, step}
-use Rattle.rules.specs.Runs.{run, line, lines}
+use Rattle.rules.specs.Runs.{run, line, decisions}
+use Rattle.rules.specs.Fields.{field-size, whole}
+use Rattle.rules.specs.Batch.{complete-in, unread-in, numbers, taken, batch}
 use Rattle.rules.specs.TableRules.{state-in-range, climbs, wanted-live, manager-set, no-match, answer-in-range, is-nothing, table-rules}
 use Rattle.rules.specs.Dump.{head-value, thread-value, message-value, held-value, dump}
 use Rattle.rules.specs.Load.{cut, thread-from, message-from, held-from, tables-from, load}
 
 unfoldable pub opened : ℕ
-unfolding all any keep count behind pull insert chain times each from-on same number-from of-thread change manager set-entry runs runs-as me is-running is-ready on-clock receives at-device wakes-from-outside trapped-on wake-those is-ordinary handed-as queue deliver stop grow ended-set gone-if without-managers remove misses told-gone release end decide send received receive trap charge beat rotate tick hold interrupt free-name create terminate set-over wait-for-clock take-held run-next dispatch status-without status first-pending pick facts-in tag-facts rule-in argument-rule meets asked-in request trap-of interrupt-of meaning field-of decode first-of over is-malformed needs-runner ends-nobody call-rules own-rules refusal status-code answer-numbers trap-code state-numbers manager-code message-code serve act settle step run line lines state-in-range climbs wanted-live manager-set no-match answer-in-range is-nothing table-rules head-value thread-value message-value held-value dump cut thread-from message-from held-from tables-from load
+unfolding all any keep count behind pull insert chain times each from-on same number-from of-thread change manager set-entry runs runs-as me is-running is-ready on-clock receives at-device wakes-from-outside trapped-on wake-those is-ordinary handed-as queue deliver stop grow ended-set gone-if without-managers remove misses told-gone release end decide send received receive trap charge beat rotate tick hold interrupt free-name create terminate set-over wait-for-clock take-held run-next dispatch status-without status first-pending pick facts-in tag-facts rule-in argument-rule meets asked-in request trap-of interrupt-of meaning field-of decode first-of over is-malformed needs-runner ends-nobody call-rules own-rules refusal status-code answer-numbers trap-code state-numbers manager-code message-code serve act settle step run line decisions field-size whole complete-in unread-in numbers taken batch state-in-range climbs wanted-live manager-set no-match answer-in-range is-nothing table-rules head-value thread-value message-value held-value dump cut thread-from message-from held-from tables-from load
 opened = 0

@@ -1,7 +1,7 @@
--- Runs: one event after the other, and the decision of each as a line of the event program.
+-- Runs: one event after the other, the decision of each, and that as a line of the event program.
 -- Assumes nothing.
 use Prim.Native.Nat.{ℕ}
-use mathlib.Core.List.{List, [], _∷_}
+use mathlib.Core.List.{List, [], _∷_, map}
 use Rattle.rules.specs.Numbers.{Limits}
 use Rattle.rules.specs.Words.{Decision}
 use Rattle.rules.specs.Tables.{Tables}
@@ -21,7 +21,11 @@ run L T (e ∷ es) = run L (step L T e .tables) es
 unfoldable pub line : Decision → List ℕ
 line d = let a = answer-numbers (d .answer) in d .refusal ∷ d .status ∷ d .runner ∷ a .kind ∷ a .sender ∷ a .word ∷ []
 
+-- the decision of each event, in order
+unfoldable pub decisions : Limits → Tables → Input → List Decision
+decisions L T [] = []
+decisions L T (e ∷ es) = let s = step L T e in s .decision ∷ decisions L (s .tables) es
+
 -- "prints per field one line"
-unfoldable pub lines : Limits → Tables → Input → List (List ℕ)
-lines L T [] = []
-lines L T (e ∷ es) = let s = step L T e in line (s .decision) ∷ lines L (s .tables) es
+abbrev pub lines : Limits → Tables → Input → List (List ℕ)
+lines L T es = map line (decisions L T es)

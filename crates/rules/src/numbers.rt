@@ -1,4 +1,4 @@
-// The numbers of document 01, each once. specs/Numbers.antt has the same for the rules.
+// The numbers of document 01 and of document 02, each once. specs/Numbers.antt has the same for the rules.
 pub const THREADS: usize = 20;
 
 pub const BLOCKS: usize = 20;
@@ -22,3 +22,6 @@ pub const DEVICES: u8 = 48;
 
 // A held word of each device.
 pub const HELD: usize = DEVICES as usize;
+
+// The numbers of a decision: refusal, status, runner, kind, sender, word.
+pub const DECISION: usize = 6;
