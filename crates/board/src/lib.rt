@@ -2,6 +2,8 @@
 // what that gives. The contract speaks of the words that stand behind the reference at entry and at exit.
 pub mod values;
 
+use batching::batch;
+use fields::cuts;
 use lending::Dumped;
 use lending::Tables;
 use lending::check;
@@ -15,6 +17,7 @@ ghost use lib.ListN.{length};
 ghost use Rattle.rules.specs.Pick.{pick as pick-of};
 ghost use Rattle.loading.specs.Loading.{Loads};
 ghost use Rattle.lending.specs.Lent.{Started, check-of, dumped, buffer-after};
+ghost use Rattle.batching.specs.Batching.{Batches};
 ghost use Rattle.board.specs.Board.{Steps};
 ghost use Rattle.board.specs.Layout.{sizes-of};
 
@@ -58,6 +61,23 @@ pub extern "C" fn nucleus_step(t: &mut Tables, event: &[u8]) -> Report
     let r = values::step_numbers(*t, event);
     *t = r.tables;
     r.report
+}
+
+// A batch. C gets no slice as a result, so what `batch` hands back is left in the place of the events that were lent: a slice is a pointer and
+// a length. The numbers are those of a Report, in its order.
+#[no_mangle]
+pub extern "C" fn nucleus_batch<'a>(
+    t: &mut Tables,
+    events: &mut &'a [u8],
+    out: &mut [u32],
+    refusal: &mut u8,
+)
+    ensures { λ _. ⌜ Batches (now (t .entry) .words) (now (events .entry)) (now (out .entry)) (now (events .exit)) (now (t .exit) .words) (now (out .exit)) (now (refusal .exit)) ⌝ }
+{
+    let b = batch::batch_value(*t, *events, out);
+    *t = b.tables;
+    *refusal = b.refusal;
+    *events = cuts::rest_at(*events, b.used);
 }
 
 // 11 if the tables stand for none that meet the table rules, else 0.

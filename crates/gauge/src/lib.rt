@@ -1,5 +1,6 @@
 // Functions for the programs of bench/, which time the engine in one memory. They only measure: a contract here says no more than its function needs
 // to be proved safe and to end. What a step does is promised where the step stands.
+use batching::batch;
 use checking::check;
 use dumping::writing;
 use lending::WORDS;
@@ -203,6 +204,14 @@ pub extern "C" fn gauge_start(m: &mut [u32]) {
 pub extern "C" fn gauge_slice(m: &mut [u32], event: &[u8]) -> u8 {
     let d = lending::step::step_in(m, event);
     d.refusal
+}
+
+// A batch on a lent memory: its refusal.
+#[no_mangle]
+pub extern "C" fn gauge_batch(m: &mut [u32], events: &[u8], out: &mut [u32]) -> u8 {
+    let mut refusal = 0;
+    batch::batch(m, events, out, &mut refusal);
+    refusal
 }
 
 // One step by value, from a start: its refusal. For the stack that it takes.

@@ -315,76 +315,100 @@ module _ (L : Limits) (T : Tables) (room : ℕ) (bytes : List ℕ) where
       first-run : (es fs : Input) (e : List ℕ) → run L (run L T es) (e ∷ fs) ≡ run L (step L (run L T es) e .tables) fs
       first-run es fs e = unfold run in refl
 
--- ---- two batches in a row: `a` is handed over, and then its unread end with b behind it, with what is left of the buffer
+-- ---- two batches in a row: a is handed over, and then its unread end with b behind it, with what is left of the buffer
+
+module _ (room : ℕ) (a b : List ℕ) where
+  all-needed : needed (a ++ b) ≡ needed a + needed (unread a ++ b)
+  all-needed = omega (arith, ap length (more-comes b a .0), length-append (complete a) (complete (unread a ++ b)))
+
+  -- what the first takes, what the second takes of the rest, and what one takes of all the bytes
+  abbrev first-taken : Taken
+  first-taken = taken room a
+
+  abbrev then-taken : Taken
+  then-taken = taken (room - needed a) (first-taken .unread ++ b)
+
+  abbrev one-taken : Taken
+  one-taken = taken room (a ++ b)
+
+  -- Where the first is refused, the one is refused too.
+  pub refused-at-once : first-taken .refusal ≡ 14 → one-taken .refusal ≡ 14
+  refused-at-once e = refused-14 room (a ++ b) .1 (omega (arith, refused-14 room a .0 e, all-needed))
+
+  -- Where it is taken, the two equal the one: in the refusal, and, where that is 0, in events and unread end.
+  pub taken-twice : first-taken .refusal ≡ 0 →
+      (then-taken .refusal ≡ one-taken .refusal)
+      × (one-taken .refusal ≡ 0 → (first-taken .events ++ then-taken .events ≡ one-taken .events) × (then-taken .unread ≡ one-taken .unread))
+  taken-twice z = (same-refusal, λ e. on (enough-for-one e))
+    where
+      fits : needed a ≤ room
+      fits = by-room (λ t. t .refusal ≡ 0 → needed a ≤ room) room a (λ h k. absurd (omega arith)) (λ h k. h) z
+
+      was : first-taken ≡ record { refusal = 0; events = complete a; unread = unread a }
+      was = taken-whole room a fits
+
+      then-is : then-taken ≡ taken (room - needed a) (unread a ++ b)
+      then-is = ap (λ (t : Taken). taken (room - needed a) (t .unread ++ b)) was
+
+      same-refusal : then-taken .refusal ≡ one-taken .refusal
+      same-refusal =
+          ap (λ (t : Taken). t .refusal) then-is
+          ∙ by-room (λ t. t .refusal ≡ one-taken .refusal) (room - needed a) (unread a ++ b)
+          (λ h. sym (ap (λ (t : Taken). t .refusal) (taken-refused room (a ++ b) (omega (arith, all-needed, fits)))))
+          (λ h. sym (ap (λ (t : Taken). t .refusal) (taken-whole room (a ++ b) (omega (arith, all-needed, fits)))))
+
+      enough-for-one : one-taken .refusal ≡ 0 → needed (a ++ b) ≤ room
+      enough-for-one e = by-room (λ t. t .refusal ≡ 0 → needed (a ++ b) ≤ room) room (a ++ b) (λ h k. absurd (omega arith)) (λ h k. h) e
+
+      on : needed (a ++ b) ≤ room → (first-taken .events ++ then-taken .events ≡ one-taken .events) × (then-taken .unread ≡ one-taken .unread)
+      on h =
+          let all-of-it = taken-whole room (a ++ b) h in
+          let next = then-is ∙ taken-whole (room - needed a) (unread a ++ b) (omega (arith, all-needed, fits)) in (
+            ap₂ (λ (t u : Taken). t .events ++ u .events) was next ∙ (sym (more-comes b a .0) ∙ sym (ap (λ (t : Taken). t .events) all-of-it)),
+            ap (λ (t : Taken). t .unread) next ∙ (sym (more-comes b a .1) ∙ sym (ap (λ (t : Taken). t .unread) all-of-it)),
+          )
+
+  -- The first leaves the numbers of its decisions less.
+  pub room-left : first-taken .refusal ≡ 0 → needed a ≡ decision-numbers * length (first-taken .events)
+  room-left = by-room (λ t. t .refusal ≡ 0 → needed a ≡ decision-numbers * length (t .events)) room a (λ h k. absurd (omega arith)) (λ h k. refl)
 
 module _ (L : Limits) (T : Tables) (room : ℕ) (a b : List ℕ) where
-  -- the first, the second, and one of all the bytes
   abbrev first : Batched
   first = batch L T room a
 
-  abbrev left : ℕ
-  left = room - length (numbers (first .decisions))
-
   abbrev second : Batched
-  second = batch L (first .tables) left (first .unread ++ b)
+  second = batch L (first .tables) (room - length (numbers (first .decisions))) (first .unread ++ b)
 
   abbrev one : Batched
   one = batch L T room (a ++ b)
 
-  all-needed : needed (a ++ b) ≡ needed a + needed (unread a ++ b)
-  all-needed = omega (arith, ap length (more-comes b a .0), length-append (complete a) (complete (unread a ++ b)))
-
-  -- where the first is refused, the one is refused too
-  pub refused-at-once : first .refusal ≡ 14 → one .refusal ≡ 14
-  unfolding batch
-  refused-at-once e = refused-14 room (a ++ b) .1 (omega (arith, refused-14 room a .0 e, all-needed))
-
-  -- Where it is taken, the two equal the one: in the refusal, and, where that is 0, in decisions, tables and unread end.
+  -- The same of the whole batch: in decisions, tables and unread end.
   pub two-equal-one : first .refusal ≡ 0 →
       (second .refusal ≡ one .refusal)
       × (one .refusal ≡ 0 → (first .decisions ++ second .decisions ≡ one .decisions) × (second .tables ≡ one .tables) × (second .unread ≡ one .unread))
   unfolding batch
-  two-equal-one z = (same-refusal, λ e. on (enough-for-one e))
+  two-equal-one z = (
+    ap (λ (t : Taken). t .refusal) same ∙ twice .0,
+    λ e. (
+      ap (λ (t : Taken). decisions L T es ++ decisions L (run L T es) (t .events)) same
+          ∙ (sym (decisions-append L T es fs) ∙ ap (decisions L T) (twice .1 e .0)),
+      ap (λ (t : Taken). run L (run L T es) (t .events)) same ∙ (sym (run-append L T es fs) ∙ ap (run L T) (twice .1 e .0)),
+      ap (λ (t : Taken). t .unread) same ∙ twice .1 e .1,
+    ),
+  )
     where
-      -- the first was taken whole
-      fits : needed a ≤ room
-      fits = by-room (λ t. t .refusal ≡ 0 → needed a ≤ room) room a (λ h k. absurd (omega arith)) (λ h k. h) z
+      es : Input
+      es = taken room a .events
 
-      was : taken room a ≡ record { refusal = 0; events = complete a; unread = unread a }
-      was = taken-whole room a fits
+      fs : Input
+      fs = taken (room - needed a) (taken room a .unread ++ b) .events
 
-      rest : first .unread ++ b ≡ unread a ++ b
-      rest = ap (λ (t : Taken). t .unread ++ b) was
+      twice : (taken (room - needed a) (taken room a .unread ++ b) .refusal ≡ one .refusal)
+          × (one .refusal ≡ 0 → (es ++ fs ≡ taken room (a ++ b) .events) × (taken (room - needed a) (taken room a .unread ++ b) .unread ≡ one .unread))
+      twice = taken-twice room a b z
 
-      space : left ≡ room - needed a
-      space =
-          ap (λ (t : Taken). room - length (numbers (decisions L T (t .events)))) was
-          ∙ omega (arith, numbers-count (decisions L T (complete a)), decisions-count L T (complete a))
+      less : length (numbers (first .decisions)) ≡ needed a
+      less = omega (arith, numbers-count (decisions L T es), decisions-count L T es, room-left room a b z)
 
-      taken-second : taken left (first .unread ++ b) ≡ taken (room - needed a) (unread a ++ b)
-      taken-second = ap₂ taken space rest
-
-      same-refusal : second .refusal ≡ one .refusal
-      same-refusal =
-          ap (λ (t : Taken). t .refusal) taken-second
-          ∙ by-room (λ t. t .refusal ≡ one .refusal) (room - needed a) (unread a ++ b)
-          (λ h. sym (ap (λ (t : Taken). t .refusal) (taken-refused room (a ++ b) (omega (arith, all-needed, fits)))))
-          (λ h. sym (ap (λ (t : Taken). t .refusal) (taken-whole room (a ++ b) (omega (arith, all-needed, fits)))))
-
-      enough-for-one : one .refusal ≡ 0 → needed (a ++ b) ≤ room
-      enough-for-one e = by-room (λ t. t .refusal ≡ 0 → needed (a ++ b) ≤ room) room (a ++ b) (λ h k. absurd (omega arith)) (λ h k. h) e
-
-      on : needed (a ++ b) ≤ room → (first .decisions ++ second .decisions ≡ one .decisions) × (second .tables ≡ one .tables) × (second .unread ≡ one .unread)
-      on h =
-          let all-of-it = taken-whole room (a ++ b) h in
-          let next = taken-second ∙ taken-whole (room - needed a) (unread a ++ b) (omega (arith, all-needed, fits)) in
-          let fs = complete (unread a ++ b) in
-          let ran : first .tables ≡ run L T (complete a) = ap (λ (t : Taken). run L T (t .events)) was in
-          let said : first .decisions ≡ decisions L T (complete a) = ap (λ (t : Taken). decisions L T (t .events)) was in
-          let events : one .decisions ≡ decisions L T (complete a ++ fs) = ap (λ (t : Taken). decisions L T (t .events)) all-of-it ∙ ap (decisions L T) (more-comes b a .0) in
-          let tables : one .tables ≡ run L T (complete a ++ fs) = ap (λ (t : Taken). run L T (t .events)) all-of-it ∙ ap (run L T) (more-comes b a .0) in (
-            ap₂ (λ (x y : List Decision). x ++ y) said (ap₂ (λ (U : Tables) (t : Taken). decisions L U (t .events)) ran next)
-                ∙ sym (events ∙ decisions-append L T (complete a) fs),
-            ap₂ (λ (U : Tables) (t : Taken). run L U (t .events)) ran next ∙ sym (tables ∙ run-append L T (complete a) fs),
-            ap (λ (t : Taken). t .unread) next ∙ (sym (more-comes b a .1) ∙ sym (ap (λ (t : Taken). t .unread) all-of-it)),
-          )
+      same : taken (room - length (numbers (first .decisions))) (first .unread ++ b) ≡ taken (room - needed a) (first .unread ++ b)
+      same = ap (λ (n : ℕ). taken (room - n) (first .unread ++ b)) less

@@ -1,0 +1,6 @@
+pub mod Counting
+pub mod Calling
+pub mod Running
+pub mod Serving
+pub mod Determined
+pub mod Example
