@@ -1,5 +1,6 @@
 /* The nucleus for a board's C code: C99, or C++. docs/BOARD.md says how to build and link it, and what a caller must keep.
-   Words in quotes are document 01's. The sizes are those of crates/lending and crates/board; tests/board holds this file to them. */
+   Words in quotes are document 01's, or document 02's for what a request added or changed. The sizes are those of crates/lending and
+   crates/board; tests/board holds this file to them. */
 #ifndef NUCLEUS_H
 #define NUCLEUS_H
 
@@ -21,11 +22,12 @@ extern "C" {
 #define NUCLEUS_GONE 254     /* among managers: its thread has ended */
 #define NUCLEUS_NOBODY 255   /* nobody, anybody or oneself, as stated */
 
-#define NUCLEUS_DUMP_BYTES 1241   /* a buffer of so many bytes is long enough for every dump */
-#define NUCLEUS_EVENT_BYTES 15    /* the longest event, an interrupt: tag 1, length 2, value 12 */
-#define NUCLEUS_TABLES_WORDS 656  /* the numbers in struct nucleus_tables */
-#define NUCLEUS_TABLES_BYTES 2624 /* what it takes */
-#define NUCLEUS_REPORT_BYTES 12   /* what struct nucleus_report takes */
+#define NUCLEUS_DUMP_BYTES 1241    /* a buffer of so many bytes is long enough for every dump */
+#define NUCLEUS_EVENT_BYTES 15     /* the longest event, an interrupt: tag 1, length 2, value 12 */
+#define NUCLEUS_TABLES_WORDS 656   /* the numbers in struct nucleus_tables */
+#define NUCLEUS_TABLES_BYTES 2624  /* what it takes */
+#define NUCLEUS_REPORT_BYTES 12    /* what struct nucleus_report takes */
+#define NUCLEUS_DECISION_NUMBERS 6 /* the numbers of one decision in a batch */
 
 /* An event is one field: a tag byte, a two-byte length, then the value; "numbers are big-endian". Each tag with its value. */
 enum nucleus_tag {
@@ -68,7 +70,8 @@ enum nucleus_refusal {
     NUCLEUS_OWN_MANAGER = 10,    /* "own name as manager" */
     NUCLEUS_BAD_TABLES = 11,     /* "the lent tables stand for none that meet the table rules" */
     NUCLEUS_SHORT_BUFFER = 12,   /* "dump buffer shorter than the dump" */
-    NUCLEUS_NO_DUMP = 13         /* "bytes that are no dump" */
+    NUCLEUS_NO_DUMP = 13,        /* "bytes that are no dump" */
+    NUCLEUS_SHORT_NUMBERS = 14   /* of a batch: "the buffer holds fewer than six numbers per complete field" */
 };
 
 /* Status of the node. */
@@ -127,6 +130,22 @@ struct nucleus_report {
     uint32_t word;
 };
 
+/* A decision in a batch is six numbers: where each member of a report stands among them. */
+enum nucleus_place {
+    NUCLEUS_AT_REFUSAL = 0,
+    NUCLEUS_AT_STATUS = 1,
+    NUCLEUS_AT_RUNNER = 2,
+    NUCLEUS_AT_KIND = 3,
+    NUCLEUS_AT_SENDER = 4,
+    NUCLEUS_AT_WORD = 5
+};
+
+/* Bytes that are lent: where they begin, and how many there are. */
+struct nucleus_bytes {
+    const uint8_t *bytes;
+    size_t length;
+};
+
 struct nucleus_dumped {
     uint8_t refusal; /* 0, 11 or 12 */
     size_t length;   /* of the dump; "a refused dump has length 0" */
@@ -147,17 +166,35 @@ struct nucleus_sizes {
 typedef char nucleus_tables_fit[sizeof(struct nucleus_tables) == NUCLEUS_TABLES_BYTES ? 1 : -1];
 typedef char nucleus_report_fits[sizeof(struct nucleus_report) == NUCLEUS_REPORT_BYTES ? 1 : -1];
 typedef char nucleus_lengths_fit[sizeof(size_t) == 8 && sizeof(struct nucleus_dumped) == 16 ? 1 : -1];
+typedef char nucleus_bytes_fit[sizeof(const uint8_t *) == 8 && sizeof(struct nucleus_bytes) == 16 ? 1 : -1];
 
 /* ---- The calls
 
-   No pointer is null, also where a length is 0. Tables do not overlap an event, a buffer or a dump's bytes. No other call on the
-   same tables or buffer is under way. */
+   No pointer is null, also where a length is 0. Nothing that is lent to a call overlaps: tables, an event or its bytes, a buffer, a dump's
+   bytes, and in a batch also the struct that names the bytes, the numbers and the refusal. No other call on any of it is under way. */
 
 /* Puts the tables of a start there: thread 0 runs. "Starting is never refused", and the room may hold anything before. */
 void nucleus_start(struct nucleus_tables *tables);
 
 /* The next event: "one event to the next tables and a decision". Refusals 11, 1 to 10. */
 struct nucleus_report nucleus_step(struct nucleus_tables *tables, const uint8_t *event, size_t length);
+
+/* A batch: runs the complete fields of *events in order, each as nucleus_step would. A field is complete if its three-byte head and its
+   declared length are there, malformed or not.
+
+   Decision n, from 0, is the six numbers from numbers[NUCLEUS_DECISION_NUMBERS * n] on (enum nucleus_place), for refused events too.
+   "Numbers behind the last decision stay." room is how many numbers are there. Twice the length of the bytes is always enough, since no
+   field is shorter than three.
+
+   Then *events is "the unread end of the caller's bytes": the same memory, never a copy. Its pointer has moved on to the first byte that
+   was not run, and its length is what is left from there: a last field that is cut short, or nothing. With nothing left the length is 0 and
+   the pointer is one behind the last byte. Empty bytes, or only a cut field: both stay as they were, and no number is written. No byte of
+   the events themselves is ever written.
+
+   *refusal is 0 or 14; what it held before does not matter. 14 comes "before all others", 11 too, with room for fewer decisions than there
+   are complete fields: then "nothing is run" and "nothing else written", and *events stays as it was. Refusals 1 to 11 stand in the
+   decisions. Tables that do not meet the table rules are answered in each: 11 255 255 0 255 0. */
+void nucleus_batch(struct nucleus_tables *tables, struct nucleus_bytes *events, uint32_t *numbers, size_t room, uint8_t *refusal);
 
 /* 0 if the tables meet the table rules, else 11. */
 uint8_t nucleus_check(const struct nucleus_tables *tables);

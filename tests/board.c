@@ -26,6 +26,26 @@ static struct {
     uint8_t behind[64];
 } buffer, buffer_was;
 
+/* Of a batch: what names its bytes, which are those of the buffer, and what it writes. The numbers are aligned to four bytes only. */
+#define NUMBERS (2 * sizeof buffer.bytes) /* no batch gives more: three bytes at least for each six */
+static struct {
+    uint64_t before[8];
+    struct nucleus_bytes events;
+    uint64_t behind[8];
+} named, named_was;
+
+static struct {
+    uint32_t before[15];
+    uint32_t row[NUMBERS];
+    uint32_t behind[16];
+} numbers, numbers_was;
+
+static struct {
+    uint8_t before[61];
+    uint8_t refusal;
+    uint8_t behind[64];
+} lent, lent_was;
+
 static struct nucleus_tables *const t = &room.tables;
 static unsigned passed, failed;
 static unsigned refusals_met; /* bit n for refusal n */
@@ -48,6 +68,9 @@ static void before_call(void)
 {
     memcpy(&room_was, &room, sizeof room);
     memcpy(&buffer_was, &buffer, sizeof buffer);
+    memcpy(&named_was, &named, sizeof named);
+    memcpy(&numbers_was, &numbers, sizeof numbers);
+    memcpy(&lent_was, &lent, sizeof lent);
 }
 
 static int differs(const void *a, const void *b, size_t n)
@@ -59,7 +82,7 @@ static int differs(const void *a, const void *b, size_t n)
 static void after_call(const char *call, unsigned refusal, int tables_stand, size_t written)
 {
     unsigned long broken = 0; /* a bit for each thing that does not stand */
-    if (refusal > 13 || written > sizeof buffer.bytes) {
+    if (refusal > 14 || written > sizeof buffer.bytes) {
         expect(0, call, refusal);
         return;
     }
@@ -73,11 +96,25 @@ static void after_call(const char *call, unsigned refusal, int tables_stand, siz
     expect(broken == 0, call, broken);
 }
 
+/* Behind a batch too: the guards of what only a batch is lent stand, and the numbers but for those that it may have given. */
+static void after_batch(size_t given)
+{
+    unsigned long broken = 0;
+    broken |= differs(named.before, named_was.before, sizeof named.before) ? 1 : 0;
+    broken |= differs(named.behind, named_was.behind, sizeof named.behind) ? 2 : 0;
+    broken |= differs(numbers.before, numbers_was.before, sizeof numbers.before) ? 4 : 0;
+    broken |= differs(numbers.behind, numbers_was.behind, sizeof numbers.behind) ? 8 : 0;
+    broken |= differs(numbers.row + given, numbers_was.row + given, sizeof numbers.row - given * sizeof numbers.row[0]) ? 16 : 0;
+    broken |= differs(lent.before, lent_was.before, sizeof lent.before) ? 32 : 0;
+    broken |= differs(lent.behind, lent_was.behind, sizeof lent.behind) ? 64 : 0;
+    expect(broken == 0, "what is lent to a batch", broken);
+}
+
 /* ---- each call, on a stack of its own */
 
-enum call { NO_CALL, START, STEP, CHECK, DUMP, LOAD, PICK, SIZES, CALLS };
-static const char *const call_names[] = {"no call", "nucleus_start", "nucleus_step", "nucleus_check", "nucleus_dump", "nucleus_load",
-                                         "nucleus_pick", "nucleus_sizes"};
+enum call { NO_CALL, START, STEP, BATCH, CHECK, DUMP, LOAD, PICK, SIZES, CALLS };
+static const char *const call_names[] = {"no call", "nucleus_start", "nucleus_step", "nucleus_batch", "nucleus_check", "nucleus_dump",
+                                         "nucleus_load", "nucleus_pick", "nucleus_sizes"};
 static size_t deepest[CALLS]; /* bytes, from the top of the stack */
 static uint8_t stack[1 << 17];
 
@@ -87,7 +124,8 @@ static uint8_t stack[1 << 17];
 
 static struct {
     uintptr_t down; /* that place; since it is kept, the compiler leaves the way to it as long as it is */
-    size_t length;  /* of the event, of the buffer or of the dump */
+    size_t length;  /* of the event, of the buffer, of the dump, or how many numbers are lent */
+    size_t reached; /* bytes, from the top of the stack */
     uint64_t pending;
     struct nucleus_report report;
     struct nucleus_dumped dumped;
@@ -111,6 +149,7 @@ static void *make_call(void *which)
     switch (*(enum call *)which) {
     case START: nucleus_start(t); break;
     case STEP: now.report = nucleus_step(t, buffer.bytes, now.length); break;
+    case BATCH: nucleus_batch(t, &named.events, numbers.row, now.length, &lent.refusal); break;
     case CHECK: now.refusal = nucleus_check(t); break;
     case DUMP: now.dumped = nucleus_dump(t, buffer.bytes, now.length); break;
     case LOAD: now.refusal = nucleus_load(t, buffer.bytes, now.length); break;
@@ -134,8 +173,9 @@ static void call(enum call which, size_t length)
     pthread_attr_destroy(&with_stack);
     while (untouched < sizeof stack && stack[untouched] == GUARD)
         untouched++;
-    if (deepest[which] < sizeof stack - untouched)
-        deepest[which] = sizeof stack - untouched;
+    now.reached = sizeof stack - untouched;
+    if (deepest[which] < now.reached)
+        deepest[which] = now.reached;
 }
 
 static void start(void)
@@ -152,6 +192,29 @@ static struct nucleus_report step(const uint8_t *event, size_t length)
     call(STEP, length);
     after_call("step", now.report.refusal, now.report.refusal != 0, 0);
     return now.report;
+}
+
+/* A batch of which so many fields are complete and so many bytes are left behind them. It is lent so many numbers, with this in each byte.
+   Fewer than it needs: it is refused, and leaves all its bytes. The tables stand if it has accepted no event. */
+static void batch(const uint8_t *bytes, size_t length, size_t fields, size_t left, size_t lend, int filling)
+{
+    size_t given = fields * NUCLEUS_DECISION_NUMBERS, accepted = 0;
+    uint8_t wanted = lend < given ? NUCLEUS_SHORT_NUMBERS : 0;
+    memcpy(buffer.bytes, bytes, length);
+    memset(numbers.row, filling, sizeof numbers.row);
+    named.events.bytes = buffer.bytes, named.events.length = length;
+    lent.refusal = GUARD;
+    before_call();
+    call(BATCH, lend);
+    if (wanted)
+        given = 0, left = length;
+    for (size_t i = 0; i < given; i += NUCLEUS_DECISION_NUMBERS)
+        accepted += numbers.row[i + NUCLEUS_AT_REFUSAL] == 0;
+    after_call("batch", lent.refusal, accepted == 0, 0);
+    after_batch(given);
+    equal(lent.refusal, wanted, "refusal of a batch", lend);
+    expect(named.events.bytes == buffer.bytes + (length - left), "where the unread end of a batch begins", length);
+    equal(named.events.length, left, "how long the unread end of a batch is", length);
 }
 
 static uint8_t check(void)
@@ -452,10 +515,124 @@ static void reports(const char *what, struct nucleus_report r, const unsigned lo
     equal(r.word, wanted[5], what, 5);
 }
 
+static size_t from_hex(const char *hex, uint8_t *bytes)
+{
+    static const char digits[] = "0123456789ABCDEF";
+    size_t n = 0;
+    for (; *hex; hex++)
+        if (*hex != ' ') {
+            bytes[n / 2] = (uint8_t)(bytes[n / 2] * 16 + (strchr(digits, *hex) - digits));
+            n++;
+        }
+    return n / 2;
+}
+
+/* The length of the field that is complete at the front of these bytes, or 0. */
+static size_t field(const uint8_t *bytes, size_t length)
+{
+    size_t whole = length < 3 ? 0 : 3 + ((size_t)bytes[1] << 8 | bytes[2]);
+    return whole > length ? 0 : whole;
+}
+
+/* A batch on the tables as they stand, and on the same tables a call for each of its fields: equal decisions, and equal dumps behind
+   them. The words are not compared, since what they say is the library's own business. */
+static void as_single_calls(const char *what, const uint8_t *bytes, size_t length, int filling)
+{
+    static struct nucleus_tables before;
+    static uint8_t dump_of_batch[sizeof buffer.bytes];
+    static uint32_t given[NUMBERS];
+    size_t fields = 0, at = 0, n;
+    before = *t;
+    for (; (n = field(bytes + at, length - at)) != 0; at += n)
+        fields++;
+    batch(bytes, length, fields, length - at, fields * NUCLEUS_DECISION_NUMBERS, filling);
+    memcpy(given, numbers.row, sizeof given);
+    struct nucleus_dumped d = dump(sizeof buffer.bytes);
+    memcpy(dump_of_batch, buffer.bytes, sizeof dump_of_batch);
+    *t = before;
+    at = 0;
+    for (size_t i = 0; i < fields; i++, at += n) {
+        unsigned long wanted[6];
+        n = field(bytes + at, length - at);
+        for (size_t k = 0; k < 6; k++)
+            wanted[k] = given[i * NUCLEUS_DECISION_NUMBERS + k];
+        reports(what, step(bytes + at, n), wanted);
+    }
+    struct nucleus_dumped e = dump(sizeof buffer.bytes);
+    equal(d.refusal, e.refusal, what, 9);
+    equal(d.length, e.length, what, 10);
+    expect(!differs(dump_of_batch, buffer.bytes, e.length), what, 11);
+}
+
+/* How the bytes of a batch may end, on the tables as they stand: as many numbers as it needs, more, one too few, and none at all. */
+static void each_end(const char *what)
+{
+    static const struct {
+        const char *hex;
+        size_t fields, left;
+    } ends[] = {
+        {"", 0, 0},
+        {"14", 0, 1}, /* only a cut field */
+        {"14 00", 0, 2},
+        {"15 000C", 0, 3},
+        {"15 000C 0000000000000001 000000", 0, 14},
+        {"14 FFFF 14 0000", 0, 6},
+        {"14 0000", 1, 0}, /* one that is complete, and one that is cut */
+        {"14 0000 15", 1, 1},
+        {"14 0000 15 00", 1, 2},
+        {"14 0000 15 000C 00", 1, 4},
+        {"14 0001 14 0000", 1, 2}, /* malformed, and what is behind its length */
+        {"63 0000 12 0003 020000 14 0000 00 0000", 4, 0},
+        {"14 0000 15 000C 0000000000000001 D1D2D3D4 10 0005 00 00000001", 3, 0},
+    };
+    uint8_t bytes[32] = {0};
+    for (size_t i = 0; i < sizeof ends / sizeof ends[0]; i++) {
+        size_t n = from_hex(ends[i].hex, bytes), fields = ends[i].fields, needed = fields * NUCLEUS_DECISION_NUMBERS;
+        if (fields) {
+            batch(bytes, n, fields, ends[i].left, 0, 0xFF);
+            batch(bytes, n, fields, ends[i].left, needed - 1, 0x00);
+        }
+        batch(bytes, n, fields, ends[i].left, needed, 0x5A);
+        batch(bytes, n, fields, ends[i].left, needed + 1, 0x00);
+        batch(bytes, n, fields, ends[i].left, NUMBERS, 0xFF);
+        as_single_calls(what, bytes, n, 0xFF);
+    }
+}
+
+/* A length takes both bytes of the head: a malformed field over 1,026 bytes, and a tick behind it. */
+static void a_long_field(void)
+{
+    static uint8_t bytes[3 + 0x0402 + 3] = {NUCLEUS_SEND, 4, 2};
+    bytes[3 + 0x0402] = NUCLEUS_TICK;
+    start();
+    batch(bytes, sizeof bytes, 2, 0, 12, 0xFF);
+    batch(bytes, sizeof bytes - 1, 1, 2, 6, 0xFF);
+    batch(bytes, sizeof bytes - 4, 0, sizeof bytes - 4, 0, 0xFF);
+    as_single_calls("a long field", bytes, sizeof bytes, 0x00);
+}
+
+/* How far down the stack a batch of so many ticks goes, from a start. */
+static size_t down_with_ticks(size_t ticks)
+{
+    static uint8_t bytes[3 * 400];
+    for (size_t i = 0; i < 3 * ticks; i += 3)
+        bytes[i] = NUCLEUS_TICK;
+    start();
+    batch(bytes, 3 * ticks, ticks, 0, NUMBERS, 0x00);
+    return now.reached;
+}
+
+/* Twenty ticks do all that ticks do here. Four hundred must not go deeper: a board's stack has one limit for batches of any length. */
+static void any_length(void)
+{
+    size_t few = down_with_ticks(20), many = down_with_ticks(400);
+    expect(many < few + 256, "the stack of a batch grows with its length", many);
+}
+
 /* A room that was never started is refused by every call that looks at tables, and nothing is touched. tests/lent tries many more. */
 static void no_tables(int filling)
 {
-    static const uint8_t tick[] = {NUCLEUS_TICK, 0, 0};
+    static const uint8_t tick[] = {NUCLEUS_TICK, 0, 0}, two[] = {NUCLEUS_TICK, 0, 0, 99, 0, 1, 0, NUCLEUS_TICK};
     static const unsigned long wanted[6] = {NUCLEUS_BAD_TABLES, 255, NUCLEUS_NOBODY, 0, NUCLEUS_NOBODY, 0};
     fill(filling);
     equal(check(), NUCLEUS_BAD_TABLES, "no tables", 0);
@@ -463,6 +640,11 @@ static void no_tables(int filling)
     struct nucleus_dumped d = dump(sizeof buffer.bytes);
     equal(d.refusal, NUCLEUS_BAD_TABLES, "no tables", 1);
     equal(d.length, 0, "no tables", 2);
+    batch(two, sizeof two, 2, 1, 11, 0x00); /* 14 comes before 11 */
+    batch(two, sizeof two, 2, 1, 12, 0x00);
+    for (size_t i = 0; i < 12; i++)
+        equal(numbers.row[i], wanted[i % 6], "a batch without tables", i);
+    each_end("a batch without tables");
 }
 
 /* Tables may be copied: the copy goes on as they would have. */
@@ -538,18 +720,6 @@ static const struct {
     {"", 1, {1, 2, 255, 0, 255, 0}},
 };
 
-static size_t from_hex(const char *hex, uint8_t *bytes)
-{
-    static const char digits[] = "0123456789ABCDEF";
-    size_t n = 0;
-    for (; *hex; hex++)
-        if (*hex != ' ') {
-            bytes[n / 2] = (uint8_t)(bytes[n / 2] * 16 + (strchr(digits, *hex) - digits));
-            n++;
-        }
-    return n / 2;
-}
-
 /* The report for the last of them. */
 static struct nucleus_report steps(const char *hex, unsigned times)
 {
@@ -573,13 +743,43 @@ static void each_event(void)
     }
 }
 
+/* The same events in batches, one for all from a start to the next. What is not exactly one complete field cannot stand in a batch: it was
+   refused, so it is left out and the others are answered as before. */
+static void events_in_batches(void)
+{
+    static uint8_t bytes[sizeof buffer.bytes];
+    static size_t last_of[sizeof events / sizeof events[0]]; /* the decision for the last of its times, or none: 0 */
+    size_t first = 0, length = 0, fields = 0;
+    for (size_t i = 0; i <= sizeof events / sizeof events[0]; i++) {
+        if (i == sizeof events / sizeof events[0] || !events[i].hex) {
+            start();
+            batch(bytes, length, fields, 0, fields * NUCLEUS_DECISION_NUMBERS, 0xFF);
+            for (size_t k = first; k < i; k++)
+                for (size_t j = 0; last_of[k] && j < 6; j++)
+                    equal(numbers.row[last_of[k] * 6 - 6 + j], events[k].report[j], events[k].hex, 20 + j);
+            equal(check(), 0, "events in batches", first);
+            first = i + 1, length = 0, fields = 0;
+            continue;
+        }
+        uint8_t one[32] = {0};
+        size_t n = from_hex(events[i].hex, one);
+        if (field(one, n) != n || n == 0)
+            continue;
+        for (unsigned k = 0; k < events[i].times; k++, length += n)
+            memcpy(bytes + length, one, n);
+        fields += events[i].times, last_of[i] = fields;
+    }
+}
+
 /* The full tables are checked before the event is refused. */
 static void a_stopped_node(void)
 {
     equal(steps("14 0000", 1).refusal, NUCLEUS_NODE_STOPPED, "full tables", 7);
+    each_end("full tables");
 }
 
-/* Every kind of event on the mixed tables, where most rows are full: for the stack. Of what they do, only the refusal is looked at. */
+/* Every kind of event on the mixed tables, where most rows are full: for the stack. Of what they do, only the refusal is looked at. Then
+   each kind as a batch, and all behind each other in one batch, where the later ones meet what the earlier ones have left. */
 static void each_kind(void)
 {
     static const struct {
@@ -610,11 +810,22 @@ static void each_kind(void)
         {"15 000C 0000000000000001 00000001", 1, 0}, /* a thread waits for it, and nobody does */
         {"15 000C 0000000000000002 00000001", 1, 0},
     };
+    static uint8_t all[sizeof buffer.bytes];
+    size_t length = 0;
     for (size_t i = 0; i < sizeof kinds / sizeof kinds[0]; i++) {
         put_model("each kind", NUCLEUS_RUNNING);
         equal(steps(kinds[i].hex, kinds[i].times).refusal, kinds[i].refusal, kinds[i].hex, 7);
         equal(check(), 0, kinds[i].hex, 8);
+        size_t from = length;
+        for (unsigned k = 0; k < kinds[i].times; k++)
+            length += from_hex(kinds[i].hex, all + length);
+        put_model("each kind", NUCLEUS_RUNNING);
+        as_single_calls(kinds[i].hex, all + from, length - from, 0x5A);
     }
+    put_model("each kind", NUCLEUS_RUNNING);
+    as_single_calls("every kind", all, length, 0x00);
+    put_model("each kind", NUCLEUS_RUNNING);
+    each_end("mixed tables");
 }
 
 /* A tick changes what it must change in the mixed tables, and nothing else: then the model is changed so too. */
@@ -643,9 +854,20 @@ static void the_end_of_all(void)
         model.ready.row[model.ready.n++] = name_of(i);
     }
     put_model("the end of all", NUCLEUS_RUNNING);
+    static struct nucleus_tables before;
+    before = *t;
     reports("the end of all", step(end, sizeof end), wanted);
     model.runner = NUCLEUS_NOBODY, model.slice = 0, model.count = 0, model.ready.n = 0;
     same_as_model("the end of all", NUCLEUS_HALTED);
+
+    /* the same in the midst of a batch, behind a malformed field and before a tick that comes too late */
+    static const uint8_t midst[] = {NUCLEUS_TICK, 0, 1, 0, NUCLEUS_REQUEST, 0, 2, NUCLEUS_TERMINATE, NUCLEUS_NOBODY, NUCLEUS_TICK, 0, 0};
+    static const unsigned long decisions[18] = {2, 0, 0, 0, 255, 0, 0, 2, 255, 0, 255, 0, 1, 2, 255, 0, 255, 0};
+    *t = before;
+    batch(midst, sizeof midst, 3, 0, 18, 0xFF);
+    for (size_t i = 0; i < 18; i++)
+        equal(numbers.row[i], decisions[i], "the end of all in a batch", i);
+    same_as_model("the end of all in a batch", NUCLEUS_HALTED);
 }
 
 static void picks(void)
@@ -679,6 +901,9 @@ int main(void)
 {
     memset(&room, GUARD, sizeof room);
     memset(&buffer, GUARD, sizeof buffer);
+    memset(&named, GUARD, sizeof named);
+    memset(&numbers, GUARD, sizeof numbers);
+    memset(&lent, GUARD, sizeof lent);
     its_sizes();
     for (size_t i = 0; i < FILLINGS; i++)
         no_tables(fillings[i]);
@@ -694,9 +919,14 @@ int main(void)
     each_kind();
     a_tick();
     each_event();
+    events_in_batches();
+    start();
+    each_end("a start");
+    a_long_field();
+    any_length();
     the_end_of_all();
     picks();
-    equal(refusals_met, (1u << 14) - 1, "refusals met, as bits", 0);
+    equal(refusals_met, (1u << 15) - 1, "refusals met, as bits", 0);
     stacks();
     printf("%u passed, %u failed\n", passed, failed);
     return failed != 0;

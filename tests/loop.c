@@ -1,6 +1,6 @@
 /* A made-up board for the loop of docs/BOARD.md: built and run by tests/board. It notes what the loop does, a word each:
    new:THREAD, answer:THREAD,KIND,SENDER,WORD, told:THREAD,REFUSAL, resumed:THREAD, waits, stopped:STATUS.
-   The last line is 'N passed, M failed'. */
+   During a cut nobody is resumed. The last line is 'N passed, M failed'. */
 #include "nucleus.h"
 
 #include <stdarg.h>
@@ -11,8 +11,11 @@ void on_power(void);
 void on_tick(void);
 void on_device(void);
 void on_call(const uint8_t *event, size_t length);
+void on_cut(void);
+void on_cut_done(void);
+void gather(const uint8_t *event, size_t length);
 
-static char noted[256];
+static char noted[4096];
 static uint64_t pending;
 static unsigned passed, failed;
 
@@ -52,12 +55,16 @@ void stop(struct nucleus_report why) { note("stopped:%u ", why.status); }
 
 /* ---- what happens on it */
 
-static void noted_is(const char *wanted)
+static void judge(int good, const char *wanted)
 {
-    int good = !strcmp(noted, wanted);
     good ? passed++ : failed++;
     if (!good)
         printf("FAILED  the loop did '%s', and not '%s'\n", noted, wanted);
+}
+
+static void noted_is(const char *wanted)
+{
+    judge(!strcmp(noted, wanted), wanted);
     noted[0] = 0;
 }
 
@@ -67,6 +74,90 @@ static void call(uint8_t tag, uint8_t value_length, uint8_t a, uint8_t b, const 
     event[value_length == 2 ? 4 : 7] = b; /* an argument, or the last byte of a word */
     on_call(event, (size_t)value_length + 3);
     noted_is(wanted);
+}
+
+/* ---- gathered events */
+
+/* What comes from outside, a letter each: a tick, or the interrupt of a device 0 to 9. */
+static void comes(const char *script)
+{
+    for (; *script; script++)
+        if (*script == 't') {
+            on_tick();
+        } else {
+            pending |= (uint64_t)1 << (*script - '0');
+            on_device();
+        }
+}
+
+/* Three threads wait: 0 for device 5, 1 for the clock, 2 for device 3. */
+static void three_wait(void)
+{
+    on_power(), noted_is("new:0 resumed:0 ");
+    call(NUCLEUS_REQUEST, 2, NUCLEUS_CREATESON, 0, "new:1 answer:0,4,254,1 resumed:0 ");
+    call(NUCLEUS_REQUEST, 2, NUCLEUS_CREATESON, 0, "new:2 answer:0,4,254,2 resumed:0 ");
+    call(NUCLEUS_REQUEST, 2, NUCLEUS_WAITFORIO, 5, "resumed:1 ");
+    call(NUCLEUS_REQUEST, 2, NUCLEUS_WAITFORCLOCK, 0, "resumed:2 ");
+    call(NUCLEUS_REQUEST, 2, NUCLEUS_WAITFORIO, 3, "waits ");
+}
+
+/* Takes what was noted, but who is resumed, or that nobody is, only the last time. */
+static void take_but_once(char *kept)
+{
+    const char *last = "";
+    kept[0] = 0;
+    for (const char *word = strtok(noted, " "); word; word = strtok(NULL, " "))
+        if (!strncmp(word, "resumed:", 8) || !strcmp(word, "waits"))
+            last = word;
+        else
+            strcat(strcat(kept, word), " ");
+    strcat(strcat(kept, last), " ");
+    noted[0] = 0;
+}
+
+/* Gathered during a cut, these events do what they do one by one, but for the threads that run between them. And so the tables behind
+   them are the same: what comes later, one by one, does the same. */
+static void same_as_single(const char *script)
+{
+    static const char later[] = "tttttt5ttttttttt3tttttttttt";
+    static char single[sizeof noted], behind[sizeof noted];
+    three_wait();
+    comes(script), take_but_once(single);
+    comes(later), strcpy(behind, noted), noted[0] = 0;
+    three_wait();
+    on_cut(), comes(script), judge(!strstr(noted, "resumed") && !strstr(noted, "waits"), "nobody resumed during a cut");
+    on_cut_done(), noted_is(single);
+    comes(later), noted_is(behind);
+}
+
+#define TEN "tttttttttt"
+
+static void gathered_calls(void)
+{
+    static const uint8_t create[] = {NUCLEUS_REQUEST, 0, 2, NUCLEUS_CREATESON, 0}, to_nobody[] = {NUCLEUS_SEND, 0, 5, 99, 0, 0, 0, 1};
+    static const uint8_t receive[] = {NUCLEUS_RECEIVE, 0, 1, NUCLEUS_NOBODY}, end[] = {NUCLEUS_REQUEST, 0, 2, NUCLEUS_TERMINATE, 255};
+
+    /* thread 0 is handed its answer, though 1 runs again when the cut is done; and a cut in which nothing comes */
+    on_power(), noted_is("new:0 resumed:0 ");
+    call(NUCLEUS_REQUEST, 2, NUCLEUS_CREATESON, 0, "new:1 answer:0,4,254,1 resumed:0 ");
+    call(NUCLEUS_REQUEST, 2, NUCLEUS_WAITFORIO, 5, "resumed:1 ");
+    on_cut(), comes("t5ttttttttt"), noted_is("");
+    on_cut_done(), noted_is("answer:0,4,254,C1C2C305 resumed:1 ");
+    on_cut(), on_cut_done(), noted_is("resumed:1 ");
+
+    /* calls of the runner, as from a file: each new thread gets its state, and a refusal is told to who ran then */
+    on_cut(), gather(create, sizeof create), gather(to_nobody, sizeof to_nobody), gather(create, sizeof create);
+    gather(receive, sizeof receive), gather(to_nobody, sizeof to_nobody), noted_is("");
+    on_cut_done(), noted_is("new:2 answer:1,4,254,2 told:1,4 new:3 answer:1,4,254,3 told:0,4 resumed:0 ");
+
+    /* nobody remains: the ticks behind that change nothing */
+    on_cut(), gather(end, sizeof end), comes("tt"), noted_is("");
+    on_cut_done(), noted_is("stopped:2 ");
+
+    same_as_single("t");
+    same_as_single("5");
+    same_as_single("tt5" TEN "3" TEN TEN "35" TEN);
+    same_as_single(TEN TEN TEN TEN "335" TEN TEN TEN TEN "5" TEN TEN TEN TEN TEN "3" TEN); /* more than the buffer holds */
 }
 
 int main(void)
@@ -98,6 +189,7 @@ int main(void)
     on_tick(), noted_is("stopped:3 ");
     on_power(), noted_is("new:0 resumed:0 ");
     call(NUCLEUS_TRAP, 5, NUCLEUS_PROGRAM, 1, "stopped:2 ");
+    gathered_calls();
     printf("%u passed, %u failed\n", passed, failed);
     return failed != 0;
 }
