@@ -11,6 +11,7 @@ extern "C" {
     fn gauge_again(bytes: *const u8, length: usize, out: *mut u8, room: usize) -> usize;
     fn gauge_start(memory: *mut u32, words: usize);
     fn gauge_slice(memory: *mut u32, words: usize, bytes: *const u8, length: usize) -> u8;
+    fn gauge_batch(memory: *mut u32, words: usize, events: *const u8, length: usize, out: *mut u32, room: usize) -> u8;
     fn gauge_value(bytes: *const u8, length: usize) -> u8;
 }
 
@@ -57,6 +58,11 @@ pub fn start(memory: &mut [u32]) {
 /// One lending::step::step_in: its refusal.
 pub fn step_in_slice(memory: &mut [u32], event: &[u8]) -> u8 {
     unsafe { gauge_slice(memory.as_mut_ptr(), memory.len(), event.as_ptr(), event.len()) }
+}
+
+/// One batching::batch::batch: its refusal.
+pub fn batch(memory: &mut [u32], events: &[u8], out: &mut [u32]) -> u8 {
+    unsafe { gauge_batch(memory.as_mut_ptr(), memory.len(), events.as_ptr(), events.len(), out.as_mut_ptr(), out.len()) }
 }
 
 /// One lending::step::step_value from a start: its refusal.

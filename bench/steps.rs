@@ -6,12 +6,14 @@
 //!
 //! A time is the best of ROUNDS. The counts of accepted events must agree; a time is never a test.
 
+mod places;
 #[allow(dead_code)]
 mod proved;
 mod tables;
 mod timing;
 
 use nucleus::{lent, Node};
+use places::best_of_both;
 use plain::lent::{step_checked, Tables};
 use plain::Plain;
 use std::hint::black_box;
@@ -81,24 +83,6 @@ fn independent(bytes: &[u8]) -> u64 {
 fn independent_lent(bytes: &[u8]) -> u64 {
     let mut tables = Node::start().tables();
     fields(bytes).filter(|field| lent::step(&mut tables, field).refusal == 0).count() as u64
-}
-
-/// The best of the rounds, below a frame that takes so many times 16 bytes of the stack.
-#[inline(never)]
-fn best_below<const TIMES: usize, const N: usize>(rounds: usize, runs: [Run; N], bytes: &[u8]) -> [f64; N] {
-    let taken = [0u128; TIMES];
-    black_box(&taken);
-    best(rounds, runs, bytes)
-}
-
-/// Half of the rounds are run 16 bytes further down the stack. Where the rows stand there is chance, and where events repeat in pairs it moves a
-/// time by up to a tenth. So each is timed at both places.
-fn best_of_both<const N: usize>(rounds: usize, runs: [Run; N], bytes: &[u8]) -> [f64; N] {
-    let half = rounds.div_ceil(2);
-    let mut fastest = best_below::<1, N>(half, runs, bytes);
-    let lower = best_below::<2, N>(half, runs, bytes);
-    fastest.iter_mut().zip(lower).for_each(|(time, other)| *time = time.min(other));
-    fastest
 }
 
 /// The seconds of each run, over all files.

@@ -3,8 +3,8 @@
 use std::hint::black_box;
 use std::time::Instant;
 
-/// Something timed, over bytes. It gives what it counted.
-pub type Run = fn(&[u8]) -> u64;
+/// Something timed, over bytes or what is made of them before. It gives what it counted.
+pub type Run<T = [u8]> = fn(&T) -> u64;
 
 /// The fields of a stream; one that is cut off is the last.
 pub fn fields(mut rest: &[u8]) -> impl Iterator<Item = &[u8]> {
@@ -27,7 +27,7 @@ fn waited() -> u64 {
 }
 
 /// Seconds on a processor, and what was counted. The clock is read outermost, so that no wait is taken off that is not in the time.
-pub fn timed(run: Run, bytes: &[u8]) -> (f64, u64) {
+pub fn timed<T: ?Sized>(run: Run<T>, bytes: &T) -> (f64, u64) {
     let start = Instant::now();
     let before = waited();
     let count = black_box(run(black_box(bytes)));
@@ -36,12 +36,12 @@ pub fn timed(run: Run, bytes: &[u8]) -> (f64, u64) {
 }
 
 /// To find what the timing itself takes, and where there is nothing to be taken off.
-pub fn nothing(_: &[u8]) -> u64 {
+pub fn nothing<T: ?Sized>(_: &T) -> u64 {
     0
 }
 
 /// The best of the rounds for each run, over the same bytes. Round by round, so that other work on the machine meets each of them.
-pub fn best<const N: usize>(rounds: usize, runs: [Run; N], bytes: &[u8]) -> [f64; N] {
+pub fn best<T: ?Sized, const N: usize>(rounds: usize, runs: [Run<T>; N], bytes: &T) -> [f64; N] {
     let mut fastest = [f64::INFINITY; N];
     let mut timing = f64::INFINITY;
     for _ in 0..rounds {

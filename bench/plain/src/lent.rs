@@ -1,6 +1,7 @@
 //! Lent tables: numbers alone, so that every bit pattern of the lent room is a value. They are read into rows, checked, stepped and written
 //! back, as the proved step does it. Rows are in the order of the dump. The status is no part of them.
 
+use crate::batch::{has_room, run};
 use crate::numbers::{refusal, DEVICES, MESSAGES, THREADS};
 use crate::threads::{State, Thread};
 use crate::{load, Answer, Decision, Plain};
@@ -89,6 +90,25 @@ pub fn step_checked(tables: &mut Tables, field: &[u8]) -> Decision {
         plain.write(tables);
     }
     decision
+}
+
+/// A batch on lent tables: read and checked before its first event, and written back behind its last one, if any was accepted.
+pub fn batch_checked<'a>(tables: &mut Tables, events: &'a [u8], out: &mut [u32]) -> Result<&'a [u8], u8> {
+    has_room(events, out)?;
+    let mut plain = Plain::EMPTY;
+    if !plain.read(tables) {
+        return Ok(run(events, out, |_| Decision::NO_TABLES));
+    }
+    let mut changed = false;
+    let rest = run(events, out, |field| {
+        let decision = plain.step(field);
+        changed |= decision.refusal == 0;
+        decision
+    });
+    if changed {
+        plain.write(tables);
+    }
+    Ok(rest)
 }
 
 /// The length of the dump, or refusal 11 or 12.

@@ -10,7 +10,8 @@
 //! * `step`     refusals that hold for every event, the step, the decision
 //! * `send`, `receive`, `trap`, `requests`, `ending`, `tick`, `interrupt`, `dispatch`: what each word does, its refusals first
 //! * `rules`    the table rules
-//! * `lent`     step, dump and load over lent tables, which are numbers alone
+//! * `batch`    the complete fields of some bytes in one call
+//! * `lent`     step, batch, dump and load over lent tables, which are numbers alone
 //! * `dump`, `load`: the dump's writer and reader
 //!
 //! With the feature `big` (crate big) the limits are 64 threads and 128 blocks, and there is the step alone: the table rules here have sets of
@@ -19,6 +20,8 @@
 #![forbid(unsafe_code)]
 #![cfg_attr(feature = "big", allow(dead_code))]
 
+#[cfg(not(feature = "big"))]
+pub mod batch;
 mod dispatch;
 #[cfg(not(feature = "big"))]
 mod dump;

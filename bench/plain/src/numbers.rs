@@ -43,4 +43,5 @@ pub mod refusal {
     pub const NO_TABLES: u8 = 11;
     pub const SHORT_BUFFER: u8 = 12;
     pub const NO_DUMP: u8 = 13;
+    pub const NO_ROOM: u8 = 14;
 }

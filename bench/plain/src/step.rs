@@ -15,6 +15,12 @@ pub struct Decision {
 impl Decision {
     /// Refusal 11.
     pub(crate) const NO_TABLES: Decision = Decision { refusal: refusal::NO_TABLES, status: NOBODY, runner: NOBODY, answer: Answer::NONE };
+
+    /// As a batch writes them.
+    pub fn numbers(self) -> [u32; 6] {
+        let Answer { kind, sender, word } = self.answer;
+        [self.refusal.into(), self.status.into(), self.runner.into(), kind.into(), sender.into(), word]
+    }
 }
 
 impl Plain {
