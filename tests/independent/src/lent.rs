@@ -1,5 +1,6 @@
-//! Step, dump and load over lent plain tables, which may be bad.
+//! Step, batch, dump and load over lent plain tables, which may be bad.
 
+use crate::batch::{self, Batch};
 use crate::dump;
 use crate::node::{Decision, Node};
 use crate::numbers::{Refusal, NOBODY};
@@ -18,7 +19,17 @@ pub fn step(tables: &mut Tables, bytes: &[u8]) -> Decision {
     decision
 }
 
-fn bad_tables() -> Decision {
+/// The complete fields of the bytes on lent tables, with a buffer for so many numbers. Tables stay as they are if nothing is accepted.
+pub fn batch(tables: &mut Tables, bytes: &[u8], room: usize) -> Batch {
+    let mut node = Node::from_tables(tables);
+    let batch = batch::run(node.as_mut(), bytes, room);
+    if let Some(node) = node.filter(|_| batch.accepted() > 0) {
+        *tables = node.tables();
+    }
+    batch
+}
+
+pub(crate) fn bad_tables() -> Decision {
     let (kind, sender, word) = NO_ANSWER;
     let refusal = Refusal::BadTables.number();
     Decision { refusal, status: NOBODY, runner: NOBODY, kind, sender, word }

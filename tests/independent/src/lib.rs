@@ -1,4 +1,4 @@
-//! The node's nucleus, written from document 01 and the project's readings of it, and not from its rules or code.
+//! The node's nucleus, written from documents 01 and 02 and the project's readings of them, and not from its rules or code.
 //!
 //! * `numbers`   the document's fixed numbers and the refusals
 //! * `event`     events as bytes, with the one table of facts; the pick
@@ -6,7 +6,8 @@
 //! * `node`      the tables and the step
 //! * `tables`    the tables as plain numbers, and the table rules
 //! * `dump`      the dump's writer and reader
-//! * `lent`      step, dump and load over lent plain tables (refusals 11 to 13)
+//! * `batch`     a batch of events in one call
+//! * `lent`      step, batch, dump and load over lent plain tables (refusals 11 to 14)
 //! * `program`   the event program
 //!
 //! And what makes and compares inputs:
@@ -22,6 +23,7 @@
 //! * `slips`     programs with one slip each, which it has to find
 //! * `hex`       fields in hex
 
+pub mod batch;
 pub mod breaks;
 pub mod census;
 pub mod compare;

@@ -60,6 +60,8 @@ pub enum Refusal {
     ShortBuffer = 12,
     /// The bytes are no dump.
     NoDump = 13,
+    /// The buffer of a batch holds fewer than six numbers per complete field.
+    ShortBatch = 14,
 }
 
 impl Refusal {

@@ -48,12 +48,21 @@ pub struct Sizes {
     pub dump: u32,
 }
 
+/// Bytes that are lent: where they begin, and how many there are.
+#[repr(C)]
+#[derive(Clone, Copy, Debug, PartialEq, Eq)]
+pub struct Bytes {
+    pub bytes: *const u8,
+    pub length: usize,
+}
+
 // A slice is a pointer, then a length. No entry asks anything of the words or bytes that it is lent.
 #[link(name = "nucleus", kind = "static")]
 extern "C" {
     fn nucleus_start(tables: *mut u32);
-    fn nucleus_step(tables: *mut u32, event: *const u8, length: usize) -> Report;
-    fn nucleus_check(tables: *const u32) -> u8;
+    pub fn nucleus_step(tables: *mut u32, event: *const u8, length: usize) -> Report;
+    pub fn nucleus_batch(tables: *mut u32, events: *mut Bytes, numbers: *mut u32, room: usize, refusal: *mut u8);
+    pub fn nucleus_check(tables: *const u32) -> u8;
     fn nucleus_dump(tables: *const u32, out: *mut u8, room: usize) -> Dumped;
     fn nucleus_load(tables: *mut u32, bytes: *const u8, length: usize) -> u8;
     fn nucleus_pick(pending: u64) -> Picked;

@@ -5,26 +5,15 @@
 //! Most are whole tables with each bit of the room flipped in turn. A flip in a word that counts is refused with 11 or stands for other tables;
 //! any other flip changes no answer and no dump, then or later: what is demanded behind it rests on the tables alone.
 
-mod events;
-mod judge;
-mod kinds;
-mod layout;
-mod lent;
-mod plausible;
-mod rows;
-mod source;
-mod tally;
-mod trial;
-
-use judge::Ground;
-use kinds::{Kind, Maker, BITS, KINDS};
-use lent::{Report, Room, Sizes, LONGEST, SIZE};
 use nucleus::random::Random;
 use nucleus::Node;
+use rubbish::judge::{self, Ground};
+use rubbish::kinds::{Kind, Maker, BITS, KINDS};
+use rubbish::lent::{self, Report, Room, Sizes, LONGEST, SIZE};
+use rubbish::tally::{self, Counted, Tally, FIXED};
+use rubbish::trial::{self, Plan};
 use std::mem::size_of;
 use std::process::ExitCode;
-use tally::{Counted, Tally, FIXED};
-use trial::Plan;
 
 /// So many tables that were answered otherwise are printed, each with so many of its differences.
 const SHOWN: u64 = 5;
