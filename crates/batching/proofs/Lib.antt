@@ -4,3 +4,4 @@ pub mod Running
 pub mod Serving
 pub mod Determined
 pub mod Example
+pub mod Runs

@@ -1,0 +1,85 @@
+-- From the code to the demands, with batches: whatever a start, single steps and batches leave, call after call, the memory stands for the rules' run of
+-- the events that were run, and each decision told is that of the rules. So the laws on runs speak of batches too.
+-- Assumes nothing.
+use Prim.Native.Nat.{ℕ}
+use mathlib.Core.Path.{_≡_, sym, ap, ap₂, _∙_, subst}
+use mathlib.Core.Logic.{_↔_}
+use mathlib.Core.Bool.{true, false}
+use mathlib.Core.List.{List, [], _∷_, _++_}
+use native.Mathlib.Omega.{arith}
+use lib.ListN.{length, drop}
+use Rattle.rules.specs.Lists.{any, all}
+use Rattle.rules.specs.Numbers.{small}
+use Rattle.rules.specs.Tables.{Tables, start}
+use Rattle.rules.specs.Dispatch.{status}
+use Rattle.rules.specs.TableRules.{table-rules}
+use Rattle.rules.specs.Step.{step}
+use Rattle.rules.specs.Runs.{Input, run, decisions}
+use Rattle.rules.specs.Batch.{numbers, taken}
+use Rattle.rules.specs.declared.Decision.{Decision}
+use Rattle.laws.proofs.Words.{NoRunner, Panicked, Event}
+use Rattle.laws.proofs.Steps.{run-append, run-last}
+use Rattle.laws.proofs.Kept.{rules-hold-in-runs}
+use Rattle.laws.proofs.Outside.{from-outside, some-ready, outside}
+use Rattle.laws.proofs.Idle.{panicked-exactly}
+use Rattle.laws.proofs.Handed.{Cause, whatever-is-handed}
+use Rattle.laws.proofs.Batch.{decisions-append}
+use Rattle.store.specs.Store.{tables}
+use Rattle.lending.specs.Lent.{valid, Answered, Started}
+use Rattle.batching.specs.Batching.{decided, numbers-after, Served}
+
+-- The memory after a start and these events, in single steps and in batches, by any results that the promises allow. A batch runs the events that it takes.
+pub data Series : Input → List ℕ → Type 0 where
+  started : (m : List ℕ) → Started m → Series [] m
+  stepped : (es : Input) (m e m′ : List ℕ) (d : Decision) → Series es m → Answered m e m′ d → Series (es ++ (e ∷ [])) m′
+  batched : (es : Input) (m bytes before m′ after : List ℕ) (n : ℕ) → Series es m → Served m bytes before m′ after n
+      → Series (es ++ taken (length before) bytes .events) m′
+
+-- It stands for the rules' run of those events.
+pub stands-for-the-run : {es : Input} {m : List ℕ} → Series es m → (valid m ≡ true) × (tables m ≡ run small start es)
+unfolding run
+stands-for-the-run (started m s) = (s .valid, s .says)
+stands-for-the-run (stepped es m e m′ d s a) =
+    let i = stands-for-the-run s in
+    let j = a .leaves (i .0) in
+    (j .0, j .1 ∙ (ap (λ (T : Tables). step small T e .tables) (i .1) ∙ sym (run-last small start es e)))
+stands-for-the-run (batched es m bytes before m′ after n s b) =
+    let i = stands-for-the-run s in
+    let j = b .leaves (i .0) in
+    let fs = taken (length before) bytes .events in
+    (j .0, j .1 ∙ (ap (λ (T : Tables). run small T fs) (i .1) ∙ sym (run-append small start es fs)))
+
+module _ {es : Input} {m : List ℕ} (s : Series es m) where
+  -- Demand 2: the next batch tells the rules' decisions, in order.
+  pub told-by-the-rules : {bytes before m′ after : List ℕ} {n : ℕ} → Served m bytes before m′ after n →
+      let ds = decisions small (run small start es) (taken (length before) bytes .events) in after ≡ numbers ds ++ drop (length (numbers ds)) before
+  unfolding decided numbers-after
+  told-by-the-rules {bytes} {before} b =
+      let i = stands-for-the-run s in
+      let fs = taken (length before) bytes .events in
+      rw (i .0) at (b .numbers) ∙ ap (λ (T : Tables). let ds = decisions small T fs in numbers ds ++ drop (length (numbers ds)) before) (i .1)
+
+  -- Whatever it hands over has its cause: the decision of each event of the batch, wherever that stands in it, hands over what the events up to it
+  -- have made due.
+  pub handed-has-its-cause : (fs gs : Input) (e : List ℕ) →
+      let d = step small (run small start (es ++ fs)) e .decision in
+      (decisions small (run small start es) (fs ++ (e ∷ gs))
+      ≡ decisions small (run small start es) fs ++ (d ∷ decisions small (run small start ((es ++ fs) ++ (e ∷ []))) gs))
+      × Cause small ((es ++ fs) ++ (e ∷ [])) (d .runner) (d .answer)
+  unfolding decisions
+  handed-has-its-cause fs gs e = (
+    decisions-append small (run small start es) fs (e ∷ gs)
+        ∙ ap₂ (λ (T U : Tables). decisions small (run small start es) fs ++ (step small T e .decision ∷ decisions small U gs)) here
+        (ap (λ (T : Tables). step small T e .tables) here ∙ sym (run-last small start (es ++ fs) e)),
+    whatever-is-handed small (omega arith) (omega arith) (es ++ fs) e,
+  )
+    where
+      here : run small (run small start es) fs ≡ run small start (es ++ fs)
+      here = sym (run-append small start es fs)
+
+  -- Demand 3: with threads and nobody to run, it is panicked exactly if no series of ticks and interrupts makes any thread ready.
+  pub panics-exactly : tables m .runner ≡ NoRunner → any (λ t. true) (tables m .threads) ≡ true →
+      (status (tables m) ≡ Panicked) ↔ ((os : List Event) → all from-outside os ≡ true → some-ready (outside (tables m) os) ≡ false)
+  panics-exactly r some =
+      let i = stands-for-the-run s in
+      panicked-exactly small (tables m) (subst (λ (T : Tables). table-rules small T ≡ true) (sym (i .1)) (rules-hold-in-runs small es (omega arith) (omega arith))) r some
