@@ -17,7 +17,7 @@ use Rattle.store.specs.Store.{tables}
 use Rattle.lending.specs.Lent.{valid, no-tables, Answered}
 use Rattle.lending.proofs.Determined.{broken-are-kept}
 use Rattle.laws.proofs.Batch.{decisions-append}
-use Rattle.batching.specs.Batching.{Calls, none, call, decided, all-refused}
+use Rattle.batching.specs.Batching.{SingleCalls, none, call, decided, all-refused}
 
 -- ---- one call
 
@@ -39,12 +39,12 @@ all-apart p (x ∷ xs) ys h =
     (and-left (p x) (all p (xs ++ ys)) h & k .0, k .1)
 
 module _ {m : List ℕ} where
-  pub calls-stay-valid : {es : Input} {ds : List Decision} {m′ : List ℕ} → Calls m es ds m′ → valid m′ ≡ valid m
+  pub calls-stay-valid : {es : Input} {ds : List Decision} {m′ : List ℕ} → SingleCalls m es ds m′ → valid m′ ≡ valid m
   calls-stay-valid none = refl
   calls-stay-valid (call es ds m₁ e m₂ d cs p) = stays-valid p ∙ calls-stay-valid cs
 
   -- the tables of the rules' run
-  pub calls-leave : {es : Input} {ds : List Decision} {m′ : List ℕ} → Calls m es ds m′ → valid m ≡ true → tables m′ ≡ run small (tables m) es
+  pub calls-leave : {es : Input} {ds : List Decision} {m′ : List ℕ} → SingleCalls m es ds m′ → valid m ≡ true → tables m′ ≡ run small (tables m) es
   unfolding run
   calls-leave none v = refl
   calls-leave (call es ds m₁ e m₂ d cs p) v =
@@ -52,11 +52,11 @@ module _ {m : List ℕ} where
       ∙ (ap (λ (T : Tables). step small T e .tables) (calls-leave cs v) ∙ sym (run-last small (tables m) es e))
 
   -- broken tables are kept by every call
-  calls-broken : {es : Input} {ds : List Decision} {m′ : List ℕ} → Calls m es ds m′ → valid m ≡ false → m′ ≡ m
+  calls-broken : {es : Input} {ds : List Decision} {m′ : List ℕ} → SingleCalls m es ds m′ → valid m ≡ false → m′ ≡ m
   calls-broken none v = refl
   calls-broken (call es ds m₁ e m₂ d cs p) v = broken-are-kept p (calls-stay-valid cs ∙ v) ∙ calls-broken cs v
 
-  decided-by-rules : {es : Input} {ds : List Decision} {m′ : List ℕ} → Calls m es ds m′ → valid m ≡ true → ds ≡ decisions small (tables m) es
+  decided-by-rules : {es : Input} {ds : List Decision} {m′ : List ℕ} → SingleCalls m es ds m′ → valid m ≡ true → ds ≡ decisions small (tables m) es
   unfolding decisions
   decided-by-rules none v = refl
   decided-by-rules (call es ds m₁ e m₂ d cs p) v =
@@ -64,14 +64,14 @@ module _ {m : List ℕ} where
       (ap (λ (x : Decision). x ∷ []) (p .decides (calls-stay-valid cs ∙ v) ∙ ap (λ (T : Tables). step small T e .decision) (calls-leave cs v)))
       ∙ sym (decisions-append small (tables m) es (e ∷ []))
 
-  decided-as-broken : {es : Input} {ds : List Decision} {m′ : List ℕ} → Calls m es ds m′ → valid m ≡ false → ds ≡ map (λ _. no-tables) es
+  decided-as-broken : {es : Input} {ds : List Decision} {m′ : List ℕ} → SingleCalls m es ds m′ → valid m ≡ false → ds ≡ map (λ _. no-tables) es
   decided-as-broken none v = refl
   decided-as-broken (call es ds m₁ e m₂ d cs p) v =
       ap₂ (λ (xs ys : List Decision). xs ++ ys) (decided-as-broken cs v) (ap (λ (x : Decision). x ∷ []) (p .refuses (calls-stay-valid cs ∙ v)))
       ∙ sym (map-append (λ (_ : List ℕ). no-tables) es (e ∷ []))
 
   -- the decisions of the rules, or 11 for each
-  pub calls-decide : {es : Input} {ds : List Decision} {m′ : List ℕ} → Calls m es ds m′ → ds ≡ decided m es
+  pub calls-decide : {es : Input} {ds : List Decision} {m′ : List ℕ} → SingleCalls m es ds m′ → ds ≡ decided m es
   unfolding decided
   calls-decide {es} {ds} cs = on (valid m) refl
     where
@@ -80,7 +80,7 @@ module _ {m : List ℕ} where
       on false v = rw v (decided-as-broken cs v)
 
   -- Where each of them was refused, every word is as it was.
-  pub calls-keep : {es : Input} {ds : List Decision} {m′ : List ℕ} → Calls m es ds m′ → all-refused ds ≡ true → m′ ≡ m
+  pub calls-keep : {es : Input} {ds : List Decision} {m′ : List ℕ} → SingleCalls m es ds m′ → all-refused ds ≡ true → m′ ≡ m
   calls-keep none h = refl
   calls-keep (call es ds m₁ e m₂ d cs p) h =
       let k = all-apart _ ds (d ∷ []) h in

@@ -10,7 +10,7 @@ use lib.Seq.{drop-drop}
 use Rattle.rules.specs.Fields.{field-size, whole}
 use Rattle.rules.specs.Batch.{complete, unread}
 use Rattle.laws.proofs.Batch.{whole-within, complete-none, complete-first, past}
-use Rattle.batching.specs.Batching.{Counts}
+use Rattle.batching.specs.Batching.{AllCounted}
 
 -- ---- one field more
 
@@ -56,12 +56,12 @@ module _ {bytes : List ℕ} {count at : ℕ} (c : Counted bytes count at) where
       }
 
   -- the next field is not complete: these are all
-  pub all-counted : whole (drop at bytes) ≡ false → Counts bytes (record { count = count; end = at })
+  pub all-counted : whole (drop at bytes) ≡ false → AllCounted bytes (record { count = count; end = at })
   all-counted w =
       let none = complete-none (drop at bytes) w in
       record { count = omega (arith, c .counts, ap length (none .0)); rest = sym (none .1) ∙ c .rest; within = c .within; heads = c .heads }
 
   -- the bytes are at their end
-  pub at-the-end : length bytes ≤ at → Counts bytes (record { count = count; end = at })
+  pub at-the-end : length bytes ≤ at → AllCounted bytes (record { count = count; end = at })
   unfolding whole
   at-the-end h = all-counted (ap whole (drop-of-length-le bytes h))

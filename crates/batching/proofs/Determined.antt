@@ -21,7 +21,7 @@ use Rattle.store.specs.Store.{tables}
 use Rattle.lending.specs.Lent.{valid, no-tables}
 use Rattle.laws.proofs.Batch.{decisions-append, decisions-count, numbers-append, numbers-count, needed, room-left, taken-twice}
 use Rattle.batching.proofs.Calling.{calls-leave, calls-decide, calls-keep}
-use Rattle.batching.specs.Batching.{Calls, decided, numbers-after, all-refused, Served, Batches}
+use Rattle.batching.specs.Batching.{SingleCalls, decided, numbers-after, all-refused, Served, Batches}
 
 -- ---- determinacy
 
@@ -92,7 +92,7 @@ module _ {m bytes before m₁ after : List ℕ} {n : ℕ} (p : Served m bytes be
   -- "The result equals single calls in order, refused and malformed events included": on the same words, by any results that the promise of a step allows,
   -- single calls of the events that are run have the same decisions; they leave the same tables and dump, where the words are valid; and every word is
   -- the same where each of them is refused, as on words that are not valid.
-  pub equals-single-calls : {ds : List Decision} {m₂ : List ℕ} → Calls m ran ds m₂ →
+  pub equals-single-calls : {ds : List Decision} {m₂ : List ℕ} → SingleCalls m ran ds m₂ →
       (after ≡ numbers ds ++ drop (length (numbers ds)) before)
       × (valid m ≡ true → (tables m₁ ≡ tables m₂) × (dump (tables m₁) ≡ dump (tables m₂)))
       × (all-refused ds ≡ true → m₁ ≡ m₂)
@@ -123,12 +123,14 @@ module _ (m before a x : List ℕ) where
   rest = drop (length wrote) x
 
   -- The two equal the one: in the refusal, and, where that is 0, in every number, in the unread end, in the tables and in the dump.
-  pub two-batches-equal-one : (b : List ℕ) {m₁ m₂ y m′ z : List ℕ} {n j : ℕ} → Served m a before m₁ x 0 → Served m₁ (first .unread ++ b) rest m₂ y n → Served m (a ++ b) before m′ z j →
+  pub two-batches-equal-one : (b : List ℕ) {m₁ m₂ y m′ z : List ℕ} {n j : ℕ} →
+      Served m a before m₁ x 0 → Served m₁ (first .unread ++ b) rest m₂ y n → Served m (a ++ b) before m′ z j →
       (n ≡ j)
       × (j ≡ 0 → (wrote ++ y ≡ z) × (taken (length rest) (first .unread ++ b) .unread ≡ taken room (a ++ b) .unread)
       × (valid m ≡ true → (tables m₂ ≡ tables m′) × (dump (tables m₂) ≡ dump (tables m′))))
   unfolding numbers-after
-  two-batches-equal-one b {m₁} {m₂} {y} {m′} {z} p q o = (q .refusal ∙ (ap (λ (t : Taken). t .refusal) next ∙ (twice .0 ∙ sym (o .refusal))), λ e. on (sym (o .refusal) ∙ e))
+  two-batches-equal-one b {m₁} {m₂} {y} {m′} {z} p q o =
+      (q .refusal ∙ (ap (λ (t : Taken). t .refusal) next ∙ (twice .0 ∙ sym (o .refusal))), λ e. on (sym (o .refusal) ∙ e))
     where
       taken-first : first .refusal ≡ 0
       taken-first = sym (p .refusal)

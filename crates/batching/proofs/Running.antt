@@ -19,7 +19,7 @@ use Rattle.lending.specs.Lent.{valid, Answered}
 use Rattle.laws.proofs.Batch.{complete-first, numbers-append, line-count}
 use Rattle.batching.proofs.Counting.{some-left, behind-it, ends-within}
 use Rattle.batching.proofs.Calling.{stays-valid}
-use Rattle.batching.specs.Batching.{Calls, none, call, Runs}
+use Rattle.batching.specs.Batching.{SingleCalls, none, call, RanAll}
 
 -- ---- six numbers at the front of a buffer
 
@@ -41,7 +41,7 @@ pub record Running (m bytes before : List ℕ) (good : Bool) (left used filled :
   pub events : Input
   pub decisions : List Decision
   pub split : events ++ complete (drop used bytes) ≡ complete bytes
-  pub calls : Calls m events decisions m₁
+  pub calls : SingleCalls m events decisions m₁
   pub puts : Puts (numbers decisions) before after filled
   pub count : left ≡ length (complete (drop used bytes))
   pub fits : filled + decision-numbers * left ≤ length before
@@ -114,12 +114,12 @@ module _ {m bytes before : List ℕ} {good : Bool} {left used filled : ℕ} {m�
             ∙ ap₂ (λ (k : ℕ) (l : List ℕ). take k (drop used bytes) ∷ complete l) size (behind-it bytes used end w at-end)
 
   -- all are run
-  pub all-run : left ≤ 0 → Runs m bytes before m₁ after
+  pub all-run : left ≤ 0 → RanAll m bytes before m₁ after
   all-run h =
       record {
         said = r .decisions;
         filled = filled;
-        calls = subst (λ (es : Input). Calls m es (r .decisions) m₁) (sym (append-nil (r .events)) ∙ (ap (λ (fs : Input). r .events ++ fs) (sym none-left) ∙ r .split)) (r .calls);
+        calls = subst (λ (es : Input). SingleCalls m es (r .decisions) m₁) all-of-them (r .calls);
         puts = r .puts;
       }
     where
@@ -129,3 +129,6 @@ module _ {m bytes before : List ℕ} {good : Bool} {left used filled : ℕ} {m�
 
       none-left : complete (drop used bytes) ≡ []
       none-left = empty (complete (drop used bytes)) (omega (arith, r .count))
+
+      all-of-them : r .events ≡ complete bytes
+      all-of-them = sym (append-nil (r .events)) ∙ (ap (λ (fs : Input). r .events ++ fs) (sym none-left) ∙ r .split)

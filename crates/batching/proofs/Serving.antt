@@ -17,11 +17,11 @@ use Rattle.fields.specs.Fields.{EndOf}
 use Rattle.laws.proofs.Batch.{taken-refused, taken-whole}
 use Rattle.batching.proofs.Calling.{calls-stay-valid, calls-leave, calls-decide, calls-keep}
 use Rattle.batching.specs.declared.complete.Complete.{Complete}
-use Rattle.batching.specs.Batching.{Counts, Calls, none, Runs, numbers-after, all-refused, Served, Serves, Batches}
+use Rattle.batching.specs.Batching.{AllCounted, SingleCalls, none, RanAll, numbers-after, all-refused, Served, Serves, Batches}
 
 -- single calls of the events that are taken, and their decisions in the buffer
 pub served-by-calls : {m bytes before m′ after : List ℕ} {ds : List Decision} {k n : ℕ} → n ≡ taken (length before) bytes .refusal
-    → Calls m (taken (length before) bytes .events) ds m′ → Puts (numbers ds) before after k → Served m bytes before m′ after n
+    → SingleCalls m (taken (length before) bytes .events) ds m′ → Puts (numbers ds) before after k → Served m bytes before m′ after n
 unfolding numbers-after
 served-by-calls {before = before} e cs p =
     let d = calls-decide cs in
@@ -35,7 +35,7 @@ served-by-calls {before = before} e cs p =
     numbers-on : List ℕ → List Decision → List ℕ
     numbers-on before xs = numbers xs ++ drop (length (numbers xs)) before
 
-module _ {m bytes before : List ℕ} {c : Complete} (n : Counts bytes c) where
+module _ {m bytes before : List ℕ} {c : Complete} (n : AllCounted bytes c) where
   -- 14: nothing is run and nothing is written
   pub refused-14 : length before < c .count * decision-numbers → Serves m bytes before m before 0 14
   unfolding numbers each
@@ -43,20 +43,21 @@ module _ {m bytes before : List ℕ} {c : Complete} (n : Counts bytes c) where
       let e = taken-refused (length before) bytes (omega (arith, n .count)) in
       record {
         served = served-by-calls (sym (ap (λ (t : Taken). t .refusal) e))
-            (subst (λ (es : Input). Calls m es [] m) (sym (ap (λ (t : Taken). t .events) e)) none) (puts-none before);
+            (subst (λ (es : Input). SingleCalls m es [] m) (sym (ap (λ (t : Taken). t .events) e)) none) (puts-none before);
         unread = sym (ap (λ (t : Taken). t .unread) e);
       }
 
   -- there is room for all of them
-  pub ran : {m′ after : List ℕ} → c .count * decision-numbers ≤ length before → Runs m bytes before m′ after → Serves m bytes before m′ after (c .end) 0
+  pub ran : {m′ after : List ℕ} → c .count * decision-numbers ≤ length before → RanAll m bytes before m′ after → Serves m bytes before m′ after (c .end) 0
   ran {m′} {after} h r =
       let e = taken-whole (length before) bytes (omega (arith, n .count)) in
       record {
         served = served-by-calls (sym (ap (λ (t : Taken). t .refusal) e))
-            (subst (λ (es : Input). Calls m es (r .said) m′) (sym (ap (λ (t : Taken). t .events) e)) (r .calls)) (r .puts);
+            (subst (λ (es : Input). SingleCalls m es (r .said) m′) (sym (ap (λ (t : Taken). t .events) e)) (r .calls)) (r .puts);
         unread = n .rest ∙ sym (ap (λ (t : Taken). t .unread) e);
       }
 
 -- the end of the caller's bytes behind those that are read
-pub hands-back : {m before m′ after : List ℕ} {s r : RefT (List ℕ)} {used n : ℕ} → Serves m (now s) before m′ after used n → EndOf s used r → Batches m s before r m′ after n
+pub hands-back : {m before m′ after : List ℕ} {s r : RefT (List ℕ)} {used n : ℕ}
+    → Serves m (now s) before m′ after used n → EndOf s used r → Batches m s before r m′ after n
 hands-back p e = record { served = p .served; unread = e .bytes ∙ p .unread; stands = e .stands }

@@ -22,22 +22,23 @@ use Rattle.batching.specs.declared.complete.Complete.{Complete}
 -- ---- what the code promises itself
 
 -- the complete fields of some bytes, counted: none is shorter than its head
-pub record Counts (bytes : List ℕ) (c : Complete) : Type 0 where
+pub record AllCounted (bytes : List ℕ) (c : Complete) : Type 0 where
   pub count : c .count ≡ length (complete bytes)
   pub rest : drop (c .end) bytes ≡ unread bytes
   pub within : c .end ≤ length bytes
   pub heads : 3 * c .count ≤ c .end
 
 -- Single calls in order, on a memory that became another one, with their decisions: any results that the promise of a step allows.
-pub data Calls (m : List ℕ) : Input → List Decision → List ℕ → Type 0 where
-  none : Calls m [] [] m
-  call : (es : Input) (ds : List Decision) (m₁ e m₂ : List ℕ) (d : Decision) → Calls m es ds m₁ → Answered m₁ e m₂ d → Calls m (es ++ (e ∷ [])) (ds ++ (d ∷ [])) m₂
+pub data SingleCalls (m : List ℕ) : Input → List Decision → List ℕ → Type 0 where
+  none : SingleCalls m [] [] m
+  call : (es : Input) (ds : List Decision) (m₁ e m₂ : List ℕ) (d : Decision) → SingleCalls m es ds m₁ → Answered m₁ e m₂ d
+      → SingleCalls m (es ++ (e ∷ [])) (ds ++ (d ∷ [])) m₂
 
 -- the complete fields were run by single calls, and the buffer holds their decisions
-pub record Runs (m bytes before m′ after : List ℕ) : Type 0 where
+pub record RanAll (m bytes before m′ after : List ℕ) : Type 0 where
   pub said : List Decision
   pub filled : ℕ
-  pub calls : Calls m (complete bytes) said m′
+  pub calls : SingleCalls m (complete bytes) said m′
   pub puts : Puts (numbers said) before after filled
 
 -- ---- what a batch promises

@@ -18,7 +18,7 @@ ghost use Rattle.rules.specs.Runs.{line};
 ghost use Rattle.rules.specs.Batch.{complete as complete-of};
 ghost use Rattle.buffer.specs.Puts.{Puts};
 ghost use Rattle.lending.specs.Lent.{valid, Answered};
-ghost use Rattle.batching.specs.Batching.{Runs, Serves, Batches, BatchesValue};
+ghost use Rattle.batching.specs.Batching.{RanAll, Serves, Batches, BatchesValue};
 
 // How a batch was taken: the refusal, and how many bytes are read.
 struct Taken {
@@ -55,7 +55,7 @@ fn answer(m: &mut [u32], good: bool, event: &[u8]) -> Decision
 // Each of the complete fields, in order.
 fn run(m: &mut [u32], events: &[u8], count: usize, out: &mut [u32])
     requires { ⌜ (count ≡ length (complete-of (now events))) × (decision-numbers * count ≤ length (now out)) ⌝ }
-    ensures { λ _. ⌜ Runs (now (m .entry)) (now (events .entry)) (now (out .entry)) (now (m .exit)) (now (out .exit)) ⌝ }
+    ensures { λ _. ⌜ RanAll (now (m .entry)) (now (events .entry)) (now (out .entry)) (now (m .exit)) (now (out .exit)) ⌝ }
 {
     let good = check::check(m);
     let mut left = count;

@@ -1,6 +1,6 @@
 // The complete fields at the front of some bytes.
 use fields::cuts;
-ghost use Rattle.batching.specs.Batching.{Counts};
+ghost use Rattle.batching.specs.Batching.{AllCounted};
 
 // How many there are, and where the last one ends.
 pub struct Complete {
@@ -9,7 +9,7 @@ pub struct Complete {
 }
 
 pub fn count_complete(events: &[u8]) -> Complete
-    ensures { λ c. ⌜ Counts (now (events .entry)) c ⌝ }
+    ensures { λ c. ⌜ AllCounted (now (events .entry)) c ⌝ }
 {
     let mut count = 0;
     let mut end = 0;

@@ -19,10 +19,13 @@ abbrev μ-loop : tie.MeasureT-loop
 
 -- where the next field ends, and that it lies within the bytes
 found : (n : tie.After-cut-at Inv-loop μ-loop) →
-    n .cut-at .result .end ≡ n .before .before .loop .used + field-size (drop (n .before .before .loop .used) (n .before .before .before .before .before .before .before .before .args .events .now))
+    let used = n .before .before .loop .used in
+    n .cut-at .result .end ≡ used + field-size (drop used (n .before .before .before .before .before .before .before .before .args .events .now))
 found n = ap (λ (x : Cut). x .end) (n .cut-at .ensures)
 
-within : (n : tie.After-cut-at Inv-loop μ-loop) → (n .before .before .loop .used + 3 ≤ n .cut-at .result .end) × (n .cut-at .result .end ≤ length (n .before .before .before .before .before .before .before .before .args .events .now))
+within : (n : tie.After-cut-at Inv-loop μ-loop) →
+    (n .before .before .loop .used + 3 ≤ n .cut-at .result .end)
+    × (n .cut-at .result .end ≤ length (n .before .before .before .before .before .before .before .before .args .events .now))
 within n = field-within (n .before .before .loop .inv) (n .before .loop-test .taken) (found n)
 
 check-requires : tie.Need-check-requires Inv-loop μ-loop
@@ -47,7 +50,9 @@ answer-requires : tie.Need-answer-requires Inv-loop μ-loop
 answer-requires c κs = c .before .before .before .before .loop .inv .checked
 
 mul-put-decision : tie.Need-mul-put-decision Inv-loop μ-loop
-mul-put-decision c = let at-loop = c .before .before .before .before .before .before .before in omega (arith, at-loop .loop .inv .fits, at-loop .before .before .before .before .before .before .good .1 .1 .1 .0 .0)
+mul-put-decision c =
+    let at-loop = c .before .before .before .before .before .before .before in
+    omega (arith, at-loop .loop .inv .fits, at-loop .before .before .before .before .before .before .good .1 .1 .1 .0 .0)
 
 sub-put-decision : tie.Need-sub-put-decision Inv-loop μ-loop
 sub-put-decision c = let i = c .before .before .before .before .before .before .before .loop .inv in omega (arith, i .fits, i .long)
@@ -59,12 +64,13 @@ part-put-decision-end : tie.Need-part-put-decision-end Inv-loop μ-loop
 part-put-decision-end c = omega arith
 
 put-decision-requires : tie.Need-put-decision-requires Inv-loop μ-loop
-put-decision-requires c κs = has-room (c .before .before .before .before .before .before .before .before .loop .inv) (c .before .before .before .before .before .before .before .loop-test .taken)
+put-decision-requires c κs = let at-test = c .before .before .before .before .before .before .before in has-room (at-test .before .loop .inv) (at-test .loop-test .taken)
 
 add-filled : tie.Need-add-filled Inv-loop μ-loop
 add-filled c =
-    let at-loop = c .before .before .before .before .before .before .before .before .before .before .before in
-    omega (arith, decision-fits (at-loop .loop .inv) _ (c .before .before .before .before .before .before .before .before .before .before .loop-test .taken) (c .before .before .put-decision .ensures), at-loop .before .before .before .before .before .before .good .1 .1 .1 .0 .0)
+    let at-test = c .before .before .before .before .before .before .before .before .before .before in
+    let fits = decision-fits (at-test .before .loop .inv) _ (at-test .loop-test .taken) (c .before .before .put-decision .ensures) in
+    omega (arith, fits, at-test .before .before .before .before .before .before .before .good .1 .1 .1 .0 .0)
 
 sub-left : tie.Need-sub-left Inv-loop μ-loop
 sub-left c = omega (arith, c .before .before .before .before .before .before .before .before .before .before .loop-test .taken)

@@ -25,7 +25,10 @@ same-length-2 : tie.Need-same-length-2
 same-length-2 c = search needs
 
 returns-2 : tie.Need-returns-2
-returns-2 c = ran (c .before .before .before .before .before .before .before .before .before .count-complete .ensures) (c .before .before .before .before .before .before .before .if1 .left) (c .before .before .before .before .run .ensures)
+returns-2 c =
+    let at-run = c .before .before .before .before in
+    let at-if1 = at-run .before .before .before in
+    ran (at-if1 .before .before .count-complete .ensures) (at-if1 .if1 .left) (at-run .run .ensures)
 
 pub serve-spec : {M : Type 1} → statement M
 serve-spec =
