@@ -19,31 +19,55 @@ use Rattle.laws.proofs.Determinacy.{determined}
 use Rattle.laws.proofs.Steps.{run-append}
 use Rattle.store.specs.Store.{tables}
 use Rattle.lending.specs.Lent.{valid, no-tables}
+use Rattle.lending.specs.declared.Tables.{Tables as Lent}
 use Rattle.laws.proofs.Batch.{decisions-append, decisions-count, numbers-append, numbers-count, needed, room-left, taken-twice}
 use Rattle.batching.proofs.Calling.{calls-leave, calls-decide, calls-keep}
-use Rattle.batching.specs.Batching.{SingleCalls, decided, numbers-after, all-refused, Served, Batches}
+use Rattle.batching.specs.Batching.{SingleCalls, decided, numbers-after, all-refused, Served, Batches, BatchesValue}
+use Rattle.batching.specs.declared.Batched.{Batched}
 
 -- ---- determinacy
 
--- m, s and before: what is lent. Two results that the promise allows
-module _ {m before a b x y : List ℕ} {s r q : RefT (List ℕ)} {n k : ℕ} (p : Batches m s before r a x n) (o : Batches m s before q b y k) where
-  -- Any two results agree: in the refusal, in every number, and in the unread end, in its bytes and in where it stands; in the tables and their dump, where
-  -- what is lent is valid; in every word, where no event is accepted.
-  pub batch-determined :
-      (n ≡ k) × (x ≡ y) × (now r ≡ now q) × (ptr r ≡ ptr q)
+-- m, bytes and before: what is lent. Two results that the promise allows
+module _ {m bytes before a b x y : List ℕ} {n k : ℕ} (p : Served m bytes before a x n) (o : Served m bytes before b y k) where
+  -- They agree: in the refusal and in every number; in the tables and their dump, where what is lent is valid; in every word, where no event is accepted.
+  pub served-determined :
+      (n ≡ k) × (x ≡ y)
       × (valid m ≡ true → (tables a ≡ tables b) × (dump (tables a) ≡ dump (tables b)))
-      × (all-refused (decided m (taken (length before) (now s) .events)) ≡ true → a ≡ b)
+      × (all-refused (decided m (taken (length before) bytes .events)) ≡ true → a ≡ b)
+  served-determined = (
+    determined (p .refusal) (o .refusal),
+    determined (p .numbers) (o .numbers),
+    (λ v. let t = determined (p .leaves v .1) (o .leaves v .1) in (t, ap dump t)),
+    (λ h. determined (p .keeps h) (o .keeps h)),
+  )
+
+module _ {m before a b x y : List ℕ} {s r q : RefT (List ℕ)} {n k : ℕ} (p : Batches m s before r a x n) (o : Batches m s before q b y k) where
+  -- And in the unread end, in its bytes and in where it stands.
+  pub batch-determined :
+      ((n ≡ k) × (x ≡ y)
+      × (valid m ≡ true → (tables a ≡ tables b) × (dump (tables a) ≡ dump (tables b)))
+      × (all-refused (decided m (taken (length before) (now s) .events)) ≡ true → a ≡ b))
+      × (now r ≡ now q) × (ptr r ≡ ptr q)
   batch-determined = (
-    determined (p .served .refusal) (o .served .refusal),
-    determined (p .served .numbers) (o .served .numbers),
+    served-determined (p .served) (o .served),
     same,
     p .stands ∙ (ap (λ (l : List ℕ). (ptr s .0, (length (now s) - length l) + ptr s .1)) same ∙ sym (o .stands)),
-    (λ v. let t = determined (p .served .leaves v .1) (o .served .leaves v .1) in (t, ap dump t)),
-    (λ h. determined (p .served .keeps h) (o .served .keeps h)),
   )
     where
       same : now r ≡ now q
       same = determined (p .unread) (o .unread)
+
+module _ {t : Lent} {bytes before x y : List ℕ} {b c : Batched} (p : BatchesValue t bytes before x b) (o : BatchesValue t bytes before y c) where
+  -- By value: and in how many bytes are read.
+  pub batch-value-determined :
+      ((b .refusal ≡ c .refusal) × (x ≡ y)
+      × (valid (t .words) ≡ true → (tables (b .tables .words) ≡ tables (c .tables .words)) × (dump (tables (b .tables .words)) ≡ dump (tables (c .tables .words))))
+      × (all-refused (decided (t .words) (taken (length before) bytes .events)) ≡ true → b .tables .words ≡ c .tables .words))
+      × (b .used ≡ c .used)
+  batch-value-determined = (
+    served-determined (p .served) (o .served),
+    omega (arith, p .within, o .within, length-drop (b .used) bytes, length-drop (c .used) bytes, ap length (determined (p .unread) (o .unread))),
+  )
 
 -- ---- decisions on a lent memory
 

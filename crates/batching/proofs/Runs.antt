@@ -1,8 +1,8 @@
 -- From the code to the demands, with batches: whatever a start, single steps and batches leave, call after call, the memory stands for the rules' run of
 -- the events that were run, and each decision told is that of the rules. So the laws on runs speak of batches too.
 -- Assumes nothing.
-use Prim.Native.Nat.{ℕ}
-use mathlib.Core.Path.{_≡_, sym, ap, ap₂, _∙_, subst}
+use Prim.Native.Nat.{ℕ, _≤_}
+use mathlib.Core.Path.{_≡_, refl, sym, ap, ap₂, _∙_, subst}
 use mathlib.Core.Logic.{_↔_}
 use mathlib.Core.Bool.{true, false}
 use mathlib.Core.List.{List, [], _∷_, _++_}
@@ -20,6 +20,7 @@ use Rattle.rules.specs.declared.Decision.{Decision}
 use Rattle.laws.proofs.Words.{NoRunner, Panicked, Event}
 use Rattle.laws.proofs.Steps.{run-append, run-last}
 use Rattle.laws.proofs.Kept.{rules-hold-in-runs}
+use Rattle.laws.proofs.Wait.{became-ready, ticks-accepted, served-by, ready-thread-waits-at-most-95}
 use Rattle.laws.proofs.Outside.{from-outside, some-ready, outside}
 use Rattle.laws.proofs.Idle.{panicked-exactly}
 use Rattle.laws.proofs.Handed.{Cause, whatever-is-handed}
@@ -76,6 +77,32 @@ module _ {es : Input} {m : List ℕ} (s : Series es m) where
     where
       here : run small (run small start es) fs ≡ run small start (es ++ fs)
       here = sym (run-append small start es fs)
+
+  -- Demand 3: a thread that an event of the next batch makes ready, wherever that stands in it, has run or ended by the 95th tick accepted after it:
+  -- of the ticks behind it in the batch, and of those that come later.
+  pub waits-at-most-95 : {bytes before m′ after : List ℕ} {k : ℕ} → Served m bytes before m′ after k →
+      (fs gs : Input) (e : List ℕ) → taken (length before) bytes .events ≡ fs ++ (e ∷ gs) → (more : Input) (n : ℕ) →
+      let T = run small (tables m) fs in
+      let U = step small T e .tables in
+      (tables m′ ≡ run small U gs)
+      × (became-ready small T e n ≡ true → 95 ≤ ticks-accepted small U (gs ++ more) → served-by small 95 n U (gs ++ more) ≡ true)
+  waits-at-most-95 {m′ = m′} b fs gs e c more n = (
+    b .leaves (i .0) .1 ∙ (ap (run small (tables m)) c ∙ (run-append small (tables m) fs (e ∷ gs) ∙ behind (run small (tables m) fs))),
+    subst Waits (sym here) (ready-thread-waits-at-most-95 (es ++ fs) e (gs ++ more) n),
+  )
+    where
+      i : (valid m ≡ true) × (tables m ≡ run small start es)
+      i = stands-for-the-run s
+
+      here : run small (tables m) fs ≡ run small start (es ++ fs)
+      here = ap (λ (T : Tables). run small T fs) (i .1) ∙ sym (run-append small start es fs)
+
+      behind : (T : Tables) → run small T (e ∷ gs) ≡ run small (step small T e .tables) gs
+      behind T = unfold run in refl
+
+      Waits : Tables → Type 0
+      Waits T = became-ready small T e n ≡ true → 95 ≤ ticks-accepted small (step small T e .tables) (gs ++ more)
+          → served-by small 95 n (step small T e .tables) (gs ++ more) ≡ true
 
   -- Demand 3: with threads and nobody to run, it is panicked exactly if no series of ticks and interrupts makes any thread ready.
   pub panics-exactly : tables m .runner ≡ NoRunner → any (λ t. true) (tables m .threads) ≡ true →

@@ -45,6 +45,7 @@ module _ {m bytes before : List ℕ} {c : Complete} (n : AllCounted bytes c) whe
         served = served-by-calls (sym (ap (λ (t : Taken). t .refusal) e))
             (subst (λ (es : Input). SingleCalls m es [] m) (sym (ap (λ (t : Taken). t .events) e)) none) (puts-none before);
         unread = sym (ap (λ (t : Taken). t .unread) e);
+        within = omega arith;
       }
 
   -- there is room for all of them
@@ -55,6 +56,7 @@ module _ {m bytes before : List ℕ} {c : Complete} (n : AllCounted bytes c) whe
         served = served-by-calls (sym (ap (λ (t : Taken). t .refusal) e))
             (subst (λ (es : Input). SingleCalls m es (r .said) m′) (sym (ap (λ (t : Taken). t .events) e)) (r .calls)) (r .puts);
         unread = n .rest ∙ sym (ap (λ (t : Taken). t .unread) e);
+        within = n .within;
       }
 
 -- the end of the caller's bytes behind those that are read

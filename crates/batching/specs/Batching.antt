@@ -63,10 +63,11 @@ pub record Served (m bytes before m′ after : List ℕ) (n : ℕ) : Type 0 wher
   pub leaves : valid m ≡ true → (valid m′ ≡ true) × (tables m′ ≡ run small (tables m) (taken (length before) bytes .events))
   pub keeps : all-refused (decided m (taken (length before) bytes .events)) ≡ true → m′ ≡ m
 
--- and how many bytes are read
+-- and how many bytes are read: never more than there are, so that one number alone is right
 pub record Serves (m bytes before m′ after : List ℕ) (used n : ℕ) : Type 0 where
   pub served : Served m bytes before m′ after n
   pub unread : drop used bytes ≡ taken (length before) bytes .unread
+  pub within : used ≤ length bytes
 
 -- "hands back the unread end of the caller's bytes as it stands": s is what the caller lends, r what is handed back
 pub record Batches (m : List ℕ) (s : RefT (List ℕ)) (before : List ℕ) (r : RefT (List ℕ)) (m′ after : List ℕ) (n : ℕ) : Type 0 where

@@ -1,3 +1,4 @@
 pub mod DumpRoom
 pub mod Determined
 pub mod Runs
+pub mod Gathered
