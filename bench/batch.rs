@@ -1,10 +1,12 @@
 //! batch ROUNDS FILE..: times batches of 1, 10 and 100 events, by the proved nucleus and by plain Rust, and single calls of the nucleus,
-//! over the same events in one run.
+//! over the same events in one run; and both as C code calls them, if libboard.a is there.
 //! batch only NAME SIZE FILE: runs one of them once, for a profiler. NAME: one of WAYS.
 //!
 //! Before anything is timed, the decisions of all are held to those of the independent program, number by number. A time is the middle of
 //! RUNS, which are taken in turn, each the best of ROUNDS; a time is never a test.
 
+#[cfg(board)]
+mod board;
 mod places;
 #[allow(dead_code)]
 mod proved;
@@ -15,6 +17,7 @@ use places::best_of_both;
 use plain::batch::DECISION;
 use plain::lent::{batch_checked, Tables};
 use plain::Plain;
+use proved::WORDS;
 use std::hint::black_box;
 use std::ops::Range;
 use std::process::ExitCode;
@@ -22,9 +25,6 @@ use timing::{fields, timed, Run};
 
 const SIZES: [usize; 3] = [1, 10, 100];
 const RUNS: usize = 5;
-
-/// Words of the tables of 20 threads and 20 blocks.
-const WORDS: usize = 656;
 
 /// No decision has it.
 const STAYS: u32 = 0xA5A5_A5A5;
@@ -80,6 +80,11 @@ fn is_complete(field: &[u8]) -> bool {
 
 /// A way to run batches: the tables that it keeps, and one batch on them, which gives the refusal.
 trait Way {
+    /// So many numbers of each decision are told.
+    const TELLS: usize = DECISION;
+    /// Single calls have no room to count.
+    const COUNTS_ROOM: bool = true;
+
     fn start() -> Self;
     fn batch(&mut self, events: &[u8], out: &mut [u32]) -> u8;
 }
@@ -125,6 +130,9 @@ impl Way for Tables {
 struct Single([u32; WORDS]);
 
 impl Way for Single {
+    const TELLS: usize = 1;
+    const COUNTS_ROOM: bool = false;
+
     fn start() -> Single {
         Single(started())
     }
@@ -147,6 +155,43 @@ impl Way for Batch {
 
     fn batch(&mut self, events: &[u8], out: &mut [u32]) -> u8 {
         proved::batch(&mut self.0, events, out)
+    }
+}
+
+/// Single calls as C code makes them, on tables behind a reference. The whole report is written down.
+#[cfg(board)]
+struct NucleusStep(board::Tables);
+
+#[cfg(board)]
+impl Way for NucleusStep {
+    const COUNTS_ROOM: bool = false;
+
+    fn start() -> NucleusStep {
+        NucleusStep(board::start())
+    }
+
+    fn batch(&mut self, events: &[u8], out: &mut [u32]) -> u8 {
+        for (field, numbers) in fields(events).zip(out.chunks_exact_mut(DECISION)) {
+            let board::Report { refusal, status, runner, kind, sender, word } = board::step(&mut self.0, field);
+            numbers[..DECISION - 1].copy_from_slice(&[refusal, status, runner, kind, sender].map(u32::from));
+            numbers[DECISION - 1] = word;
+        }
+        0
+    }
+}
+
+/// And a batch.
+#[cfg(board)]
+struct NucleusBatch(board::Tables);
+
+#[cfg(board)]
+impl Way for NucleusBatch {
+    fn start() -> NucleusBatch {
+        NucleusBatch(board::start())
+    }
+
+    fn batch(&mut self, events: &[u8], out: &mut [u32]) -> u8 {
+        board::batch(&mut self.0, events, out)
     }
 }
 
@@ -199,26 +244,31 @@ fn edges<W: Way>(batches: &Batches) -> [Said; 2] {
 
 struct Meter {
     name: &'static str,
+    tells: usize,
+    counts_room: bool,
     accepted: Run<Batches>,
     decisions: fn(&Batches) -> Vec<u32>,
     edges: fn(&Batches) -> [Said; 2],
 }
 
 const fn meter<W: Way>(name: &'static str) -> Meter {
-    Meter { name, accepted: accepted::<W>, decisions: decisions::<W>, edges: edges::<W> }
+    let (tells, counts_room) = (W::TELLS, W::COUNTS_ROOM);
+    Meter { name, tells, counts_room, accepted: accepted::<W>, decisions: decisions::<W>, edges: edges::<W> }
 }
 
-const WAYS: [Meter; 5] = [
+const WAYS: [Meter; if cfg!(board) { 7 } else { 5 }] = [
     meter::<Plain>("plain"),
     meter::<Rows>("plain-rows"),
     meter::<Tables>("plain-checked"),
     meter::<Single>("single"),
     meter::<Batch>("batch"),
+    #[cfg(board)]
+    meter::<NucleusStep>("nucleus_step"),
+    #[cfg(board)]
+    meter::<NucleusBatch>("nucleus_batch"),
 ];
 
-/// The place of the single calls. They tell no more than refusals, and have no room to count.
-const SINGLE: usize = 3;
-/// The place of the proved batch. Each that stands before it is a measure of it.
+/// The place of the proved batch. Each that stands before it is a measure of it. Behind it stand the calls for C, the single one first.
 const BATCH: usize = 4;
 
 /// What the independent program decides.
@@ -239,17 +289,17 @@ fn hold(file: &str, batches: &Batches) -> u64 {
     let expected = independent(batches);
     let edges = expected_edges(batches, &expected);
     let count = expected.chunks_exact(DECISION).filter(|decision| decision[0] == 0).count() as u64;
-    for (place, meter) in WAYS.iter().enumerate() {
+    for meter in &WAYS {
         let name = meter.name;
         let found = (meter.decisions)(batches);
         assert_eq!(found.len(), expected.len(), "{file}: {name} decides another number of events");
-        let told = if place == SINGLE { 1 } else { DECISION };
+        let told = meter.tells;
         let pairs = found.chunks_exact(DECISION).zip(expected.chunks_exact(DECISION));
         for (number, (found, expected)) in pairs.enumerate() {
             assert_eq!(found[..told], expected[..told], "{file}: {name} decides otherwise at event {}", number + 1);
         }
         assert_eq!(timed(meter.accepted, batches).1, count, "{file}: {name} accepts another number of events");
-        if place != SINGLE {
+        if meter.counts_room {
             assert_eq!((meter.edges)(batches), edges, "{file}: {name} takes a short buffer or a cut field otherwise");
         }
     }
@@ -312,6 +362,10 @@ fn compare(rounds: usize, size: usize, files: &[Batches]) {
         print!(" {:>16}", format!("{least:.2} to {most:.2}"));
     }
     println!();
+    if let [single, batch] = (BATCH + 1..WAYS.len()).collect::<Vec<_>>()[..] {
+        let [least, middle, most] = ratio(batch, single);
+        println!("{} to {}: {middle:.2} ({least:.2} to {most:.2})", WAYS[batch].name, WAYS[single].name);
+    }
 }
 
 fn compare_all(rounds: usize, files: &[(String, Vec<u8>)]) {

@@ -1,4 +1,4 @@
-//! Links libgauge.a of the folder GAUGE_DIR, anew whenever it changed; and libboard.a for the stack, if it is there.
+//! Links libgauge.a of the folder GAUGE_DIR, anew whenever it changed; and libboard.a for the calls for C, if it is there.
 
 fn main() {
     let folder = std::env::var("GAUGE_DIR").expect("GAUGE_DIR: run bench/steps");

@@ -1,5 +1,8 @@
 //! The proved functions of crates/gauge. A slice is a pointer, then a length. Any bytes will do: they have no `requires`.
 
+/// Words of the tables of 20 threads and 20 blocks.
+pub const WORDS: usize = 656;
+
 #[link(name = "gauge", kind = "static")]
 extern "C" {
     fn gauge_step(bytes: *const u8, length: usize) -> u64;

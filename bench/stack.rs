@@ -3,11 +3,15 @@
 //!
 //! The stack below is painted before the call, and the lowest byte that has changed is sought after it.
 
+#[cfg(board)]
+#[allow(dead_code)]
+mod board;
 #[allow(dead_code)]
 mod proved;
 #[allow(dead_code)]
 mod timing;
 
+use proved::WORDS;
 use std::hint::black_box;
 use std::process::ExitCode;
 use timing::fields;
@@ -33,41 +37,18 @@ fn taken(call: &mut dyn FnMut() -> u8) -> usize {
     here - changed.unwrap_or(here - SPARED)
 }
 
-/// Words of the tables of 20 threads and 20 blocks.
-const WORDS: usize = 656;
-
-/// A decision as the board has it.
 #[cfg(board)]
-#[repr(C)]
-struct Report {
-    refusal: u8,
-    status: u8,
-    runner: u8,
-    kind: u8,
-    sender: u8,
-    word: u32,
-}
-
-#[cfg(board)]
-#[link(name = "board", kind = "static")]
-extern "C" {
-    fn nucleus_start(tables: *mut u32);
-    fn nucleus_step(tables: *mut u32, event: *const u8, length: usize) -> Report;
-}
-
-#[cfg(board)]
-fn board(files: &[Vec<u8>]) -> Option<usize> {
+fn on_a_board(files: &[Vec<u8>]) -> Option<usize> {
     let most = files.iter().map(|file| {
-        let mut tables = [0u32; WORDS];
-        unsafe { nucleus_start(tables.as_mut_ptr()) };
-        let one = |event: &[u8]| taken(&mut || unsafe { nucleus_step(tables.as_mut_ptr(), event.as_ptr(), event.len()) }.refusal);
+        let mut tables = board::start();
+        let one = |event: &[u8]| taken(&mut || board::step(&mut tables, event).refusal);
         fields(file).map(one).max().unwrap_or(0)
     });
     most.max()
 }
 
 #[cfg(not(board))]
-fn board(_: &[Vec<u8>]) -> Option<usize> {
+fn on_a_board(_: &[Vec<u8>]) -> Option<usize> {
     None
 }
 
@@ -90,7 +71,7 @@ fn measure(files: Vec<Vec<u8>>) {
     println!("nothing            {:>6} bytes or less: what cannot be told apart", taken(&mut || 0));
     println!("step on a slice    {:>6} bytes", on_slice(&files).unwrap_or(0));
     println!("step by value      {:>6} bytes, with the start before it", by_value(&files).unwrap_or(0));
-    match board(&files) {
+    match on_a_board(&files) {
         Some(bytes) => println!("nucleus_step       {bytes:>6} bytes"),
         None => println!("nucleus_step            - (no libboard.a)"),
     }
