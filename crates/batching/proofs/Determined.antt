@@ -27,47 +27,42 @@ use Rattle.batching.specs.declared.Batched.{Batched}
 
 -- ---- determinacy
 
--- m, bytes and before: what is lent. Two results that the promise allows
-module _ {m bytes before a b x y : List ℕ} {n k : ℕ} (p : Served m bytes before a x n) (o : Served m bytes before b y k) where
-  -- They agree: in the refusal and in every number; in the tables and their dump, where what is lent is valid; in every word, where no event is accepted.
-  pub served-determined :
-      (n ≡ k) × (x ≡ y)
-      × (valid m ≡ true → (tables a ≡ tables b) × (dump (tables a) ≡ dump (tables b)))
-      × (all-refused (decided m (taken (length before) bytes .events)) ≡ true → a ≡ b)
-  served-determined = (
-    determined (p .refusal) (o .refusal),
-    determined (p .numbers) (o .numbers),
-    (λ v. let t = determined (p .leaves v .1) (o .leaves v .1) in (t, ap dump t)),
-    (λ h. determined (p .keeps h) (o .keeps h)),
-  )
+-- What two results of a batch agree in that runs the events es on m: the refusals n and k, every number of the buffers x and y; of the memories a and b the
+-- tables and their dump, where m is valid, and every word, where no event is accepted.
+pub record Agree (m : List ℕ) (es : Input) (n k : ℕ) (x y a b : List ℕ) : Type 0 where
+  pub refusal : n ≡ k
+  pub numbers : x ≡ y
+  pub leaves : valid m ≡ true → (tables a ≡ tables b) × (dump (tables a) ≡ dump (tables b))
+  pub keeps : all-refused (decided m es) ≡ true → a ≡ b
 
-module _ {m before a b x y : List ℕ} {s r q : RefT (List ℕ)} {n k : ℕ} (p : Batches m s before r a x n) (o : Batches m s before q b y k) where
-  -- And in the unread end, in its bytes and in where it stands.
-  pub batch-determined :
-      ((n ≡ k) × (x ≡ y)
-      × (valid m ≡ true → (tables a ≡ tables b) × (dump (tables a) ≡ dump (tables b)))
-      × (all-refused (decided m (taken (length before) (now s) .events)) ≡ true → a ≡ b))
-      × (now r ≡ now q) × (ptr r ≡ ptr q)
-  batch-determined = (
-    served-determined (p .served) (o .served),
-    same,
-    p .stands ∙ (ap (λ (l : List ℕ). (ptr s .0, (length (now s) - length l) + ptr s .1)) same ∙ sym (o .stands)),
-  )
-    where
-      same : now r ≡ now q
-      same = determined (p .unread) (o .unread)
+served-agree : {m bytes before a b x y : List ℕ} {n k : ℕ} → Served m bytes before a x n → Served m bytes before b y k
+    → Agree m (taken (length before) bytes .events) n k x y a b
+served-agree p o = record {
+  refusal = determined (p .refusal) (o .refusal);
+  numbers = determined (p .numbers) (o .numbers);
+  leaves = λ v. let t = determined (p .leaves v .1) (o .leaves v .1) in (t, ap dump t);
+  keeps = λ h. determined (p .keeps h) (o .keeps h);
+}
 
-module _ {t : Lent} {bytes before x y : List ℕ} {b c : Batched} (p : BatchesValue t bytes before x b) (o : BatchesValue t bytes before y c) where
-  -- By value: and in how many bytes are read.
-  pub batch-value-determined :
-      ((b .refusal ≡ c .refusal) × (x ≡ y)
-      × (valid (t .words) ≡ true → (tables (b .tables .words) ≡ tables (c .tables .words)) × (dump (tables (b .tables .words)) ≡ dump (tables (c .tables .words))))
-      × (all-refused (decided (t .words) (taken (length before) bytes .events)) ≡ true → b .tables .words ≡ c .tables .words))
-      × (b .used ≡ c .used)
-  batch-value-determined = (
-    served-determined (p .served) (o .served),
-    omega (arith, p .within, o .within, length-drop (b .used) bytes, length-drop (c .used) bytes, ap length (determined (p .unread) (o .unread))),
-  )
+-- m, s and before: what is lent. Two results that the promise allows agree so, and in the unread end, in its bytes and in where it stands.
+pub batch-determined : {m before a b x y : List ℕ} {s r q : RefT (List ℕ)} {n k : ℕ} → Batches m s before r a x n → Batches m s before q b y k
+    → Agree m (taken (length before) (now s) .events) n k x y a b × (now r ≡ now q) × (ptr r ≡ ptr q)
+batch-determined {s = s} {r = r} {q = q} p o = (
+  served-agree (p .served) (o .served),
+  same,
+  p .stands ∙ (ap (λ (l : List ℕ). (ptr s .0, (length (now s) - length l) + ptr s .1)) same ∙ sym (o .stands)),
+)
+  where
+    same : now r ≡ now q
+    same = determined (p .unread) (o .unread)
+
+-- By value: and in how many bytes are read.
+pub batch-value-determined : {t : Lent} {bytes before x y : List ℕ} {b c : Batched} → BatchesValue t bytes before x b → BatchesValue t bytes before y c
+    → Agree (t .words) (taken (length before) bytes .events) (b .refusal) (c .refusal) x y (b .tables .words) (c .tables .words) × (b .used ≡ c .used)
+batch-value-determined {bytes = bytes} {b = b} {c = c} p o = (
+  served-agree (p .served) (o .served),
+  omega (arith, p .within, o .within, length-drop (b .used) bytes, length-drop (c .used) bytes, ap length (determined (p .unread) (o .unread))),
+)
 
 -- ---- decisions on a lent memory
 
