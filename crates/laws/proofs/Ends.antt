@@ -66,7 +66,7 @@ module _ (set : List ℕ) where
   entry-left ts own Gone e = tt
 
   -- the entry that a trapped thread waits for is set as before
-  entry-stays : (x : Manager) → ((m : ℕ) → by-manager false (λ y. m == y) x ≡ true → has m set ≡ false) → gone-if set x ≡ x
+  pub entry-stays : (x : Manager) → ((m : ℕ) → by-manager false (λ y. m == y) x ≡ true → has m set ≡ false) → gone-if set x ≡ x
   unfolding gone-if
   entry-stays Unset h = refl
   entry-stays (Set y) h = rw (h y (eq-eqb y y refl))

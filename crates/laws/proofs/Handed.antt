@@ -582,17 +582,17 @@ module _ (L : Limits) (es : Input) where
         how = later .how;
       }
 
-  asked-in : (xs gs : Input) (n w : ℕ) → live n (run L start es) ≡ false → xs ≡ es ++ gs → Asked L xs n w → AskedIn L (run L start es) gs n w
-  asked-in xs gs n w dead i (at-once ds c a l) =
+  pub asked-since : (xs gs : Input) (n w : ℕ) → live n (run L start es) ≡ false → xs ≡ es ++ gs → Asked L xs n w → AskedIn L (run L start es) gs n w
+  asked-since xs gs n w dead i (at-once ds c a l) =
       let k = last-since L es n dead ds c gs i l in
       record { earlier = k .0; event = c; later = []; among = k .2; how = inl (subst (λ (T : Tables). Answers L T c n w) (ap (run L start) (k .1) ∙ run-append L start es (k .0)) a) }
-  asked-in xs gs n w dead i (woken k) = woken-since xs gs n w dead i k
+  asked-since xs gs n w dead i (woken k) = woken-since xs gs n w dead i k
 
 -- If at some time no thread n lived, then every result that a later thread n is handed came after that time: by its own request, or by
 -- the event that woke it.
 pub no-late-result : (L : Limits) → 1 ≤ L .threads → L .threads < names → (es fs : Input) (e : List ℕ) (n w : ℕ) → live n (run L start es) ≡ false →
     step L (run L start (es ++ fs)) e .decision .runner ≡ n → step L (run L start (es ++ fs)) e .decision .answer ≡ Result w → AskedIn L (run L start es) (fs ++ (e ∷ [])) n w
-no-late-result L p q es fs e n w d r i = asked-in L es ((es ++ fs) ++ (e ∷ [])) (fs ++ (e ∷ [])) n w d (append-assoc es fs (e ∷ [])) (result-was-asked L p q (es ++ fs) e n w r i)
+no-late-result L p q es fs e n w d r i = asked-since L es ((es ++ fs) ++ (e ∷ [])) (fs ++ (e ∷ [])) n w d (append-assoc es fs (e ∷ [])) (result-was-asked L p q (es ++ fs) e n w r i)
 
 -- Whatever answer an event hands over, it has its cause.
 pub whatever-is-handed : (L : Limits) → 1 ≤ L .threads → L .threads < names → (es : Input) (e : List ℕ) →

@@ -96,7 +96,7 @@ module _ {A : Type 0} where
   unfolding keep
   keep-no p x xs h = rw h
 
-  keep-append : (p : A → Bool) (xs ys : List A) → keep p (xs ++ ys) ≡ keep p xs ++ keep p ys
+  pub keep-append : (p : A → Bool) (xs ys : List A) → keep p (xs ++ ys) ≡ keep p xs ++ keep p ys
   unfolding keep
   keep-append p [] ys = refl
   keep-append p (x ∷ xs) ys = go (p x) (keep-append p xs ys)
@@ -116,7 +116,7 @@ module _ {A : Type 0} where
       go false true i j e = rw i e
       go false false i j e = e
 
-  keep-none-of : (p : A → Bool) (xs : List A) → ((x : A) → List·Memᴰ x xs → p x ≡ false) → keep p xs ≡ []
+  pub keep-none-of : (p : A → Bool) (xs : List A) → ((x : A) → List·Memᴰ x xs → p x ≡ false) → keep p xs ≡ []
   unfolding keep
   keep-none-of p [] h = refl
   keep-none-of p (x ∷ xs) h = rw (h x (List·Memᴰ·head refl)) (keep-none-of p xs (λ y m. h y (List·Memᴰ·tail m)))
@@ -160,7 +160,7 @@ module _ {A : Type 0} where
           record { before = []; after = xs; was = ap (λ (v : A). v ∷ xs) k; left = sym l; none = unfold any in refl; passes = ap p (sym k) ∙ h }
       go false h j rest = later rest (pull p xs) refl h j
 
-  keep-insert : (p q : A → Bool) (a : A) (xs : List A) → p a ≡ false → keep p (insert q a xs) ≡ keep p xs
+  pub keep-insert : (p q : A → Bool) (a : A) (xs : List A) → p a ≡ false → keep p (insert q a xs) ≡ keep p xs
   unfolding keep insert
   keep-insert p q a [] h = rw h
   keep-insert p q a (x ∷ xs) h = by-if (λ (l : List A). keep p l ≡ keep p (x ∷ xs)) (q x) (λ _. go (p x) (keep-insert p q a xs h)) (λ _. rw h)

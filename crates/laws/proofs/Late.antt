@@ -81,7 +81,7 @@ pub data Told (L : Limits) : Input → ℕ → ℕ → Type 0 where
       Told L (es ++ (e ∷ [])) n m
 
 -- who is sent something is live
-receiver-live : {L : Limits} (T : Tables) → Ruled L T → (bytes : List ℕ) {n : ℕ} {a : Answer} → Sends L T bytes n a → live n T ≡ true
+pub receiver-live : {L : Limits} (T : Tables) → Ruled L T → (bytes : List ℕ) {n : ℕ} {a : Answer} → Sends L T bytes n a → live n T ≡ true
 unfolding Entry
 receiver-live {L} T R bytes (a-message {n = n} {w = w} r i d u) = accepted-send L T n w (ap (refusal L T) (sym d) ∙ sym (decision-gives-it L T bytes) ∙ r)
 receiver-live {L} T R bytes (a-notice {s = s} {n = n} {k = k} r i d g) =

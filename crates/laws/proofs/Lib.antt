@@ -47,9 +47,17 @@ pub mod Naming
 pub mod Single
 pub mod Room
 pub mod Requests
+pub mod Comings
 pub mod Lives
 pub mod Flaws
 pub mod Entries
 pub mod Said
 pub mod Both
 pub mod Batch
+pub mod Givings
+pub mod Rest
+pub mod Living
+pub mod Incident
+pub mod Trace
+pub mod Reached
+pub mod Examples

@@ -40,6 +40,16 @@ module _ {A : Type 0} where
       go false (List·Memᴰ·head e) later = inl e
       go false (List·Memᴰ·tail n) later = inr n
 
+  pub insert-new : (p : A → Bool) (a : A) (l : List A) → List·Memᴰ a (insert p a l)
+  unfolding insert
+  insert-new p a [] = List·Memᴰ·head refl
+  insert-new p a (y ∷ l) = by-if (λ (r : List A). List·Memᴰ a r) (p y) (λ _. List·Memᴰ·tail (insert-new p a l)) (λ _. List·Memᴰ·head refl)
+
+  pub insert-old : (p : A → Bool) (a : A) (l : List A) {x : A} → List·Memᴰ x l → List·Memᴰ x (insert p a l)
+  unfolding insert
+  insert-old p a (y ∷ l) {x} (List·Memᴰ·head e) = by-if (λ (r : List A). List·Memᴰ x r) (p y) (λ _. List·Memᴰ·head e) (λ _. List·Memᴰ·tail (List·Memᴰ·head e))
+  insert-old p a (y ∷ l) {x} (List·Memᴰ·tail m) = by-if (λ (r : List A). List·Memᴰ x r) (p y) (λ _. List·Memᴰ·tail (insert-old p a l m)) (λ _. List·Memᴰ·tail (List·Memᴰ·tail m))
+
   pub mem-map : {B : Type 0} (f : A → B) (xs : List A) {y : B} → List·Memᴰ y (map f xs) → (x : A) × List·Memᴰ x xs × (y ≡ f x)
   mem-map f [] m = elim m [ ]
   mem-map f (x ∷ xs) (List·Memᴰ·head e) = (x, List·Memᴰ·head refl, e)

@@ -7,7 +7,7 @@ use mathlib.Core.Bool.{Bool, true, false, _||_, not, false≢true}
 use mathlib.Core.List.{List, [], _∷_, map, List·Memᴰ, List·Memᴰ·head, List·Memᴰ·tail}
 use native.Mathlib.Omega.{arith}
 use borrow.Author.Tests.{eqb-true, eq-eqb, ne-eqb}
-use Rattle.rules.specs.Lists.{if_then_else_, _==_, any, has, keep, count, times-in, insert, missing, pulled, behind, pull}
+use Rattle.rules.specs.Lists.{if_then_else_, _==_, any, has, keep, count, times-in, missing, pulled, behind, pull}
 use Rattle.rules.specs.Numbers.{Limits, names}
 use Rattle.rules.specs.Tables.{Tables, with-threads, with-held, with-managers, in-state, named, live, of-thread, change, manager, set-entry, new-thread, me}
 use Rattle.rules.specs.Waking.{Outcome, _handing_, stop}
@@ -20,9 +20,9 @@ use Rattle.rules.specs.Refusals.{refusal}
 use Rattle.rules.specs.Step.{Stepped, serve, act, decided, settle, step}
 use Rattle.rules.specs.TableRules.{table-rules}
 use Rattle.laws.proofs.Words.{TrapKind, Program, Tlb, SysBp, Running, Ready, Device, Answer, Nothing, Result, Manager, Unset, Set, Gone, Managers, Parent, NoParent, ParentIs, Thread, Held, Call, CreateBrother, CreateSon, SetManager, GetCpuTime, WaitForIo, ByRunner}
-use Rattle.laws.proofs.Tests.{by-if, clash, same?, or-false, not-true}
+use Rattle.laws.proofs.Tests.{clash, same?, or-false, not-true}
 use Rattle.laws.proofs.Counting.{none-passes, count-cons, count-any, none-any}
-use Rattle.laws.proofs.Members.{mem-keep, mem-insert, map-mem}
+use Rattle.laws.proofs.Members.{mem-keep, insert-new, insert-old, mem-insert, map-mem}
 use Rattle.laws.proofs.Types.{Places}
 use Rattle.laws.proofs.Queues.{times-self}
 use Rattle.laws.proofs.Threads.{live-member, of-only, turned, turned-name, turned-live}
@@ -54,7 +54,7 @@ module _ {L : Limits} {T : Tables} {bytes : List ℕ} {c : Call} (A : Accepted L
   call = called L T c (ap (refusal L T) (sym (A .asked)) ∙ A .accepted)
 
   -- where the requester goes on
-  goes-on : (o : Outcome) → serve (requester T) T c ≡ o → o .tables .runner ≡ T .runner → step L T bytes ≡ decided 0 o
+  pub goes-on : (o : Outcome) → serve (requester T) T c ≡ o → o .tables .runner ≡ T .runner → step L T bytes ≡ decided 0 o
   goes-on o e r = served ∙ ap (λ x. decided 0 (dispatch x)) e ∙ ap (decided 0) (dispatch-stays o (call .name) (call .slice) (r ∙ call .runner))
 
 -- ---- "7 GETCPUTIME (own tick count)"
@@ -70,7 +70,7 @@ cpu-time-is-the-count L T bytes A =
 -- ---- "9 WAITFORIO (a held status is taken at once and cleared)"
 
 module _ {A : Type 0} where
-  kept-all : (p : A → Bool) (l : List A) → count p l ≡ 0 → keep (λ y. not (p y)) l ≡ l
+  pub kept-all : (p : A → Bool) (l : List A) → count p l ≡ 0 → keep (λ y. not (p y)) l ≡ l
   unfolding keep
   kept-all p [] z = refl
   kept-all p (y ∷ l) z = rw (none-passes p (y ∷ l) y z (List·Memᴰ·head refl)) (ap (λ r. y ∷ r) (kept-all p l (omega (arith, count-cons p y l))))
@@ -91,16 +91,6 @@ module _ {A : Type 0} where
   unfolding pull behind any
   pull-none p [] h = refl
   pull-none p (y ∷ l) h = let r = or-false (p y) (any p l) h in rw (r .0) (ap (behind y) (pull-none p l (r .1)))
-
-  insert-new : (p : A → Bool) (a : A) (l : List A) → List·Memᴰ a (insert p a l)
-  unfolding insert
-  insert-new p a [] = List·Memᴰ·head refl
-  insert-new p a (y ∷ l) = by-if (λ (r : List A). List·Memᴰ a r) (p y) (λ _. List·Memᴰ·tail (insert-new p a l)) (λ _. List·Memᴰ·head refl)
-
-  insert-old : (p : A → Bool) (a : A) (l : List A) {x : A} → List·Memᴰ x l → List·Memᴰ x (insert p a l)
-  unfolding insert
-  insert-old p a (y ∷ l) {x} (List·Memᴰ·head e) = by-if (λ (r : List A). List·Memᴰ x r) (p y) (λ _. List·Memᴰ·head e) (λ _. List·Memᴰ·tail (List·Memᴰ·head e))
-  insert-old p a (y ∷ l) {x} (List·Memᴰ·tail m) = by-if (λ (r : List A). List·Memᴰ x r) (p y) (λ _. List·Memᴰ·tail (insert-old p a l m)) (λ _. List·Memᴰ·tail (List·Memᴰ·tail m))
 
 -- A word that is held for the device is handed over at once. Afterwards the words of the other devices are held and none for this one,
 -- and everything else is as it was.
@@ -293,7 +283,7 @@ pub record Made (p : Parent) (T U : Tables) (a : Answer) : Type 0 where
   pub others : (t : Thread) → List·Memᴰ t (T .threads) → List·Memᴰ t (U .threads)
   pub only : (t : Thread) → List·Memᴰ t (U .threads) → (t ≡ thread) ⊎ List·Memᴰ t (T .threads)
 
-made : (L : Limits) (T : Tables) (p : Parent) → L .threads < names → table-rules L T ≡ true → Made p T (create p T .tables) (create p T .answer)
+pub made : (L : Limits) (T : Tables) (p : Parent) → L .threads < names → table-rules L T ≡ true → Made p T (create p T .tables) (create p T .answer)
 unfolding create
 made L T p l R =
     let I = tested-ruled L T R .inv in
