@@ -1,5 +1,6 @@
--- Nothing names an ended thread: whatever name stands in the tables, a thread has it. The answers already due are the exception: "An answer
--- already due to a thread stays, even if its sender has ended." And a newcomer is named by nothing yet.
+-- Nothing names an ended thread: whoever a message, a wait, a parent, a manager entry or the runner names is live. The answers already due are the
+-- exception: "An answer already due to a thread stays, even if its sender has ended." The name given last is no such place: it only says where names
+-- go on. And a newcomer is not named yet.
 -- Assumes nothing.
 use Prim.Native.Nat.{ℕ, _≤_, _<_}
 use mathlib.Core.Path.{_≡_, refl, sym, ap, _∙_, subst}
@@ -33,7 +34,7 @@ use Rattle.laws.proofs.Givings.{given-by, Begun, by-a-start, by-a-dump,
 
 -- ---- what is said
 
--- Every name that stands in the tables is a live thread's. Of the answers that are due nothing is said.
+-- Every name in these places is a live thread's: messages, waits, parents, managers and the runner. The answers that are due are not among them.
 pub record NamesTheLiving (T : Tables) : Type 0 where
   -- messages and notices
   pub senders : (m : Message) → List·Memᴰ m (T .messages) → live (m .from) T ≡ true
@@ -49,7 +50,7 @@ pub record NamesTheLiving (T : Tables) : Type 0 where
   pub managers : (t : Thread) → List·Memᴰ t (T .threads) → (k : TrapKind) (n : ℕ) → manager k (t .managers) ≡ Set n → live n T ≡ true
   pub runner : (n s : ℕ) → T .runner ≡ Runs n s → live n T ≡ true
 
--- Thread n has its own row and its place in the ready queue, and nothing else of the tables names it; nor is an answer due to it.
+-- Thread n has its own row and its place in the ready queue. No message, wait, parent, manager or runner names it, and no answer is due to it.
 pub record NotYetNamed (n : ℕ) (T : Tables) : Type 0 where
   pub senders : (m : Message) → List·Memᴰ m (T .messages) → m .from ≢ n
   pub receivers : (m : Message) → List·Memᴰ m (T .messages) → m .to ≢ n
@@ -167,8 +168,8 @@ created-not-yet-named L T l R p F =
 
 -- ---- the laws
 
--- From a start, or from a dump that is read, after any events: whatever name stands in the tables is a live thread's. So nothing names a
--- thread that has ended. Of the answers due it is not so: Examples.antt shows three.
+-- From a start, or from a dump that is read, after any events: no message, wait, parent, manager or runner names a thread that has ended. Of the
+-- answers due it is not so: Examples.antt shows three.
 pub nothing-names-the-ended : (L : Limits) → 1 ≤ L .threads → L .threads < names → {T : Tables} {given : List ℕ} → Begun L T given → (es : Input) → NamesTheLiving (run L T es)
 nothing-names-the-ended L o l B es = ruled-names-the-living L _ (run-ruled _ es l (begun B))
   where
@@ -176,7 +177,7 @@ nothing-names-the-ended L o l B es = ruled-names-the-living L _ (run-ruled _ es 
     begun by-a-start = start-ruled L o
     begun (by-a-dump bytes T e) = tested-ruled L T (load-is-dump L bytes T e .0)
 
--- An event that gives a name brings a thread that nothing names yet, and no answer is due to it.
+-- An event that gives a name brings a thread that is not named yet, and to which no answer is due.
 pub newcomer-is-not-yet-named : (L : Limits) (T : Tables) (bytes : List ℕ) (n : ℕ) → L .threads < names → table-rules L T ≡ true → given-by L T bytes ≡ n ∷ [] → NotYetNamed n (step L T bytes .tables)
 newcomer-is-not-yet-named L T bytes n l R e =
     let g = gives-it L T bytes n e in
