@@ -24,7 +24,7 @@ use Rattle.rules.specs.Dispatch.{dispatch}
 use Rattle.rules.specs.Step.{serve, act}
 use Rattle.laws.proofs.Words.{Wanted, TrapKind, State, Running, Ready, Receiving, Clock, Device, Trapped, Answer, Nothing, Manager, Unset, Set, Gone, Parent, Thread, Message, Held, Oneself, Named, Call, Send, Receive, CreateBrother, CreateSon, Terminate, SetManager, GetCpuTime, WaitForClock, WaitForIo, Trap, Event, Malformed, ByRunner, Tick, Interrupt}
 use Rattle.laws.proofs.Tests.{by-if, by-runs}
-use Rattle.laws.proofs.Members.{insert-new, mem-insert}
+use Rattle.laws.proofs.Members.{insert-new, insert-old, mem-insert}
 use Rattle.laws.proofs.Threads.{member-live, live-member, turned-live}
 use Rattle.laws.proofs.Steps.{by-dispatch}
 use Rattle.laws.proofs.Ending.{origins}
@@ -185,6 +185,13 @@ unfolding create
 creation-brings p T n l =
     let r = live-member (create p T .tables .threads) n l in
     ⊎-elim (λ i. inl (r .2 ∙ ap (λ (x : Thread). x .name) i)) (λ i. inr (ap (λ (x : ℕ). live x T) (r .2) ∙ member-live (T .threads) (r .0) i)) (mem-insert _ _ (T .threads) (r .1))
+
+-- and whoever was there stays
+pub creation-keeps : (p : Parent) (T : Tables) (n : ℕ) → live n T ≡ true → live n (create p T .tables) ≡ true
+unfolding create
+creation-keeps p T n l =
+    let r = live-member (T .threads) n l in
+    ap (λ (x : ℕ). live x (create p T .tables)) (r .2) ∙ member-live (create p T .tables .threads) (r .0) (insert-old _ _ (T .threads) (r .1))
 
 pub created-last : (p : Parent) (T : Tables) → create p T .tables .last ≡ next-name T
 unfolding create

@@ -106,6 +106,15 @@ unfolding from-on
 from-on-mem a zero d l h = absurd (omega arith)
 from-on-mem a (suc n) d l h = ⊎-elim (λ e. List·Memᴰ·head (sym (e .0))) (λ e. List·Memᴰ·tail (from-on-mem (suc a) n d (omega (arith, e .0)) (omega arith))) (same? a d)
 
+-- some numbers in a row, and those behind them
+pub from-on-parts : (a k l : ℕ) → from-on a (k + l) ≡ from-on a k ++ from-on (a + k) l
+unfolding from-on
+from-on-parts a zero l = let q : a + 0 ≡ a = omega arith in let r : 0 + l ≡ l = omega arith in rw (q, r)
+from-on-parts a (suc k) l =
+    let q : a + suc k ≡ suc a + k = omega arith in
+    let r : suc k + l ≡ suc (k + l) = omega arith in
+    rw (q, r) (ap (λ xs. a ∷ xs) (from-on-parts (suc a) k l))
+
 -- ---- the same numbers
 
 pub same-refl : (xs : List ℕ) → same xs xs ≡ true

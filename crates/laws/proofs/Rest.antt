@@ -19,7 +19,8 @@ use Rattle.rules.specs.Step.{step}
 use Rattle.rules.specs.Runs.{Input, run}
 use Rattle.rules.specs.TableRules.{table-rules}
 use Rattle.laws.proofs.Words.{Thread}
-use Rattle.laws.proofs.Counting.{count-zero, count-le-add}
+use Rattle.laws.proofs.Counting.{count-append, count-zero, count-le-add}
+use Rattle.laws.proofs.Members.{from-on-parts}
 use Rattle.laws.proofs.Types.{Ruled}
 use Rattle.laws.proofs.Names.{name-low, name-is-first-free}
 use Rattle.laws.proofs.Sound.{tested-ruled}
@@ -51,7 +52,7 @@ big = record { threads = 64; blocks = 128 }
 
 -- ---- numbers from a on that pass a test
 
-all-pass : (p : ℕ → Bool) (a k : ℕ) → ((i : ℕ) → a ≤ i → i < a + k → p i ≡ true) → count p (from-on a k) ≡ k
+pub all-pass : (p : ℕ → Bool) (a k : ℕ) → ((i : ℕ) → a ≤ i → i < a + k → p i ≡ true) → count p (from-on a k) ≡ k
 unfolding from-on count
 all-pass p a zero h = refl
 all-pass p a (suc k) h = omega (arith, ap one-if (h a (omega arith) (omega arith)), all-pass p (suc a) k (λ i l m. h i (omega arith) (omega arith)))
@@ -74,14 +75,8 @@ one-passes p a (suc k) h = go (p a) refl (one-passes p (suc a) k (λ i j l m n. 
     go true e later = omega (arith, only e (suc a) k (omega arith) (omega arith))
     go false e later = omega arith
 
--- some numbers and those behind them
 in-parts : (p : ℕ → Bool) (a k l : ℕ) → count p (from-on a (k + l)) ≡ count p (from-on a k) + count p (from-on (a + k) l)
-unfolding from-on count
-in-parts p a zero l = let q : a + 0 ≡ a = omega arith in let r : 0 + l ≡ l = omega arith in rw (q, r) (omega arith)
-in-parts p a (suc k) l =
-    let q : a + suc k ≡ suc a + k = omega arith in
-    let r : suc k + l ≡ suc (k + l) = omega arith in
-    rw (q, r) (omega (arith, in-parts p (suc a) k l))
+in-parts p a k l = ap (count p) (from-on-parts a k l) ∙ count-append p (from-on a k) (from-on (a + k) l)
 
 -- ---- the names behind n
 

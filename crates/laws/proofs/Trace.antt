@@ -180,7 +180,7 @@ heard L T m s e c = rw e
 says-end : (T : Tables) → decode (ask 3 (next-name T)) ≡ ByRunner (Terminate (Named (next-name T)))
 says-end T = naming-requests-say (next-name T) (omega (arith, name-low T)) .0 (λ e. omega (arith, name-low T))
 
-module _ (L : Limits) (T : Tables) (l : L .threads < names) (h : table-rules L T ≡ true) (m s : ℕ) (e : T .runner ≡ Runs m s) (room : length (T .threads) < L .threads) where
+module _ (L : Limits) (T : Tables) (m s : ℕ) (e : T .runner ≡ Runs m s) (room : length (T .threads) < L .threads) where
   first : step L T (ask 2 0) ≡ decided 0 (create (ParentIs m) T)
   unfolding serve me
   first = goes-on asked (create (ParentIs m) T) (ap (λ r. create (ParentIs (me r)) T) e) (unfold create in refl)
@@ -191,9 +191,14 @@ module _ (L : Limits) (T : Tables) (l : L .threads < names) (h : table-rules L T
       asked : Accepted L T (ask 2 0) CreateSon
       asked = record { asked = requests-say .1; accepted = ap (refusal L T) (requests-say .1) ∙ heard L T m s e CreateSon ∙ free }
 
-  second : step L (with-son m T) (ask 3 (next-name T)) ≡ decided 0 (with-last (next-name T) T handing Nothing)
+  -- A son is made where there is room for it, and its name is given.
+  pub son-is-made : (step L T (ask 2 0) .tables ≡ create (ParentIs m) T .tables) × (given-by L T (ask 2 0) ≡ next-name T ∷ [])
+  unfolding given-by result creates create
+  son-is-made = (ap (λ x. x .tables) first, rw (first, requests-say .1))
+
+  second : L .threads < names → table-rules L T ≡ true → step L (with-son m T) (ask 3 (next-name T)) ≡ decided 0 (with-last (next-name T) T handing Nothing)
   unfolding serve terminate
-  second = goes-on asked (with-last n T handing Nothing) (ap (λ U. U handing Nothing) (no-trace l (tested-ruled L T h) m)) (unfold create in refl)
+  second l h = goes-on asked (with-last n T handing Nothing) (ap (λ U. U handing Nothing) (no-trace l (tested-ruled L T h) m)) (unfold create in refl)
     where
       n : ℕ
       n = next-name T
@@ -211,11 +216,11 @@ pub made-and-ended-leaves-no-trace : (L : Limits) (T : Tables) → L .threads < 
     run L T (ask 2 0 ∷ ask 3 (next-name T) ∷ []) ≡ with-last (next-name T) T
 unfolding run
 made-and-ended-leaves-no-trace L T l h m s e room =
-    ap (λ x. step L (x .tables) (ask 3 (next-name T)) .tables) (first L T l h m s e room)
-    ∙ ap (λ x. x .tables) (second L T l h m s e room)
+    ap (λ x. step L (x .tables) (ask 3 (next-name T)) .tables) (first L T m s e room)
+    ∙ ap (λ x. x .tables) (second L T m s e room l h)
 
 -- Its name is the only one that is given.
 pub made-and-ended-gives-its-name : (L : Limits) (T : Tables) → L .threads < names → table-rules L T ≡ true → (m s : ℕ) → T .runner ≡ Runs m s → length (T .threads) < L .threads →
     givings L T (ask 2 0 ∷ ask 3 (next-name T) ∷ []) ≡ next-name T ∷ []
 unfolding givings given-by result creates create
-made-and-ended-gives-its-name L T l h m s e room = rw (first L T l h m s e room, requests-say .1, second L T l h m s e room, says-end T)
+made-and-ended-gives-its-name L T l h m s e room = rw (first L T m s e room, requests-say .1, second L T m s e room l h, says-end T)
