@@ -50,7 +50,7 @@ pub record GivenAgain (L : Limits) (es : Input) (event : List ℕ) (n : ℕ) : T
   pub again : given-by L (run L start es) event ≡ n ∷ []
 
 -- What then holds, with k others at least: the thread that had the name has ended; so many threads of other names have been created since it
--- was given; and whatever a later event hands to thread n comes from one of the events behind the giving, that one included.
+-- was given; and whatever a later event e hands to thread n comes from one of the events behind the giving, up to e.
 pub record ANewLife (L : Limits) (k : ℕ) (es : Input) (event : List ℕ) (n : ℕ) (between : List ℕ) : Type 0 where
   pub ended-before : live n (run L start es) ≡ false
   pub rested : k ≤ others n between
