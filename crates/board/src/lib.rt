@@ -11,6 +11,7 @@ use lending::dump;
 use lending::load;
 use lending::start;
 use rules::Picked;
+use rules::Verdict;
 use rules::pick;
 ghost use mathlib.Core.Path.{_≡_};
 ghost use lib.ListN.{length};
@@ -97,12 +98,12 @@ pub extern "C" fn nucleus_dump(t: &Tables, out: &mut [u8]) -> Dumped
 
 // Nothing looks at the tables that came: `load_value` is handed them so that a refused reading stores them back as they were.
 #[no_mangle]
-pub extern "C" fn nucleus_load(t: &mut Tables, bytes: &[u8]) -> u8
-    ensures { λ n. ⌜ Loads (now (t .entry) .words) (now (bytes .entry)) (now (t .exit) .words) n ⌝ }
+pub extern "C" fn nucleus_load(t: &mut Tables, bytes: &[u8]) -> Verdict
+    ensures { λ v. ⌜ Loads (now (t .entry) .words) (now (bytes .entry)) (now (t .exit) .words) v ⌝ }
 {
     let l = load::load_value(*t, bytes);
     *t = l.tables;
-    l.refusal
+    l.verdict
 }
 
 #[no_mangle]

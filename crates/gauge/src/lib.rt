@@ -6,6 +6,7 @@ use dumping::writing;
 use lending::WORDS;
 use lending::start;
 use loading::load;
+use rules::Verdict;
 use stepping::step;
 ghost use mathlib.Core.Path.{_≡_};
 ghost use mathlib.Core.Bool.{true};
@@ -160,8 +161,8 @@ fn reads(m: &mut [u32], bytes: &[u8]) -> u64
     let mut good: u64 = 0;
     let mut i: u32 = 0;
     while i < 1000 {
-        let refusal = load::load_in(m, bytes);
-        if refusal == 0 {
+        let v = load::load_in(m, bytes);
+        if v.refusal == 0 {
             good += 1;
         }
         i += 1;
@@ -176,6 +177,25 @@ pub extern "C" fn gauge_load(bytes: &[u8]) -> u64 {
     reads(&mut m, bytes)
 }
 
+// What reading these bytes answers, the last of so many times, and once at least.
+fn answers(m: &mut [u32], bytes: &[u8], times: u64) -> Verdict
+    requires { ⌜ size small ≤ length (now m) ⌝ }
+{
+    let mut v = load::load_in(m, bytes);
+    let mut i: u64 = 1;
+    while i < times {
+        v = load::load_in(m, bytes);
+        i += 1;
+    }
+    v
+}
+
+#[no_mangle]
+pub extern "C" fn gauge_verdict(bytes: &[u8], times: u64) -> Verdict {
+    let mut m = [0; WORDS];
+    answers(&mut m, bytes, times)
+}
+
 // Reads the bytes, and writes what was read into the buffer: the length, or 0 where they are no dump or the buffer is too short.
 #[no_mangle]
 pub extern "C" fn gauge_again(bytes: &[u8], out: &mut [u8]) -> usize {
@@ -183,8 +203,8 @@ pub extern "C" fn gauge_again(bytes: &[u8], out: &mut [u8]) -> usize {
         return 0;
     }
     let mut m = [0; WORDS];
-    let refusal = load::load_in(&mut m, bytes);
-    if refusal != 0 {
+    let v = load::load_in(&mut m, bytes);
+    if v.refusal != 0 {
         return 0;
     }
     writing::write_dump(&m, out)

@@ -1,4 +1,4 @@
-// Reads a dump on standard input. First line: 0, or the refusal. Then a line for each field: the tag, and its values in decimal.
+// Reads a dump on standard input. First line: refusal and offset. Then, if it is one, a line for each field: the tag, and its values in decimal.
 use lines::decimal;
 use lines::tables;
 use loading::load;
@@ -8,8 +8,17 @@ ghost use mathlib.Core.Path.{_≡_};
 ghost use Prim.Native.Nat.{_≤_};
 ghost use lib.ListN.{length};
 
-// The buffer is longer than any dump, so that bytes that fill it are none. Each round but the last reads a byte or more.
-const ROUNDS: u64 = 4097;
+// Room for the input. All of it must be there to be judged, so that bytes that fill the buffer are not.
+const ROOM: usize = 1048576;
+
+// Each round but the last reads a byte or more.
+const ROUNDS: u64 = 1048577;
+
+fn buffer() -> [u8; 1048576]
+    ensures { λ r. ⌜ 1048576 ≡ length r ⌝ }
+{
+    [0; ROOM]
+}
 
 fn say(text: &[u8]) {
     io::write_all(libc::STDERR_FILENO, text);
@@ -26,19 +35,19 @@ fn print(out: &[u8], n: usize) -> bool
     false
 }
 
-// A line of one number.
-fn print_number(n: u64, out: &mut [u8]) -> bool
+// A line of two numbers.
+fn print_verdict(refusal: u64, offset: u64, out: &mut [u8]) -> bool
     requires { ⌜ 65536 ≤ length (now out) ⌝ }
     ensures { λ _. ⌜ length (now (out .exit)) ≡ length (now (out .entry)) ⌝ }
 {
-    let row = [n];
+    let row = [refusal, offset];
     let k = decimal::put_numbers(out, &row);
     print(out, k)
 }
 
 fn main() {
     let mut m = stream::room();
-    let mut input = io::buffer();
+    let mut input = buffer();
     let mut out = io::large_buffer();
     let mut w = Span {
         at: 0,
@@ -56,11 +65,15 @@ fn main() {
         }
     }
     let held = w.held;
-    let refusal = load::load_in(&mut m, &input[..held]);
-    if !print_number(refusal as u64, &mut out) {
+    if held == ROOM {
+        say(b"inspect: too long\n");
         return;
     }
-    if refusal == 0 {
+    let v = load::load_in(&mut m, &input[..held]);
+    if !print_verdict(v.refusal as u64, v.offset as u64, &mut out) {
+        return;
+    }
+    if v.refusal == 0 {
         let n = tables::put_tables(&mut out, &m);
         print(&out, n);
     }

@@ -8,8 +8,7 @@ use mathlib.Core.List.{List, [], _∷_, _++_, map, append-nil, List·Memᴰ}
 use native.Mathlib.Omega.{arith}
 use lib.Dec.{ltb}
 use lib.ListN.{length, length-append}
-use lib.Seq.{take-at, drop-at}
-use borrow.Author.Tests.{ne-eqb, ltb-true, lt-ltb}
+use borrow.Author.Tests.{ne-eqb, eq-eqb, le-leb, ltb-true, lt-ltb}
 use Rattle.rules.specs.Lists.{if_then_else_, _==_, all, any, keep, each, times-in, same, is-byte, number, two-bytes, four-bytes}
 use Rattle.rules.specs.Numbers.{Limits, names, service, nobody, devices, wrap}
 use Rattle.rules.specs.Words.{by-state, by-wanted, by-manager, by-parent, by-runner}
@@ -17,14 +16,16 @@ use Rattle.laws.proofs.Words.{Wanted, Anybody, Only, TrapKind, Program,
 use Rattle.rules.specs.Tables.{Tables, named, manager, me}
 use Rattle.rules.specs.States.{is-ready, on-clock}
 use Rattle.rules.specs.Dispatch.{status}
+use Rattle.rules.specs.Fields.{field-size, whole, complete, unread}
 use Rattle.rules.specs.Events.{wanted}
 use Rattle.rules.specs.Codes.{status-code, slice-code, answer-numbers, trap-code, state-numbers, manager-code, parent-code, message-code}
 use Rattle.rules.specs.TableRules.{answer-in-range, table-rules}
 use Rattle.rules.specs.Dump.{field, head-value, answer-value, thread-value, message-value, held-value, dump}
-use Rattle.rules.specs.Load.{Field, cut, runner-from, parent-from, manager-from, trap-kind-from, state-from, answer-from, message-kind-from, at, word-at, thread-from, message-from, held-from, values-of, value-of, tables-from, Loaded, no-dump, loaded, load}
+use Rattle.rules.specs.Load.{Field, as-field, fields-of, runner-from, parent-from, manager-from, trap-kind-from, state-from, answer-from, message-kind-from, at, word-at, thread-from, message-from, held-from, values-of, value-of, tables-from, told, Loaded, no-dump, loaded, load}
 use Rattle.laws.proofs.Tests.{by-if, same?, and-left, and-right, _&_}
 use Rattle.laws.proofs.Counting.{all-of, all-both, each-append, all-each}
 use Rattle.laws.proofs.Members.{map-back, member-times, same-refl, same-true}
+use Rattle.laws.proofs.Batch.{one-field, joined, cut-is-the-only-one}
 use Rattle.laws.proofs.Bytes.{two-are-bytes, four-are-bytes, two-back, four-back}
 use Rattle.laws.proofs.Types.{here, Entry, Detail, Ruled}
 use Rattle.laws.proofs.Threads.{member-live, here-live}
@@ -194,21 +195,38 @@ fields T =
 abbrev pub short : Field → Bool
 short f = ltb (length (f .value)) 65536
 
-pub cut-field : (k tag : ℕ) (v rest : List ℕ) → length v < 65536 → cut (suc k) (field tag v ++ rest) ≡ record { tag = tag; value = v } ∷ cut k rest
-unfolding cut
-cut-field k tag v rest h =
-    let e = two-back (length v) h in
-    ap₂ (λ (w s : List ℕ). record { tag = tag; value = w } ∷ cut k s) (take-at v rest _ (sym e)) (drop-at v rest _ (sym e))
+-- a field as it is written
+abbrev pub spelled : Field → List ℕ
+spelled f = field (f .tag) (f .value)
 
--- Cutting what was written gives its fields.
-pub cut-written : (k : ℕ) (fs : List Field) → length fs ≤ k → all short fs ≡ true → cut k (written fs) ≡ fs
-unfolding each all
-cut-written zero [] l h = unfold cut in refl
-cut-written (suc k) [] l h = unfold cut in refl
-cut-written zero (f ∷ fs) l h = absurd (omega arith)
-cut-written (suc k) (f ∷ fs) l h =
-    cut-field k (f .tag) (f .value) (written fs) (ltb-true _ _ (and-left (short f) _ h))
-    ∙ ap (λ (gs : List Field). f ∷ gs) (cut-written k fs (omega arith) (and-right (short f) _ h))
+-- it is exactly one complete field
+one-written : (f : Field) → short f ≡ true → one-field (spelled f) ≡ true
+unfolding field-size whole
+one-written f h =
+    let e = two-back (length (f .value)) (ltb-true _ _ h) in
+    le-leb _ (length (f .value)) (omega (arith, e)) & eq-eqb (field-size (spelled f)) (length (spelled f)) (omega (arith, e))
+
+all-written : (fs : List Field) → all short fs ≡ true → all one-field (map spelled fs) ≡ true
+unfolding all
+all-written [] h = refl
+all-written (f ∷ fs) h = one-written f (and-left (short f) _ h) & all-written fs (and-right (short f) _ h)
+
+joined-written : (fs : List Field) → joined (map spelled fs) ≡ written fs
+unfolding each
+joined-written [] = refl
+joined-written (f ∷ fs) = ap (λ (l : List ℕ). spelled f ++ l) (joined-written fs)
+
+-- Cutting what was written gives its fields, and nothing is left.
+pub cut-written : (fs : List Field) → all short fs ≡ true → (complete (written fs) ≡ map spelled fs) × (unread (written fs) ≡ [])
+cut-written fs h =
+    let e : joined (map spelled fs) ++ [] ≡ written fs = append-nil (joined (map spelled fs)) ∙ joined-written fs in
+    let c = cut-is-the-only-one (map spelled fs) [] (all-written fs h) (unfold whole in refl) in
+    (ap complete (sym e) ∙ c .0, ap unread (sym e) ∙ c .1)
+
+-- and each is read as it was
+spelled-back : (fs : List Field) → map as-field (map spelled fs) ≡ fs
+spelled-back [] = refl
+spelled-back (f ∷ fs) = ap (λ (gs : List Field). f ∷ gs) (spelled-back fs)
 
 written-tagged : {A : Type 0} (n : ℕ) (f : A → List ℕ) (xs : List A) → written (tagged n (map f xs)) ≡ each (λ x. field n (f x)) xs
 unfolding each
@@ -307,7 +325,7 @@ tables-back L T r =
     told : HeadTells T (head-value T)
     told = head-back T (runner-ranged L T r) (r .steady .beats)
 
--- ---- the fields are short, and there are no more of them than bytes
+-- ---- the fields are short
 
 short-tagged : {A : Type 0} (n k : ℕ) (f : A → List ℕ) (xs : List A) → ((x : A) → length (f x) ≡ k) → k < 65536 → all short (tagged n (map f xs)) ≡ true
 unfolding all
@@ -333,14 +351,15 @@ fields-short L T r =
     (short-tagged 5 7 message-value (T .messages) message-length (omega arith)))
     (short-tagged 6 5 held-value (T .held) held-length (omega arith))
 
-pub fewer-fields : (fs : List Field) → length fs ≤ length (written fs)
-unfolding each
-fewer-fields [] = omega arith
-fewer-fields (f ∷ fs) = omega (arith, length-append (f .value) (written fs), fewer-fields fs)
+-- Cutting a dump gives its fields, and nothing is left.
+pub cut-dump : (L : Limits) (T : Tables) → Ruled L T → (complete (dump T) ≡ map spelled (fields T)) × (unread (dump T) ≡ [])
+cut-dump L T r =
+    let c = cut-written (fields T) (fields-short L T r) in
+    (ap complete (sym (written-dump T)) ∙ c .0, ap unread (sym (written-dump T)) ∙ c .1)
 
--- Cutting a dump gives its fields, with any bound on their number that is no smaller than it.
-pub cut-dump : (L : Limits) (T : Tables) → Ruled L T → (k : ℕ) → length (fields T) ≤ k → cut k (dump T) ≡ fields T
-cut-dump L T r k l = ap (cut k) (sym (written-dump T)) ∙ cut-written k (fields T) l (fields-short L T r)
+pub fields-dump : (L : Limits) (T : Tables) → Ruled L T → fields-of (dump T) ≡ fields T
+unfolding fields-of
+fields-dump L T r = ap (map as-field) (cut-dump L T r .0) ∙ spelled-back (fields T)
 
 -- ---- the dump is bytes
 
@@ -458,9 +477,9 @@ dump-bytes L T h =
 
 -- ---- reading
 
-read-back : (L : Limits) (T : Tables) → Ruled L T → tables-from (cut (length (dump T)) (dump T)) ≡ T
-read-back L T r =
-    ap tables-from (cut-dump L T r (length (dump T)) (omega (arith, fewer-fields (fields T), ap length (written-dump T)))) ∙ tables-back L T r
+pub read-back : (L : Limits) (T : Tables) → Ruled L T → told (dump T) ≡ T
+unfolding told
+read-back L T r = ap tables-from (fields-dump L T r) ∙ tables-back L T r
 
 -- Reading a dump of tables that meet the rules gives those tables.
 pub load-dump : (L : Limits) (T : Tables) → table-rules L T ≡ true → load L (dump T) ≡ loaded T
@@ -475,7 +494,7 @@ unfolding load
 load-is-dump L bytes T h = go _ refl h
   where
     U : Tables
-    U = tables-from (cut (length bytes) bytes)
+    U = told bytes
 
     go : (b : Bool) → (table-rules L U && same (dump U) bytes) ≡ b → (if b then loaded U else no-dump) ≡ loaded T → (table-rules L T ≡ true) × (dump T ≡ bytes)
     go true e k =

@@ -54,6 +54,11 @@ pub mod Entries
 pub mod Said
 pub mod Both
 pub mod Batch
+pub mod Offsets
+pub mod FaultOrder
+pub mod FaultFree
+pub mod Faults
+pub mod FaultTold
 pub mod Givings
 pub mod Rest
 pub mod Living

@@ -59,11 +59,11 @@ unfolding stands
 lent-dump-tells a b v w e =
     dump-tells small (tables a) (tables b) (and-right (shaped small a) _ v) (and-right (shaped small b) _ w) e
 
--- Any two results of load_value that its promise allows agree: in the refusal; in the tables and their dump, where the bytes are accepted; in
+-- Any two results of load_value that its promise allows agree: in the refusal and the offset; in the tables and their dump, where the bytes are accepted; in
 -- every word, where they are not.
 pub load-value-determined : (t : Lent) (bytes : List ℕ) (l k : Loaded) →
-    Loads (t .words) bytes (l .tables .words) (l .refusal) → Loads (t .words) bytes (k .tables .words) (k .refusal) →
-    (l .refusal ≡ k .refusal)
-    × (l .refusal ≡ 0 → (tables (l .tables .words) ≡ tables (k .tables .words)) × (dump (tables (l .tables .words)) ≡ dump (tables (k .tables .words))))
-    × (l .refusal ≢ 0 → l .tables .words ≡ k .tables .words)
+    Loads (t .words) bytes (l .tables .words) (l .verdict) → Loads (t .words) bytes (k .tables .words) (k .verdict) →
+    (l .verdict ≡ k .verdict)
+    × (l .verdict .refusal ≡ 0 → (tables (l .tables .words) ≡ tables (k .tables .words)) × (dump (tables (l .tables .words)) ≡ dump (tables (k .tables .words))))
+    × (l .verdict .refusal ≢ 0 → l .tables .words ≡ k .tables .words)
 load-value-determined t bytes l k p q = load-in-determined (t .words) bytes _ _ _ _ p q

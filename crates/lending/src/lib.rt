@@ -6,6 +6,7 @@ pub mod start;
 pub mod step;
 
 use rules::Decision;
+use rules::Verdict;
 
 // The words that tables of 20 threads and 20 blocks need.
 pub const WORDS: usize = loading::load::WORDS;
@@ -32,5 +33,5 @@ pub struct Dumped {
 // What reading a dump into lent tables leaves.
 pub struct Loaded {
     pub tables: Tables,
-    pub refusal: u8,
+    pub verdict: Verdict,
 }

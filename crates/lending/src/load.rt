@@ -4,12 +4,12 @@ use crate::Tables;
 ghost use Rattle.loading.specs.Loading.{Loads};
 
 pub fn load_value(t: Tables, bytes: &[u8]) -> Loaded
-    ensures { λ l. ⌜ Loads (t .words) (now (bytes .entry)) (l .tables .words) (l .refusal) ⌝ }
+    ensures { λ l. ⌜ Loads (t .words) (now (bytes .entry)) (l .tables .words) (l .verdict) ⌝ }
 {
     let mut words = t.words;
-    let refusal = loading::load::load_in(&mut words, bytes);
+    let verdict = loading::load::load_in(&mut words, bytes);
     Loaded {
         tables: Tables { words },
-        refusal,
+        verdict,
     }
 }

@@ -15,6 +15,8 @@ use Rattle.rules.specs.Tables.{Tables}
 use Rattle.rules.specs.TableRules.{table-rules}
 use Rattle.rules.specs.Dump.{dump}
 use Rattle.rules.specs.Load.{Loaded, no-dump, loaded, load}
+use Rattle.rules.specs.Faults.{where-bad, verdict-on, verdict}
+use Rattle.rules.specs.declared.Verdict.{Verdict}
 use Rattle.laws.proofs.Tests.{clash, and-left, and-right, _&_}
 use Rattle.laws.proofs.Counting.{all-of}
 use Rattle.laws.proofs.Sound.{tested-ruled}
@@ -28,7 +30,7 @@ use Rattle.checking.proofs.Shapes.{shaped-right, right-shaped}
 use Rattle.buffer.specs.Puts.{Puts}
 use Rattle.dumping.specs.Dumping.{Dumpable}
 use Rattle.loading.specs.Reading.{Small, Found, Accepts}
-use Rattle.loading.specs.Loading.{load-refusal, Loads}
+use Rattle.loading.specs.Loading.{Loads}
 use Rattle.loading.proofs.Comparing.{alike}
 use Rattle.loading.proofs.Placing.{tables-front, stands-front}
 
@@ -114,23 +116,23 @@ module _ {bytes w : List ℕ} {good : Bool} (A : Accepts bytes w good) where
       go no-dump e = refl
       go (loaded T) e = absurd (clash (A .takes T e .0) b)
 
-  -- 13, and the memory as it was lent
-  pub refused-13 : (m : List ℕ) → good ≡ false → Loads m bytes m 13
-  unfolding load-refusal
-  refused-13 m b =
+  -- where the bytes are bad, and the memory as it was lent
+  pub refused-there : (m : List ℕ) (v : Verdict) → good ≡ false → v ≡ where-bad bytes → Loads m bytes m v
+  unfolding verdict verdict-on
+  refused-there m v b e =
       let n = bad-refused b in
-      record { decides = rw n; leaves = λ T e. absurd (never T (sym n ∙ e)); keeps = λ _. refl }
+      record { decides = e ∙ sym (ap (verdict-on bytes) n); leaves = λ T k. absurd (never T (sym n ∙ k)); keeps = λ _. refl }
     where
       never : (T : Tables) → no-dump ≡ loaded T → ⊥
       never T e = let z : _≡_ {A = ℕ} 0 1 = cc in omega arith
 
   -- the words copied to the front of it
-  pub copied : (m m′ : List ℕ) → good ≡ true → length w ≡ 656 → m′ ≡ w ++ drop (length w) m → Loads m bytes m′ 0
-  unfolding load-refusal
+  pub copied : (m m′ : List ℕ) → good ≡ true → length w ≡ 656 → m′ ≡ w ++ drop (length w) m → Loads m bytes m′ (record { refusal = 0; offset = 0 })
+  unfolding verdict verdict-on
   copied m m′ g l c =
       let r = good-reads g in
       record {
-        decides = rw (r .0);
+        decides = sym (ap (verdict-on bytes) (r .0));
         leaves = λ T e. (ap (stands small) c ∙ stands-front w (drop (length w) m) (r .1) l, ap tables c ∙ tables-front w (drop (length w) m) (r .1) l ∙ told T (sym (r .0) ∙ e));
         keeps = λ n. absurd (n refl);
       }

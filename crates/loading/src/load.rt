@@ -1,8 +1,11 @@
 // Reading a dump, in stages: the fields are cut and their values put into a memory of its own; that meets the table rules; the writer gives
-// those bytes again, so that every value was in its range. Only then the lent memory is written.
+// those bytes again, so that every value was in its range. Only then the lent memory is written. Where a stage fails the bytes are no dump, and
+// crates/faults says where: a dump pays nothing for that.
 use crate::reading;
 use checking::check;
 use dumping::writing;
+use faults::find;
+use rules::Verdict;
 ghost use mathlib.Core.Path.{_≡_};
 ghost use mathlib.Core.Bool.{true};
 ghost use mathlib.Core.List.{_++_};
@@ -22,9 +25,6 @@ pub const WORDS: usize = 656;
 
 // A dump has at most so many bytes.
 const LONGEST: usize = 1241;
-
-// "13: bytes that are no dump"
-const NO_DUMP: u8 = 13;
 
 // Are the first n bytes of a all the bytes of b? It goes on behind a byte that differs: a loop with one end is compiled to compare many at once.
 fn same(a: &[u8], n: usize, b: &[u8]) -> bool
@@ -82,14 +82,17 @@ fn copy_words(from: &[u32], to: &mut [u32])
 }
 
 // Reading into a lent memory: refused, every word of it is as it was.
-pub fn load_in(m: &mut [u32], bytes: &[u8]) -> u8
+pub fn load_in(m: &mut [u32], bytes: &[u8]) -> Verdict
     requires { ⌜ size small ≤ length (now m) ⌝ }
-    ensures { λ r. ⌜ Loads (now (m .entry)) (now (bytes .entry)) (now (m .exit)) r ⌝ }
+    ensures { λ v. ⌜ Loads (now (m .entry)) (now (bytes .entry)) (now (m .exit)) v ⌝ }
 {
     let mut own = [0; WORDS];
     if !reads(&mut own, bytes) {
-        return NO_DUMP;
+        return find::find(bytes);
     }
     copy_words(&own, m);
-    0
+    Verdict {
+        refusal: 0,
+        offset: 0,
+    }
 }

@@ -1,5 +1,6 @@
 // The first stage of reading: the fields are cut in the order of a dump, by tag and length, and their values put into a lent memory.
-use crate::values;
+use crate::opening;
+use faults::values;
 use rules::numbers;
 use rules::tags;
 ghost use mathlib.Core.Path.{_≡_};
@@ -42,7 +43,7 @@ fn read_threads(m: &mut [u32], bytes: &[u8], from: usize) -> usize
     let mut n: usize = 0;
     let mut at = from;
     while n < numbers::THREADS {
-        if !values::opens(&bytes[at..], tags::THREAD, tags::THREAD_SIZE) {
+        if !opening::opens(&bytes[at..], tags::THREAD, tags::THREAD_SIZE) {
             return at;
         }
         let start = at + tags::BEFORE_VALUE;
@@ -67,7 +68,7 @@ fn count_names(bytes: &[u8], from: usize, tag: u8) -> usize
     if size > MOST_NAMES {
         return NO_FIELD;
     }
-    if !values::opens(&bytes[from..], tag, size) {
+    if !opening::opens(&bytes[from..], tag, size) {
         return NO_FIELD;
     }
     size as usize
@@ -125,7 +126,7 @@ fn read_messages(m: &mut [u32], bytes: &[u8], from: usize) -> usize
     let mut n: usize = 0;
     let mut at = from;
     while n < numbers::MESSAGES {
-        if !values::opens(&bytes[at..], tags::MESSAGE, tags::MESSAGE_SIZE) {
+        if !opening::opens(&bytes[at..], tags::MESSAGE, tags::MESSAGE_SIZE) {
             return at;
         }
         let start = at + tags::BEFORE_VALUE;
@@ -146,7 +147,7 @@ fn read_held(m: &mut [u32], bytes: &[u8], from: usize) -> usize
     let mut n: usize = 0;
     let mut at = from;
     while n < numbers::HELD {
-        if !values::opens(&bytes[at..], tags::HELD, tags::HELD_SIZE) {
+        if !opening::opens(&bytes[at..], tags::HELD, tags::HELD_SIZE) {
             return at;
         }
         let start = at + tags::BEFORE_VALUE;
@@ -186,7 +187,7 @@ pub fn read_fields(m: &mut [u32], bytes: &[u8]) -> bool
     requires { ⌜ size small ≤ length (now m) ⌝ }
     ensures { λ b. ⌜ Found (now (bytes .entry)) (now (m .exit)) b ⌝ }
 {
-    if !values::opens(bytes, tags::HEAD, tags::HEAD_SIZE) {
+    if !opening::opens(bytes, tags::HEAD, tags::HEAD_SIZE) {
         return false;
     }
     store::clear(m, numbers::THREADS as u32, numbers::BLOCKS as u32);

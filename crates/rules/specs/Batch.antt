@@ -1,32 +1,15 @@
 -- A batch of events in one call (document 02, CR 2): what is run, what is handed back, and what comes of it.
 -- Assumes nothing.
-use Prim.Native.Nat.{ℕ, zero, suc, _*_}
-use mathlib.Core.List.{List, [], _∷_}
+use Prim.Native.Nat.{ℕ, _*_}
+use mathlib.Core.List.{List, []}
 use lib.Dec.{ltb}
-use lib.ListN.{length, take, drop}
+use lib.ListN.{length}
 use Rattle.rules.specs.Lists.{if_then_else_, each}
 use Rattle.rules.specs.Numbers.{Limits, decision-numbers}
 use Rattle.rules.specs.Words.{Decision}
 use Rattle.rules.specs.Tables.{Tables}
-use Rattle.rules.specs.Fields.{field-size, whole}
+unfoldable pub use Rattle.rules.specs.Fields.{complete-in, unread-in, complete, unread}
 use Rattle.rules.specs.Runs.{Input, run, line, decisions}
-
--- "complete field": its head and its declared length are there, whatever it holds. The complete fields of these bytes, at most k
-unfoldable pub complete-in : ℕ → List ℕ → Input
-complete-in zero bytes = []
-complete-in (suc k) bytes = let n = field-size bytes in if whole bytes then take n bytes ∷ complete-in k (drop n bytes) else []
-
--- "A last field that is cut short is not run": what is left behind k complete fields, or behind all there are
-unfoldable pub unread-in : ℕ → List ℕ → List ℕ
-unread-in zero bytes = bytes
-unread-in (suc k) bytes = if whole bytes then unread-in k (drop (field-size bytes) bytes) else bytes
-
--- no complete field is shorter than a byte
-abbrev pub complete : List ℕ → Input
-complete bytes = complete-in (length bytes) bytes
-
-abbrev pub unread : List ℕ → List ℕ
-unread bytes = unread-in (length bytes) bytes
 
 -- "the decisions as 32-bit numbers, six per event"
 unfoldable pub numbers : List Decision → List ℕ

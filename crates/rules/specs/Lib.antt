@@ -24,6 +24,8 @@ pub mod Batch
 pub mod TableRules
 pub mod Dump
 pub mod Load
+pub mod Faults
 pub mod Opened
 pub mod Benches
 pub mod Slips
+pub mod BadDumps

@@ -1,14 +1,15 @@
 -- Reading a dump: the fields are cut, the tables built from them, the table rules tested, the dump written again and compared.
 -- Assumes nothing.
-use Prim.Native.Nat.{ℕ, zero, suc, _+_, _*_}
+use Prim.Native.Nat.{ℕ}
 use mathlib.Core.Bool.{_&&_}
-use mathlib.Core.List.{List, [], _∷_, map}
-use lib.ListN.{length, take, drop, getD}
+use mathlib.Core.List.{List, map}
+use lib.ListN.{take, drop, getD}
 use Rattle.rules.specs.Lists.{if_then_else_, _==_, keep, each, same, number}
 use Rattle.rules.specs.Numbers.{Limits, nobody, service}
 use Rattle.rules.specs.Words.{TrapKind, Program, Tlb, SysBp, State, Running, Ready, Receiving, Clock, Device, Trapped, Answer, Nothing, FromMessage, FromNotice, SenderGone, Result, Manager, Unset, Set, Gone, Parent, NoParent, ParentIs, Thread, MessageKind, Ordinary, Notice, Message, Held, Runner, NoRunner, Runs}
 use Rattle.rules.specs.Tables.{Tables}
-use Rattle.rules.specs.Tags.{head-tag, thread-tag, ready-tag, clock-tag, message-tag, held-tag}
+use Rattle.rules.specs.Tags.{before-value, head-tag, thread-tag, ready-tag, clock-tag, message-tag, held-tag}
+use Rattle.rules.specs.Fields.{complete}
 use Rattle.rules.specs.Events.{wanted}
 use Rattle.rules.specs.TableRules.{table-rules}
 use Rattle.rules.specs.Dump.{dump}
@@ -17,13 +18,13 @@ pub record Field : Type 0 where
   pub tag : ℕ
   pub value : List ℕ
 
--- at most k fields; what is cut short ends them
-unfoldable pub cut : ℕ → List ℕ → List Field
-cut zero bytes = []
-cut (suc k) [] = []
-cut (suc k) (tag ∷ []) = []
-cut (suc k) (tag ∷ high ∷ []) = []
-cut (suc k) (tag ∷ high ∷ low ∷ rest) = let n = high * 256 + low in record { tag = tag; value = take n rest } ∷ cut k (drop n rest)
+-- a complete field by its bytes
+abbrev pub as-field : List ℕ → Field
+as-field bytes = record { tag = getD bytes 0 0; value = drop before-value bytes }
+
+-- the complete fields of some bytes (Fields.antt)
+unfoldable pub fields-of : List ℕ → List Field
+fields-of bytes = map as-field (complete bytes)
 
 -- ---- numbers back to what they stand for (Codes.antt). A number that stands for nothing becomes something else, and the comparison finds it.
 
@@ -113,11 +114,15 @@ tables-from fs =
       held = map held-from (values-of held-tag fs);
     }
 
--- what reading gives: refusal 13, or tables
+-- the tables that the bytes tell, whatever they are
+unfoldable pub told : List ℕ → Tables
+told bytes = tables-from (fields-of bytes)
+
+-- what reading gives: tables, or none, and then Faults.antt says where the bytes are bad
 pub data Loaded : Type 0 where
   no-dump : Loaded
   loaded : Tables → Loaded
 
 -- "Bytes are a dump exactly if these rules hold and the writer gives those bytes."
 unfoldable pub load : Limits → List ℕ → Loaded
-load L bytes = let T = tables-from (cut (length bytes) bytes) in if table-rules L T && same (dump T) bytes then loaded T else no-dump
+load L bytes = let T = told bytes in if table-rules L T && same (dump T) bytes then loaded T else no-dump

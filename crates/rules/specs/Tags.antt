@@ -1,13 +1,13 @@
 -- The one table of document 01 that step and program share: "Event tags", and the services with their argument rules. Then the fields of a dump.
 -- Every tag and every length of a field stands here once.
 -- Assumes nothing.
-use Prim.Native.Nat.{ℕ}
+use Prim.Native.Nat.{ℕ, suc}
 use mathlib.Core.Bool.{Bool, true, false}
 use mathlib.Core.List.{List, [], _∷_}
 use lib.Dec.{ltb}
 use Rattle.rules.specs.Lists.{if_then_else_, _==_}
 use Rattle.rules.specs.Numbers.{devices, nobody}
-use Rattle.rules.specs.Words.{Program, Tlb, SysBp, Target, Oneself, Named, Call, CreateBrother, CreateSon, Terminate, SetManager, GetCpuTime, WaitForClock, WaitForIo, TagFacts, Argument, NoService, Zero, AnyName, ADevice}
+use Rattle.rules.specs.Words.{Program, Tlb, SysBp, Target, Oneself, Named, Call, CreateBrother, CreateSon, Terminate, SetManager, GetCpuTime, WaitForClock, WaitForIo, TagFacts, DumpFacts, Argument, NoService, Zero, AnyName, ADevice}
 
 -- ---- events
 
@@ -138,3 +138,31 @@ held-tag = 6
 
 abbrev pub held-size : ℕ
 held-size = 5
+
+-- a row for each field of a dump: its tag, whether its length is fixed and what it is then, and whether the field stands exactly once
+pub record DumpRow : Type 0 where
+  pub tag : ℕ
+  pub sized : Bool
+  pub length : ℕ
+  pub once : Bool
+
+-- "Fields in this order. .. Fields 3 and 4 always stand."
+abbrev pub dump-rows : List DumpRow
+dump-rows =
+    record { tag = head-tag; sized = true; length = head-size; once = true }
+    ∷ record { tag = thread-tag; sized = true; length = thread-size; once = false }
+    ∷ record { tag = ready-tag; sized = false; length = 0; once = true }
+    ∷ record { tag = clock-tag; sized = false; length = 0; once = true }
+    ∷ record { tag = message-tag; sized = true; length = message-size; once = false }
+    ∷ record { tag = held-tag; sized = true; length = held-size; once = false }
+    ∷ []
+
+-- what the rows from a place on say of a tag; one that is not among them has its place behind them all
+unfoldable pub dump-facts-in : ℕ → List DumpRow → ℕ → DumpFacts
+dump-facts-in place [] n = record { known = false; place = place; sized = false; length = 0; once = false }
+dump-facts-in place (r ∷ rs) n =
+    let later = dump-facts-in (suc place) rs n in
+    if n == r .tag then record { known = true; place = place; sized = r .sized; length = r .length; once = r .once } else later
+
+unfoldable pub dump-facts : ℕ → DumpFacts
+dump-facts n = dump-facts-in 0 dump-rows n

@@ -32,6 +32,8 @@ pub use Rattle.rules.specs.declared.Event.the-variants.{Malformed, ByRun
 pub use Rattle.rules.specs.declared.Decision.{Decision}
 pub use Rattle.rules.specs.declared.Picked.{Picked}
 pub use Rattle.rules.specs.declared.TagFacts.{TagFacts}
+pub use Rattle.rules.specs.declared.DumpFacts.{DumpFacts}
+pub use Rattle.rules.specs.declared.Verdict.{Verdict}
 pub use Rattle.rules.specs.declared.Argument.{Argument}
 pub use Rattle.rules.specs.declared.Argument.the-variants.{NoService, Zero, AnyName, ADevice}
 

@@ -145,6 +145,22 @@ pub struct TagFacts {
     pub runner: bool,
 }
 
+// What the table of a dump's fields says of a tag.
+pub struct DumpFacts {
+    pub known: bool,
+    pub place: u8,
+    pub sized: bool,
+    pub length: u8,
+    pub once: bool,
+}
+
+// What reading a dump answers: the refusal, and the offset of the field at fault. It is laid out as in C, for the entry of crates/board.
+#[repr(C)]
+pub struct Verdict {
+    pub refusal: u8,
+    pub offset: usize,
+}
+
 // What a service's argument must be.
 pub enum Argument {
     NoService,

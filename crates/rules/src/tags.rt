@@ -2,10 +2,11 @@
 // The proofs test it as a whole against the table of specs/Tags.antt. Then the fields of a dump; what is written and read by these
 // numbers is proved to be what the rules' numbers give.
 use crate::Argument;
+use crate::DumpFacts;
 use crate::TagFacts;
 use crate::numbers;
 ghost use mathlib.Core.Path.{_≡_};
-ghost use Rattle.rules.specs.Tags.{tag-facts as facts-of, argument-rule as rule-of, meets as meets-of};
+ghost use Rattle.rules.specs.Tags.{tag-facts as facts-of, dump-facts as dump-facts-of, argument-rule as rule-of, meets as meets-of};
 
 pub const SEND: u8 = 16;
 
@@ -114,6 +115,75 @@ pub fn tag_facts(tag: u8) -> TagFacts
     }
     let row = (tag - FIRST_TAG) as usize;
     if row < TAGS.len() { TAGS[row] } else { UNKNOWN }
+}
+
+// From HEAD on: head, thread, ready, clock, message, held.
+const DUMP_FIELDS: [DumpFacts; 6] = [
+    DumpFacts {
+        known: true,
+        place: 0,
+        sized: true,
+        length: HEAD_SIZE,
+        once: true,
+    },
+    DumpFacts {
+        known: true,
+        place: 1,
+        sized: true,
+        length: THREAD_SIZE,
+        once: false,
+    },
+    DumpFacts {
+        known: true,
+        place: 2,
+        sized: false,
+        length: 0,
+        once: true,
+    },
+    DumpFacts {
+        known: true,
+        place: 3,
+        sized: false,
+        length: 0,
+        once: true,
+    },
+    DumpFacts {
+        known: true,
+        place: 4,
+        sized: true,
+        length: MESSAGE_SIZE,
+        once: false,
+    },
+    DumpFacts {
+        known: true,
+        place: 5,
+        sized: true,
+        length: HELD_SIZE,
+        once: false,
+    },
+];
+
+// No field of a dump: its place is behind them all.
+const NO_FIELD: DumpFacts = DumpFacts {
+    known: false,
+    place: 6,
+    sized: false,
+    length: 0,
+    once: false,
+};
+
+pub fn dump_facts(tag: u8) -> DumpFacts
+    ensures { λ r. ⌜ r ≡ dump-facts-of tag ⌝ }
+{
+    if tag < HEAD {
+        return NO_FIELD;
+    }
+    let row = (tag - HEAD) as usize;
+    if row < DUMP_FIELDS.len() {
+        DUMP_FIELDS[row]
+    } else {
+        NO_FIELD
+    }
 }
 
 pub fn argument_rule(service: u8) -> Argument

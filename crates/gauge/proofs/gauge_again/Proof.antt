@@ -1,27 +1,23 @@
 -- `gauge_again` is safe: what was read stands, and its dump fits.
 -- Assumes nothing.
 use Prim.Native.Nat.{ℕ}
-use mathlib.Core.Path.{_≡_, refl, ap, _∙_}
+use mathlib.Core.Path.{_≡_}
 use mathlib.Core.Bool.{true}
 use mathlib.Core.List.{List}
 use native.Mathlib.Omega.{arith}
 use Rattle.rules.specs.Numbers.{small}
-use Rattle.rules.specs.Load.{Loaded, no-dump, loaded, load}
+use Rattle.rules.specs.declared.Verdict.{Verdict}
 use Rattle.checking.specs.Stands.{stands}
-use Rattle.loading.specs.Loading.{load-refusal, Loads}
+use Rattle.loading.specs.Loading.{Loads}
 use Rattle.loading.proofs.Exits.{writable}
+use Rattle.loading.proofs.Promises.{reads}
 use borrow.Author.Needs.{needs}
 use Rattle.gauge.proofs.gauge_again.Statement.{statement}
 use Rattle.gauge.proofs.gauge_again.Tie as tie
 
 -- a memory that a dump was read into
-read-stands : (m bytes m′ : List ℕ) (r : ℕ) → Loads m bytes m′ r → r ≡ 0 → stands small m′ ≡ true
-unfolding load-refusal
-read-stands m bytes m′ r q z = go (load small bytes) refl
-  where
-    go : (x : Loaded) → load small bytes ≡ x → stands small m′ ≡ true
-    go no-dump k = absurd (omega (arith, z, q .decides ∙ ap load-refusal k))
-    go (loaded T) k = q .leaves T k .0
+read-stands : (m bytes m′ : List ℕ) (v : Verdict) → Loads m bytes m′ v → v .refusal ≡ 0 → stands small m′ ≡ true
+read-stands m bytes m′ v q z = let T = reads bytes v (q .decides) z in q .leaves (T .0) (T .1) .0
 
 returns : tie.Need-returns
 returns c = search needs
@@ -40,7 +36,7 @@ slice-aggregate-write-dump c = search needs
 
 write-dump-requires : tie.Need-write-dump-requires
 write-dump-requires c κs =
-    let w = writable _ (read-stands _ _ _ _ (c .before .before .before .before .load-in .ensures) (omega arith)) in (w .0, omega (arith, w .1))
+    let w = writable _ (read-stands _ _ _ _ (c .before .before .before .before .before .load-in .ensures) (c .before .before .if2 .left)) in (w .0, omega (arith, w .1))
 
 same-length : tie.Need-same-length
 same-length c = search needs

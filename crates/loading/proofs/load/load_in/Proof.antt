@@ -1,7 +1,7 @@
--- `load::load_in` meets its contract: 13 and nothing written, or the words that were read, copied.
+-- `load::load_in` meets its contract: where the bytes are bad and nothing written, or the words that were read, copied.
 -- Assumes nothing.
 use borrow.Author.Tests.{not-true, not-false}
-use Rattle.loading.proofs.Exits.{refused-13, copied}
+use Rattle.loading.proofs.Exits.{refused-there, copied}
 use native.Mathlib.Omega.{arith}
 use borrow.Author.Needs.{needs}
 use Rattle.loading.proofs.load.load_in.Statement.{statement}
@@ -13,8 +13,11 @@ slice-aggregate-reads c = search needs
 reads-requires : tie.Need-reads-requires
 reads-requires c κs = omega arith
 
+find-requires : tie.Need-find-requires
+find-requires c κs = search needs
+
 returns : tie.Need-returns
-returns c = refused-13 (c .before .before .reads .ensures) _ (not-true _ (c .if1 .taken))
+returns c = refused-there (c .before .before .before .reads .ensures) _ _ (not-true _ (c .before .if1 .taken)) (c .find .ensures)
 
 slice-aggregate-copy-words : tie.Need-slice-aggregate-copy-words
 slice-aggregate-copy-words c = search needs
@@ -29,4 +32,4 @@ returns-2 : tie.Need-returns-2
 returns-2 c = copied (c .before .before .before .before .before .before .before .reads .ensures) _ _ (not-false _ (c .before .before .before .before .before .if1 .left)) (search needs) (c .before .before .copy-words .ensures)
 
 pub load-in-spec : {M : Type 1} → statement M
-load-in-spec = tie.close (tie.spec slice-aggregate-reads reads-requires returns slice-aggregate-copy-words copy-words-requires same-length returns-2)
+load-in-spec = tie.close (tie.spec slice-aggregate-reads reads-requires find-requires returns slice-aggregate-copy-words copy-words-requires same-length returns-2)

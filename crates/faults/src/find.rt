@@ -1,0 +1,52 @@
+// "Where several rules fail, the first in the list below counts, and within it the earliest field; for 19 the offset is 0."
+use crate::names;
+use crate::passes;
+use rules::Verdict;
+ghost use mathlib.Core.Path.{_≡_};
+ghost use Rattle.rules.specs.Faults.{where-bad};
+
+// Of bytes that are no dump.
+pub fn find(bytes: &[u8]) -> Verdict
+    ensures { λ v. ⌜ v ≡ where-bad (now (bytes .entry)) ⌝ }
+{
+    let nobody = [0u8; 256];
+    let cut = passes::pass(passes::CUT, bytes, &nobody);
+    if cut.found {
+        return Verdict {
+            refusal: passes::CUT,
+            offset: cut.at,
+        };
+    }
+    if cut.badly {
+        return Verdict {
+            refusal: passes::CUT,
+            offset: bytes.len(),
+        };
+    }
+    let order = passes::pass(passes::ORDER, bytes, &nobody);
+    if order.found {
+        return Verdict {
+            refusal: passes::ORDER,
+            offset: order.at,
+        };
+    }
+    let range = passes::pass(passes::RANGE, bytes, &nobody);
+    if range.found {
+        return Verdict {
+            refusal: passes::RANGE,
+            offset: range.at,
+        };
+    }
+    let live = names::live_names(bytes);
+    let name = passes::pass(passes::NAME, bytes, &live);
+    if name.found {
+        return Verdict {
+            refusal: passes::NAME,
+            offset: name.at,
+        };
+    }
+    Verdict {
+        refusal: passes::RULE,
+        offset: 0,
+    }
+}
