@@ -2,11 +2,10 @@
 -- Assumes nothing.
 use Prim.Native.Nat.{ℕ, zero, suc}
 use mathlib.Core.Bool.{Bool, true, false, _&&_, _||_, not}
-use mathlib.Core.List.{List, [], _∷_, map}
+use mathlib.Core.List.{List, [], _∷_}
 use mathlib.Core.Path.{_≡_, refl, sym, ap, ap₂, _∙_}
 use native.Mathlib.Omega.{arith}
 use lib.Dec.{ltb}
-use lib.ListN.{length}
 use borrow.Author.Tests.{ne-eqb}
 use Rattle.rules.specs.Lists.{_==_, any, has}
 use Rattle.rules.specs.Tags.{head-tag, ready-tag, clock-tag, dump-rows, dump-facts, dump-facts-in}
@@ -14,7 +13,7 @@ use Rattle.rules.specs.Load.{Field}
 use Rattle.rules.specs.Faults.{Placed, place-before, misplaced}
 use Rattle.faults.specs.declared.Before.{Before}
 use Rattle.faults.specs.Order.{nothing-before, seen, misplaced-behind, after, missing, Tells}
-use Rattle.faults.specs.Passes.{fault-of, fault-behind}
+use Rattle.faults.specs.Passes.{form-fault, form-behind}
 
 pub nothing-tells : Tells [] nothing-before
 unfolding any place-before
@@ -63,9 +62,9 @@ module _ (at : ℕ) (tags : List ℕ) (f : Field) (b : Before) (t : Tells tags b
       (ap (ltb (dump-facts (f .tag) .place)) (sym (t .place)))
       (once-seen (f .tag) tags b t)
 
-  pub fault-told : (number : ℕ) (lives : ℕ → Bool) → fault-of number lives here ≡ fault-behind number lives b f
-  unfolding fault-of fault-behind
-  fault-told number lives = rw placed-behind
+  pub fault-told : (number : ℕ) → form-fault number here ≡ form-behind number b f
+  unfolding form-fault form-behind
+  fault-told number = rw placed-behind
 
 missing-any : (x y z : Bool) → (not x || not y || not z) ≡ (not x || (false || (not y || (not z || (false || (false || false))))))
 missing-any true true true = refl

@@ -4,21 +4,21 @@ use Prim.Native.Nat.{ℕ, zero, suc, _+_, _≤_, _<_}
 use mathlib.Core.Bool.{Bool, true, false, _||_}
 use mathlib.Core.List.{List, [], _∷_, map}
 use mathlib.Core.Logic.{_≢_}
-use mathlib.Core.Path.{_≡_, refl, sym, ap, ap₂, _∙_}
+use mathlib.Core.Path.{_≡_, refl, sym, ap, _∙_}
 use native.Mathlib.Omega.{arith}
-use lib.ListN.{length, take, drop, getD, set, replicate, length-set, length-replicate, drop-of-length-le, length-drop}
+use lib.ListN.{length, drop, getD, set, replicate, length-set, length-replicate, drop-of-length-le, length-drop}
 use lib.Seq.{getD-set-same, getD-set-other, getD-take, getD-drop}
 use borrow.Author.Tests.{eq-eqb, ne-eqb, eqb-true, eqb-false}
 use Rattle.rules.specs.Lists.{_==_, any, keep}
 use Rattle.rules.specs.Tables.{named, live}
 use Rattle.rules.specs.Tags.{before-value, thread-tag, dump-facts, dump-facts-in}
 use Rattle.rules.specs.Fields.{field-size, whole, complete}
-use Rattle.rules.specs.Load.{Field, as-field, fields-of, thread-from, values-of, tables-from, told}
+use Rattle.rules.specs.Load.{as-field, fields-of, thread-from, values-of, tables-from, told}
 use Rattle.rules.specs.Faults.{placed-from, placed, offsets, wrong-length}
 use Rattle.laws.proofs.Batch.{complete-none, complete-first}
 use Rattle.faults.specs.Names.{lives-in, Named}
 use Rattle.faults.proofs.Fits.{long}
-use Rattle.faults.proofs.Walking.{offsets-none, first, behind-it, ends-within, first-long, placed-next}
+use Rattle.faults.proofs.Walking.{or-moves, or-false, offsets-none, first, behind-it, ends-within, first-long, placed-next}
 
 -- has a field 2 among these this name?
 abbrev pub lived : ℕ → List (List ℕ) → Bool
@@ -115,16 +115,6 @@ module _ (bytes : List ℕ) where
           ∙ (or-moves (lives-in marks n) (n == x) (lived n (complete (drop end bytes)))
           ∙ ap (λ (b : Bool). b || lived n (complete (drop end bytes))) (sym (marked marks x n (omega (arith, M .size))))));
     }
-      where
-        or-moves : (x y z : Bool) → (x || (y || z)) ≡ ((y || x) || z)
-        or-moves true true z = refl
-        or-moves true false z = refl
-        or-moves false true z = refl
-        or-moves false false z = refl
-
-  or-false : (x : Bool) → (x || false) ≡ x
-  or-false true = refl
-  or-false false = refl
 
   -- no field is left
   all-marked : {at : ℕ} {marks : List ℕ} → Marking at marks → complete (drop at bytes) ≡ [] → Named bytes marks

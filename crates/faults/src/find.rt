@@ -9,8 +9,7 @@ ghost use Rattle.rules.specs.Faults.{where-bad};
 pub fn find(bytes: &[u8]) -> Verdict
     ensures { λ v. ⌜ v ≡ where-bad (now (bytes .entry)) ⌝ }
 {
-    let nobody = [0u8; 256];
-    let cut = passes::pass(passes::CUT, bytes, &nobody);
+    let cut = passes::form_pass(passes::CUT, bytes);
     if cut.found {
         return Verdict {
             refusal: passes::CUT,
@@ -23,14 +22,15 @@ pub fn find(bytes: &[u8]) -> Verdict
             offset: bytes.len(),
         };
     }
-    let order = passes::pass(passes::ORDER, bytes, &nobody);
+    let order = passes::form_pass(passes::ORDER, bytes);
     if order.found {
         return Verdict {
             refusal: passes::ORDER,
             offset: order.at,
         };
     }
-    let range = passes::pass(passes::RANGE, bytes, &nobody);
+    let nobody = [0u8; 256]; // no range asks who lives
+    let range = passes::value_pass(passes::RANGE, bytes, &nobody);
     if range.found {
         return Verdict {
             refusal: passes::RANGE,
@@ -38,7 +38,7 @@ pub fn find(bytes: &[u8]) -> Verdict
         };
     }
     let live = names::live_names(bytes);
-    let name = passes::pass(passes::NAME, bytes, &live);
+    let name = passes::value_pass(passes::NAME, bytes, &live);
     if name.found {
         return Verdict {
             refusal: passes::NAME,

@@ -16,8 +16,14 @@ pub struct Before {
     pub clock: bool,
 }
 
-// What a pass found: a field at fault and its offset; or none, and whether the bytes end badly.
+// What a pass found: a field at fault, and its offset; or none.
 pub struct Pass {
+    pub found: bool,
+    pub at: usize,
+}
+
+// The same of a pass over tags and lengths, and whether the bytes end badly.
+pub struct FormPass {
     pub found: bool,
     pub at: usize,
     pub badly: bool,

@@ -1,13 +1,13 @@
 -- The dump and its reader: every value comes back, cutting gives the fields, and so reading a dump gives the tables that were written.
 -- Assumes nothing.
-use Prim.Native.Nat.{ℕ, zero, suc, _≤_, _<_}
+use Prim.Native.Nat.{ℕ, _<_}
 use mathlib.Core.Path.{_≡_, refl, sym, ap, ap₂, _∙_}
 use mathlib.Core.Logic.{⊎-elim, _≢_, _↔_}
 use mathlib.Core.Bool.{Bool, true, false, _&&_}
 use mathlib.Core.List.{List, [], _∷_, _++_, map, append-nil, List·Memᴰ}
 use native.Mathlib.Omega.{arith}
 use lib.Dec.{ltb}
-use lib.ListN.{length, length-append}
+use lib.ListN.{length}
 use borrow.Author.Tests.{ne-eqb, eq-eqb, le-leb, ltb-true, lt-ltb}
 use Rattle.rules.specs.Lists.{if_then_else_, _==_, all, any, keep, each, times-in, same, is-byte, number, two-bytes, four-bytes}
 use Rattle.rules.specs.Numbers.{Limits, names, service, nobody, devices, wrap}

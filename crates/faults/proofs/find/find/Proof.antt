@@ -5,51 +5,51 @@ use Rattle.faults.proofs.Finding.{lengths-right, found-15, ended-15, fo
 use Rattle.faults.proofs.find.find.Statement.{statement}
 use Rattle.faults.proofs.find.find.Tie as tie
 
-pass-requires : tie.Need-pass-requires
-pass-requires c κs = search needs
+form-pass-requires : tie.Need-form-pass-requires
+form-pass-requires c κs = search needs
 
 returns : tie.Need-returns
-returns c = found-15 (c .before .pass .ensures) (c .if1 .taken)
+returns c = found-15 (c .before .form-pass .ensures) (c .if1 .taken)
 
 returns-2 : tie.Need-returns-2
-returns-2 c = ended-15 (c .before .before .pass .ensures) (c .before .if1 .left) (c .if2 .taken)
+returns-2 c = ended-15 (c .before .before .form-pass .ensures) (c .before .if1 .left) (c .if2 .taken)
 
-pass-requires-2 : tie.Need-pass-requires-2
-pass-requires-2 c κs = search needs
+form-pass-requires-2 : tie.Need-form-pass-requires-2
+form-pass-requires-2 c κs = search needs
 
 returns-3 : tie.Need-returns-3
-returns-3 c = found-16 (c .before .before .before .before .before .pass .ensures) (c .before .before .before .before .if1 .left) (c .before .before .before .if2 .left) (c .before .pass2 .ensures) (c .if3 .taken)
+returns-3 c = found-16 (c .before .before .before .before .form-pass .ensures) (c .before .before .before .if1 .left) (c .before .before .if2 .left) (c .before .form-pass2 .ensures) (c .if3 .taken)
 
-pass-requires-3 : tie.Need-pass-requires-3
-pass-requires-3 c κs = search needs
+value-pass-requires : tie.Need-value-pass-requires
+value-pass-requires c κs = search needs
 
 returns-4 : tie.Need-returns-4
-returns-4 c = found-17 (c .before .before .before .before .before .before .before .before .pass .ensures) (c .before .before .before .before .before .before .before .if1 .left) (c .before .before .before .before .before .before .if2 .left) (c .before .before .before .before .pass2 .ensures) (c .before .before .before .if3 .left) (c .before .pass3 .ensures) (c .if4 .taken)
+returns-4 c = found-17 (c .before .before .before .before .before .before .before .form-pass .ensures) (c .before .before .before .before .before .before .if1 .left) (c .before .before .before .before .before .if2 .left) (c .before .before .before .before .form-pass2 .ensures) (c .before .before .before .if3 .left) (c .before .value-pass .ensures) (c .if4 .taken)
 
 live-names-requires : tie.Need-live-names-requires
-live-names-requires c κs = lengths-right (c .before .before .before .before .before .before .before .before .pass .ensures) (c .before .before .before .before .before .before .before .if1 .left)
+live-names-requires c κs = lengths-right (c .before .before .before .before .before .before .before .form-pass .ensures) (c .before .before .before .before .before .before .if1 .left)
 
-pass-requires-4 : tie.Need-pass-requires-4
-pass-requires-4 c κs = search needs
+value-pass-requires-2 : tie.Need-value-pass-requires-2
+value-pass-requires-2 c κs = search needs
 
 returns-5 : tie.Need-returns-5
-returns-5 c = found-18 (c .before .before .before .before .before .before .before .before .before .before .before .before .pass .ensures) (c .before .before .before .before .before .before .before .before .before .before .before .if1 .left) (c .before .before .before .before .before .before .before .before .before .before .if2 .left) (c .before .before .before .before .before .before .before .before .pass2 .ensures) (c .before .before .before .before .before .before .before .if3 .left) (c .before .before .before .before .before .pass3 .ensures) (c .before .before .before .before .if4 .left) (c .before .before .before .live-names .ensures) (c .before .pass4 .ensures) (c .if5 .taken)
+returns-5 c = found-18 (c .before .before .before .before .before .before .before .before .before .before .before .form-pass .ensures) (c .before .before .before .before .before .before .before .before .before .before .if1 .left) (c .before .before .before .before .before .before .before .before .before .if2 .left) (c .before .before .before .before .before .before .before .before .form-pass2 .ensures) (c .before .before .before .before .before .before .before .if3 .left) (c .before .before .before .before .before .value-pass .ensures) (c .before .before .before .before .if4 .left) (c .before .before .before .live-names .ensures) (c .before .value-pass2 .ensures) (c .if5 .taken)
 
 returns-6 : tie.Need-returns-6
-returns-6 c = none-found (c .before .before .before .before .before .before .before .before .before .before .before .before .pass .ensures) (c .before .before .before .before .before .before .before .before .before .before .before .if1 .left) (c .before .before .before .before .before .before .before .before .before .before .if2 .left) (c .before .before .before .before .before .before .before .before .pass2 .ensures) (c .before .before .before .before .before .before .before .if3 .left) (c .before .before .before .before .before .pass3 .ensures) (c .before .before .before .before .if4 .left) (c .before .before .before .live-names .ensures) (c .before .pass4 .ensures) (c .if5 .left)
+returns-6 c = none-found (c .before .before .before .before .before .before .before .before .before .before .before .form-pass .ensures) (c .before .before .before .before .before .before .before .before .before .before .if1 .left) (c .before .before .before .before .before .before .before .before .before .if2 .left) (c .before .before .before .before .before .before .before .before .form-pass2 .ensures) (c .before .before .before .before .before .before .before .if3 .left) (c .before .before .before .before .before .value-pass .ensures) (c .before .before .before .before .if4 .left) (c .before .before .before .live-names .ensures) (c .before .value-pass2 .ensures) (c .if5 .left)
 
 pub find-spec : {M : Type 1} → statement M
 find-spec =
     tie.close
     (tie.spec
-    pass-requires
+    form-pass-requires
     returns
     returns-2
-    pass-requires-2
+    form-pass-requires-2
     returns-3
-    pass-requires-3
+    value-pass-requires
     returns-4
     live-names-requires
-    pass-requires-4
+    value-pass-requires-2
     returns-5
     returns-6)
