@@ -9,6 +9,7 @@ use rules::Runner;
 use rules::State;
 use rules::TrapKind;
 use rules::Wanted;
+use rules::codes;
 use rules::tags;
 ghost use mathlib.Core.Path.{_≡_};
 ghost use mathlib.Core.Bool.{true, false};
@@ -161,21 +162,24 @@ fn head_lives(names: &[u8; 256], v: &[u8]) -> bool
     runner_lives(names, values::runner_from(v[2], v[3]))
 }
 
-// Field 2.
+// Field 2, but for what asks for no name.
 fn thread_lives(names: &[u8; 256], v: &[u8]) -> bool
     requires { ⌜ thread-size ≤ length (now v) ⌝ }
     ensures { λ b. ⌜ b ≡ thread-lives-of (lives-in (now (names .entry))) (now (v .entry)) ⌝ }
 {
-    let t = values::read_thread(v);
-    let parent = t.parent;
+    let parent = codes::parent_from(v[1]);
     if !parent_lives(names, parent) {
         return false;
     }
-    let s = t.state;
+    let s = codes::state_from(v[2], v[3]);
     if !wanted_lives(names, s) {
         return false;
     }
-    let g = t.managers;
+    let g = Managers {
+        program: codes::manager_from(v[4]),
+        tlb: codes::manager_from(v[5]),
+        sysbp: codes::manager_from(v[6]),
+    };
     if !entries_live(names, g) {
         return false;
     }
