@@ -1,18 +1,21 @@
 //! dumps ROUNDS FILE..: times writing and reading a full dump over the same tables in one run, by plain Rust, by the
-//! independent program and by the proved functions.
-//! dumps only NAME FILE: runs one of them once on the first 1,000 events of a file, for a profiler. NAME: one of WRITERS, or one of READERS behind a minus sign.
+//! independent program and by the proved functions. Then reading what is no dump: the same dumps, each damaged in several ways.
+//! dumps only NAME FILE: runs one of them once on the first 1,000 events of a file, for a profiler. NAME: one of WRITERS, one of READERS
+//! behind a minus sign, or one of JUDGES behind a plus sign, which then reads every damaged dump.
 //!
-//! A time is the best of ROUNDS, of 1,000 dumps each. The bytes must agree, and each must be written and read 1,000 times; a time is never a
-//! test.
+//! A time is the best of ROUNDS, of 1,000 dumps each. The bytes must agree, and each must be written and read 1,000 times; of damaged ones
+//! the refusals and offsets must agree. A time is never a test.
 
+mod bad;
 #[allow(dead_code)]
 mod proved;
 mod tables;
 mod timing;
 
+use bad::{Edit, EDITS};
 use nucleus::{lent, Node};
 use plain::lent::{dump_checked, load_checked, Tables};
-use plain::Plain;
+use plain::{Bad, Plain};
 use std::hint::black_box;
 use std::process::ExitCode;
 use tables::Filled;
@@ -44,7 +47,12 @@ const READERS: [Meter; 5] = [
     ("independent-lent", independent_load_lent, nothing),
 ];
 
-/// The place of plain-checked. What stands before it works on tables that are kept, what stands behind it on lent ones.
+/// Given bytes that are no dump, they read them 1,000 times and give the answer as one number.
+const JUDGES: [Meter; 3] =
+    [("plain", plain_judge, nothing), ("load_in", proved_judge, nothing), ("plain-checked", plain_judge_checked, nothing)];
+
+/// The place of plain-checked among WRITERS and READERS. What stands before it works on tables that are kept, what stands behind it on lent
+/// ones.
 const CHECKED: usize = 3;
 
 fn times(mut done: impl FnMut() -> bool) -> u64 {
@@ -100,7 +108,7 @@ fn independent_dump_lent(events: &[u8]) -> u64 {
 }
 
 fn plain_load(dump: &[u8]) -> u64 {
-    times(|| black_box(plain::load(black_box(dump))).is_some())
+    times(|| black_box(plain::load(black_box(dump))).is_ok())
 }
 
 /// Into lent tables.
@@ -110,12 +118,43 @@ fn plain_load_checked(dump: &[u8]) -> u64 {
 }
 
 fn independent_load(dump: &[u8]) -> u64 {
-    times(|| black_box(nucleus::load(black_box(dump))).is_some())
+    times(|| black_box(nucleus::load(black_box(dump))).is_ok())
 }
 
 fn independent_load_lent(dump: &[u8]) -> u64 {
     let mut tables = Node::start().tables();
-    times(|| lent::load(black_box(&mut tables), black_box(dump)) == 0)
+    times(|| lent::load(black_box(&mut tables), black_box(dump)) == (0, 0))
+}
+
+/// An answer as one number.
+fn told(refusal: u8, offset: usize) -> u64 {
+    offset as u64 * 256 + u64::from(refusal)
+}
+
+/// The last of 1,000 answers. A dump has none.
+fn judged(mut read: impl FnMut() -> Option<Bad>) -> u64 {
+    let last = (0..TIMES).filter_map(|_| black_box(read())).last();
+    last.map_or(0, |bad| told(bad.refusal, bad.offset))
+}
+
+fn plain_judge(bytes: &[u8]) -> u64 {
+    judged(|| plain::load(black_box(bytes)).err())
+}
+
+fn plain_judge_checked(bytes: &[u8]) -> u64 {
+    let mut tables = Tables::start();
+    judged(|| load_checked(black_box(&mut tables), black_box(bytes)).err())
+}
+
+fn proved_judge(bytes: &[u8]) -> u64 {
+    let (refusal, offset) = proved::verdict(bytes, TIMES);
+    told(refusal, offset)
+}
+
+/// Once: it is held to, and not timed.
+fn independent_answer(bytes: &[u8]) -> u64 {
+    let (refusal, offset) = nucleus::load(bytes).map_or_else(|bad| bad.numbers(), |_| (0, 0));
+    told(refusal, offset)
 }
 
 /// The dump of these tables, by both.
@@ -158,14 +197,59 @@ fn compare<const N: usize>(rounds: usize, title: &str, meters: &[Meter; N], all:
     }
 }
 
+/// The times of the dumps that can be edited so, added up by meter, and how many these are.
+fn one_edit(rounds: usize, edit: &Edit, dumps: &[Vec<u8>]) -> ([f64; JUDGES.len()], usize) {
+    let (mut sums, mut count) = ([0.0; JUDGES.len()], 0);
+    for bytes in dumps.iter().filter_map(|dump| edit.of(dump)) {
+        let expected = independent_answer(&bytes);
+        assert_eq!(expected % 256, u64::from(edit.refusal), "{}: another refusal", edit.name);
+        for (name, judge, _) in JUDGES {
+            assert_eq!(judge(&bytes), expected, "{}: {name} answers otherwise", edit.name);
+        }
+        let times = best(rounds, JUDGES.map(|(_, judge, _)| judge), &bytes[..]);
+        sums.iter_mut().zip(times).for_each(|(sum, time)| *sum += time / TIMES as f64);
+        count += 1;
+    }
+    (sums, count)
+}
+
+fn ratios(refusal: &str, sums: &[f64]) {
+    print!("{refusal:>3} {:<32}", "to plain");
+    sums.iter().for_each(|sum| print!(" {:>16.2}", sum / sums[0]));
+    println!();
+}
+
+/// One table: a line for each edit, with the mean time over the dumps, and the ratios of the sums for each refusal and for all.
+fn compare_bad(rounds: usize, dumps: &[Vec<u8>]) {
+    print!("\nreading what is no dump\n{:>3} {:<26} {:>5}", "no.", "damage", "dumps");
+    JUDGES.iter().for_each(|(name, ..)| print!(" {name:>16}"));
+    println!();
+    let mut all = [0.0; JUDGES.len()];
+    for edits in EDITS.chunk_by(|one, next| one.refusal == next.refusal) {
+        let mut sums = [0.0; JUDGES.len()];
+        for edit in edits {
+            let (times, count) = one_edit(rounds, edit, dumps);
+            print!("{:>3} {:<26} {count:>5}", edit.refusal, edit.name);
+            times.iter().for_each(|time| print!(" {:>16.1}", time * 1e9 / count as f64));
+            println!();
+            sums.iter_mut().zip(times).for_each(|(sum, time)| *sum += time);
+        }
+        ratios(&edits[0].refusal.to_string(), &sums);
+        all.iter_mut().zip(sums).for_each(|(all, sum)| *all += sum);
+    }
+    ratios("all", &all);
+}
+
 /// A meter of this name once, on typical tables.
 fn run_only(name: &str, file: &str) -> Option<u64> {
     let filled = tables::typical(&[(file.to_string(), timing::read(file))]).pop()?;
     let named = |meters: &[Meter], name: &str| meters.iter().find(|(other, ..)| *other == name).map(|(_, run, _)| *run);
-    match name.strip_prefix('-') {
-        Some(reader) => Some(named(&READERS, reader)?(&dump_of(&filled))),
-        None => Some(named(&WRITERS, name)?(&filled.events)),
+    if let Some(reader) = name.strip_prefix('-') {
+        return Some(named(&READERS, reader)?(&dump_of(&filled)));
     }
+    let Some(judge) = name.strip_prefix('+') else { return Some(named(&WRITERS, name)?(&filled.events)) };
+    let (judge, dump) = (named(&JUDGES, judge)?, dump_of(&filled));
+    Some(EDITS.iter().filter_map(|edit| edit.of(&dump)).map(|bytes| judge(&bytes)).sum())
 }
 
 fn main() -> ExitCode {
@@ -188,5 +272,6 @@ fn main() -> ExitCode {
     println!("best of {rounds}, ns a dump");
     compare(rounds, "writing a dump", &WRITERS, &writing);
     compare(rounds, "reading a dump", &READERS, &reading);
+    compare_bad(rounds, &dumps);
     ExitCode::SUCCESS
 }

@@ -3,6 +3,13 @@
 /// Words of the tables of 20 threads and 20 blocks.
 pub const WORDS: usize = 656;
 
+/// What the reader answers: 0 and 0, or 15 to 19 and the offset of the field at fault.
+#[repr(C)]
+struct Verdict {
+    refusal: u8,
+    offset: usize,
+}
+
 #[link(name = "gauge", kind = "static")]
 extern "C" {
     fn gauge_step(bytes: *const u8, length: usize) -> u64;
@@ -11,6 +18,7 @@ extern "C" {
     fn gauge_check(bytes: *const u8, length: usize) -> u64;
     fn gauge_dump(bytes: *const u8, length: usize) -> u64;
     fn gauge_load(bytes: *const u8, length: usize) -> u64;
+    fn gauge_verdict(bytes: *const u8, length: usize, times: u64) -> Verdict;
     fn gauge_again(bytes: *const u8, length: usize, out: *mut u8, room: usize) -> usize;
     fn gauge_start(memory: *mut u32, words: usize);
     fn gauge_slice(memory: *mut u32, words: usize, bytes: *const u8, length: usize) -> u8;
@@ -46,6 +54,12 @@ pub fn dump(events: &[u8]) -> u64 {
 /// loading::load::load_in 1,000 times: how often the bytes were a dump.
 pub fn load(dump: &[u8]) -> u64 {
     unsafe { gauge_load(dump.as_ptr(), dump.len()) }
+}
+
+/// loading::load::load_in so many times, and once at least: refusal and offset of its last answer.
+pub fn verdict(bytes: &[u8], times: u64) -> (u8, usize) {
+    let verdict = unsafe { gauge_verdict(bytes.as_ptr(), bytes.len(), times) };
+    (verdict.refusal, verdict.offset)
 }
 
 /// What the writer gives of what the reader reads: its length, or 0 if the bytes are no dump.

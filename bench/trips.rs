@@ -1,6 +1,6 @@
 //! trips SEED DUMPS DAMAGES: reads random dumps, and DAMAGES damaged ones of each, by the proved reader, and writes what was read again by the
-//! proved writer. The independent program says which bytes are a dump; what is written again must be those bytes.
-//! The last line is 'N passed, M failed'.
+//! proved writer. The independent program says which bytes are a dump, and of others with which number and offset they are refused; what is
+//! written again must be those bytes. The last line is 'N passed, M failed'.
 
 #[allow(dead_code)]
 mod proved;
@@ -8,10 +8,14 @@ mod proved;
 use nucleus::damage::damage;
 use nucleus::load;
 use nucleus::valid::Dumps;
+use std::collections::BTreeMap;
 use std::process::ExitCode;
 
 /// Always suffices.
 const BUFFER: usize = 1241;
+
+/// The numbers that a reading answers with.
+const NUMBERS: [u8; 6] = [0, 15, 16, 17, 18, 19];
 
 /// What the proved writer gives of what the proved reader reads; nothing, if the bytes are no dump.
 fn again(bytes: &[u8]) -> Option<Vec<u8>> {
@@ -22,25 +26,38 @@ fn again(bytes: &[u8]) -> Option<Vec<u8>> {
     (length > 0).then_some(out)
 }
 
-/// Counts of what was read, refused, and answered otherwise than by the independent program.
+/// How often each number was answered, and how often otherwise than by the independent program.
 #[derive(Default)]
 struct Tally {
-    read: u64,
-    refused: u64,
+    answered: BTreeMap<u8, u64>,
     failed: u64,
 }
 
 impl Tally {
     fn note(&mut self, bytes: &[u8]) {
-        let expected = load(bytes).map(|_| bytes.to_vec());
-        match &expected {
-            Some(_) => self.read += 1,
-            None => self.refused += 1,
-        }
-        if again(bytes) != expected {
+        let expected = load(bytes).map_or_else(|bad| bad.numbers(), |_| (0, 0));
+        *self.answered.entry(expected.0).or_default() += 1;
+        let found = proved::verdict(bytes, 1);
+        let is_same = again(bytes).as_deref() == (expected.0 == 0).then_some(bytes);
+        if found != expected || !is_same {
             self.failed += 1;
-            println!("FAILED  a dump by the independent program: {}; bytes: {bytes:02X?}", expected.is_some());
+            println!("FAILED  number and offset {expected:?} by the independent program, {found:?} by the proved reader");
+            println!("        what is written again is right: {is_same}; bytes: {bytes:02X?}");
         }
+    }
+
+    fn times(&self, number: u8) -> u64 {
+        self.answered.get(&number).copied().unwrap_or(0)
+    }
+
+    fn total(&self) -> u64 {
+        self.answered.values().sum()
+    }
+
+    fn print(&self, what: &str) {
+        let refused: Vec<String> =
+            NUMBERS[1..].iter().map(|&number| format!("{} with {number}", self.times(number))).collect();
+        println!("{what}: {} read; refused: {}", self.times(0), refused.join(", "));
     }
 }
 
@@ -60,10 +77,11 @@ fn main() -> ExitCode {
             damaged.note(&bytes);
         }
     }
-    println!("random dumps: {} read, {} refused", good.read, good.refused);
-    println!("damaged ones: {} read, {} refused", damaged.read, damaged.refused);
+    good.print("random dumps");
+    damaged.print("damaged ones");
     // A random dump is one: a refused one is a failure of the generator.
-    let failed = good.failed + damaged.failed + good.refused;
-    println!("{} passed, {failed} failed", good.read + damaged.read + damaged.refused - (good.failed + damaged.failed));
-    ExitCode::from(u8::from(failed > 0))
+    let refused = good.total() - good.times(0);
+    let failed = good.failed + damaged.failed;
+    println!("{} passed, {} failed", good.times(0) + damaged.total() - failed, failed + refused);
+    ExitCode::from(u8::from(failed + refused > 0))
 }

@@ -114,10 +114,12 @@ static int dump_and_load(void)
     if (first.refusal)
         return failed("no dump", first.refusal);
     print_dump(dump, first.length);
-    uint8_t refusal = nucleus_load(&other, dump, first.length);
-    if (refusal)
-        return failed("the dump is not read", refusal);
-    refusal = nucleus_check(&other);
+    struct nucleus_loaded loaded = nucleus_load(&other, dump, first.length);
+    if (loaded.refusal) {
+        fprintf(stderr, "board: the dump is bad at byte %zu\n", loaded.offset);
+        return failed("the dump is not read", loaded.refusal);
+    }
+    uint8_t refusal = nucleus_check(&other);
     if (refusal)
         return failed("the loaded tables do not meet the table rules", refusal);
     struct nucleus_dumped second = nucleus_dump(&other, again, sizeof again);

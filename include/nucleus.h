@@ -70,8 +70,12 @@ enum nucleus_refusal {
     NUCLEUS_OWN_MANAGER = 10,    /* "own name as manager" */
     NUCLEUS_BAD_TABLES = 11,     /* "the lent tables stand for none that meet the table rules" */
     NUCLEUS_SHORT_BUFFER = 12,   /* "dump buffer shorter than the dump" */
-    NUCLEUS_NO_DUMP = 13,        /* "bytes that are no dump" */
-    NUCLEUS_SHORT_NUMBERS = 14   /* of a batch: "the buffer holds fewer than six numbers per complete field" */
+    NUCLEUS_SHORT_NUMBERS = 14,  /* of a batch: "the buffer holds fewer than six numbers per complete field" */
+    NUCLEUS_DUMP_CUT = 15,       /* of a load: "cut short, wrong length, or no field 1, 3 or 4" */
+    NUCLEUS_DUMP_ORDER = 16,     /* of a load: "unknown tag, tags out of order, or a second 1, 3 or 4" */
+    NUCLEUS_DUMP_RANGE = 17,     /* of a load: "value outside its range (slice, detail and answer as runner, state and kind allow)" */
+    NUCLEUS_DUMP_NAME = 18,      /* of a load: "a name not live where 01 asks for one" */
+    NUCLEUS_DUMP_RULE = 19       /* of a load: "any other rule, rising order included" */
 };
 
 /* Status of the node. */
@@ -151,6 +155,12 @@ struct nucleus_dumped {
     size_t length;   /* of the dump; "a refused dump has length 0" */
 };
 
+struct nucleus_loaded {
+    uint8_t refusal; /* 0, 15 to 19 */
+    size_t offset;   /* "of the first byte of the field at fault, or the length of the input where a field is missing or cut"; with 0 and
+                        19 it is 0 */
+};
+
 struct nucleus_picked {
     uint8_t refusal; /* 0 or 2 */
     uint8_t device;  /* "a refused pick" has 255 */
@@ -166,6 +176,7 @@ struct nucleus_sizes {
 typedef char nucleus_tables_fit[sizeof(struct nucleus_tables) == NUCLEUS_TABLES_BYTES ? 1 : -1];
 typedef char nucleus_report_fits[sizeof(struct nucleus_report) == NUCLEUS_REPORT_BYTES ? 1 : -1];
 typedef char nucleus_lengths_fit[sizeof(size_t) == 8 && sizeof(struct nucleus_dumped) == 16 ? 1 : -1];
+typedef char nucleus_offsets_fit[sizeof(size_t) == 8 && sizeof(struct nucleus_loaded) == 16 ? 1 : -1];
 typedef char nucleus_bytes_fit[sizeof(const uint8_t *) == 8 && sizeof(struct nucleus_bytes) == 16 ? 1 : -1];
 
 /* ---- The calls
@@ -202,8 +213,19 @@ uint8_t nucleus_check(const struct nucleus_tables *tables);
 /* Writes the dump to the front of the buffer; "bytes behind the dump stay". Refusals 11 and 12. */
 struct nucleus_dumped nucleus_dump(const struct nucleus_tables *tables, uint8_t *buffer, size_t length);
 
-/* Puts the tables of a dump there: 0, or 13 for "bytes that are no dump". The room may hold anything before. */
-uint8_t nucleus_load(struct nucleus_tables *tables, const uint8_t *bytes, size_t length);
+/* Puts the tables of a dump there: refusal 0 and offset 0. The room may hold anything before. Bytes that are no dump are refused, and the
+   offset says where they are bad. "Where several rules fail, the first in the list below counts, and within it the earliest field":
+
+   15  at a field 1, 2, 5 or 6 whose length is not 9, 17, 7 or 5. Or at the length of the bytes: the last field's value is not all there,
+       one or two bytes are left that are no whole head, or no field 1, 3 or 4 stands there. Fields 3 and 4 may have any length.
+   16  at a field whose tag is not 1 to 6, or is lower than that of the field right before it, or at a second 1, 3 or 4.
+   17  at a field with a number that is never right there: a status over 3, a name or a device that cannot be, a state over 5, a slice that
+       does not go with the runner, a detail with the state, an answer's sender or word with its kind.
+   18  at a field with a name that no field 2 has: of the runner, a parent, who is wanted, a manager that is set, who is ready or at the
+       clock, who sends or receives a message. Also at a trapped thread whose manager for that trap is none or gone. The name given last
+       and the senders of answers may have ended.
+   19  offset 0: all this is right, and another rule is broken: the status, queues against states, rising names, a cycle of parents .. */
+struct nucleus_loaded nucleus_load(struct nucleus_tables *tables, const uint8_t *bytes, size_t length);
 
 /* Bit n of pending is device n. The pick takes "the lowest pending number from 0 to 31, then the lowest transmitter" (32, 34 .. 46), "then the
    lowest receiver" (33, 35 .. 47), so that a held key does not delay a log. Refusal 2 with none pending, or one over 47. */

@@ -4,7 +4,7 @@
 use crate::batch::{has_room, run};
 use crate::numbers::{refusal, DEVICES, MESSAGES, THREADS};
 use crate::threads::{State, Thread};
-use crate::{load, Answer, Decision, Plain};
+use crate::{load, Answer, Bad, Decision, Plain};
 
 pub use crate::threads::{Held, Message};
 
@@ -120,9 +120,9 @@ pub fn dump_checked(tables: &Tables, buffer: &mut [u8]) -> Result<usize, u8> {
     plain.dump(buffer)
 }
 
-/// Refusal 13 leaves the tables as they are.
-pub fn load_checked(tables: &mut Tables, bytes: &[u8]) -> Result<(), u8> {
-    load(bytes).ok_or(refusal::NO_DUMP)?.write(tables);
+/// A refusal, 15 to 19, leaves the tables as they are.
+pub fn load_checked(tables: &mut Tables, bytes: &[u8]) -> Result<(), Bad> {
+    load(bytes)?.write(tables);
     Ok(())
 }
 

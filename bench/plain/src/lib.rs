@@ -13,6 +13,7 @@
 //! * `batch`    the complete fields of some bytes in one call
 //! * `lent`     step, batch, dump and load over lent tables, which are numbers alone
 //! * `dump`, `load`: the dump's writer and reader
+//! * `fault`    where bytes are bad that are no dump
 //!
 //! With the feature `big` (crate big) the limits are 64 threads and 128 blocks, and there is the step alone: the table rules here have sets of
 //! 32 places.
@@ -27,6 +28,8 @@ mod dispatch;
 mod dump;
 mod ending;
 mod events;
+#[cfg(not(feature = "big"))]
+mod fault;
 mod interrupt;
 #[cfg(not(feature = "big"))]
 pub mod lent;
@@ -44,6 +47,8 @@ mod threads;
 mod tick;
 mod trap;
 
+#[cfg(not(feature = "big"))]
+pub use fault::Bad;
 #[cfg(not(feature = "big"))]
 pub use load::load;
 pub use step::Decision;

@@ -1,24 +1,39 @@
 //! The dump's reader. It takes no field but as the writer gives it: the order of tags, every length, the order of rows (a table rule here)
-//! and the status. Nothing is lost on the way into the rows, so what passes is what the writer gives, and need not be written again.
+//! and the status. Nothing is lost on the way into the rows, so what passes is what the writer gives, and need not be written again. Bytes
+//! that do not pass are no dump: only then is it asked why (`fault`).
 
+use crate::fault::{fault, Bad};
 use crate::numbers::{DEVICES, MESSAGES, THREADS};
 use crate::row::Row;
 use crate::threads::{Held, Message, State, Thread};
 use crate::{Answer, Plain};
 
-/// None for refusal 13.
-pub fn load(bytes: &[u8]) -> Option<Plain> {
-    let (&[1, 0, 9, status, last, runner, slice, since, a, b, c, d], mut rest) = bytes.split_first_chunk()? else {
-        return None;
-    };
-    let beats = u32::from_be_bytes([a, b, c, d]);
-    let mut plain = Plain { last, runner, slice, since, beats, ..Plain::EMPTY };
-    rest = threads(rest, &mut plain.threads)?;
-    rest = names(rest, 3, &mut plain.ready)?;
-    rest = names(rest, 4, &mut plain.clock)?;
-    rest = messages(rest, &mut plain.messages)?;
-    rest = held_words(rest, &mut plain.held)?;
-    (rest.is_empty() && status == plain.status() && plain.meets_rules()).then_some(plain)
+pub fn load(bytes: &[u8]) -> Result<Plain, Bad> {
+    let mut plain = Plain::EMPTY;
+    match plain.read_dump(bytes) {
+        Some(()) => Ok(plain),
+        None => Err(fault(bytes)),
+    }
+}
+
+impl Plain {
+    /// Into empty rows. None if the bytes are no dump.
+    fn read_dump(&mut self, bytes: &[u8]) -> Option<()> {
+        let (&[1, 0, 9, status, last, runner, slice, since, a, b, c, d], mut rest) = bytes.split_first_chunk()? else {
+            return None;
+        };
+        self.last = last;
+        self.runner = runner;
+        self.slice = slice;
+        self.since = since;
+        self.beats = u32::from_be_bytes([a, b, c, d]);
+        rest = threads(rest, &mut self.threads)?;
+        rest = names(rest, 3, &mut self.ready)?;
+        rest = names(rest, 4, &mut self.clock)?;
+        rest = messages(rest, &mut self.messages)?;
+        rest = held_words(rest, &mut self.held)?;
+        (rest.is_empty() && status == self.status() && self.meets_rules()).then_some(())
+    }
 }
 
 /// A field that is none of these ends the row, and the next reader refuses it.

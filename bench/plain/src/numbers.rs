@@ -1,4 +1,4 @@
-//! The fixed numbers of document 01. The crate big is the same code with other limits.
+//! The fixed numbers of document 01, and the refusals of document 02. The crate big is the same code with other limits.
 
 pub const THREADS: usize = if cfg!(feature = "big") { 64 } else { 20 };
 /// Blocks for ordinary messages.
@@ -42,6 +42,10 @@ pub mod refusal {
     pub const OWN_MANAGER: u8 = 10;
     pub const NO_TABLES: u8 = 11;
     pub const SHORT_BUFFER: u8 = 12;
-    pub const NO_DUMP: u8 = 13;
     pub const NO_ROOM: u8 = 14;
+    pub const CUT: u8 = 15;
+    pub const ORDER: u8 = 16;
+    pub const RANGE: u8 = 17;
+    pub const NAME: u8 = 18;
+    pub const RULE: u8 = 19;
 }

@@ -1,8 +1,8 @@
-//! The table rules, for refusals 11 and 13. One pass over the threads finds the place of each name and who is in which state; after it each
+//! The table rules, for refusal 11 and for dumps. One pass over the threads finds the place of each name and who is in which state; after it each
 //! look-up is one load, and every row is walked once.
 
-use crate::numbers::{BEAT, BLOCKS, DEVICES, FIRST, NAMES, NOBODY, NOTICE, ORDINARY, SERVICE, SLICE};
-use crate::threads::{Answer, State, Thread};
+use crate::numbers::{BEAT, BLOCKS, DEVICES, FIRST, NAMES, NOBODY, NOTICE, ORDINARY, SLICE};
+use crate::threads::{State, Thread};
 use crate::Plain;
 
 /// Sets of threads have a bit for each place.
@@ -157,13 +157,5 @@ fn thread_right(thread: &Thread, found: &Found) -> bool {
 }
 
 fn answer_right(thread: &Thread) -> bool {
-    let Answer { kind, sender, word } = thread.answer;
-    let well_formed = match kind {
-        0 => return thread.answer == Answer::NONE,
-        1 | 2 => sender < NAMES,
-        3 => sender < NAMES && word == 0,
-        4 => sender == SERVICE,
-        _ => false,
-    };
-    well_formed && thread.state == State::Ready
+    thread.answer.is_well_formed() && (thread.answer.kind == 0 || thread.state == State::Ready)
 }

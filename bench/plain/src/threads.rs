@@ -1,6 +1,6 @@
 //! Threads, messages, held words and answers.
 
-use crate::numbers::{DEVICES, NOBODY, SERVICE, TRAP_KINDS};
+use crate::numbers::{DEVICES, NAMES, NOBODY, SERVICE, TRAP_KINDS};
 
 #[derive(Clone, Copy, Debug, PartialEq, Eq)]
 pub enum State {
@@ -58,6 +58,17 @@ impl Answer {
 
     pub fn result(word: u32) -> Answer {
         Answer { kind: 4, sender: SERVICE, word }
+    }
+
+    /// Whether sender and word are as the kind allows. Who may have an answer waiting is another rule.
+    pub fn is_well_formed(&self) -> bool {
+        match self.kind {
+            0 => *self == Answer::NONE,
+            1 | 2 => self.sender < NAMES,
+            3 => self.sender < NAMES && self.word == 0,
+            4 => self.sender == SERVICE,
+            _ => false,
+        }
     }
 }
 

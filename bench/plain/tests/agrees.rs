@@ -62,7 +62,7 @@ fn counts_go_round() {
             dump[at + 10..at + 14].fill(255);
             at += 20;
         }
-        let (Some(mut plain), Some(mut node)) = (load(&dump), nucleus::load(&dump)) else { panic!("no dump") };
+        let (Ok(mut plain), Ok(mut node)) = (load(&dump), nucleus::load(&dump)) else { panic!("no dump") };
         let tick = [20, 0, 0];
         assert!(same(plain.step(&tick), node.step(&tick)));
         assert_eq!(dump_of(&plain), node.dump());

@@ -1,8 +1,11 @@
-//! Good and damaged dumps: both programs read them or both refuse them, and what is read is written as the same bytes.
+//! Good and damaged dumps: both programs read them, or both refuse them with the same number at the same offset, and what is read is written
+//! as the same bytes.
 
 mod common;
 use common::*;
+use nucleus::damage::damage;
 use nucleus::random::Random;
+use nucleus::valid::Dumps;
 use plain::lent::{load_checked, Tables};
 use plain::load;
 
@@ -21,21 +24,39 @@ fn a_short_buffer_is_refused_and_stays() {
     }
 }
 
-/// Whether both read it.
-fn loads_agree(bytes: &[u8]) -> bool {
+/// The refusal that both give, or 0.
+fn loads_agree(bytes: &[u8]) -> u8 {
     let loaded = load(bytes);
-    assert_eq!(loaded.is_some(), nucleus::load(bytes).is_some(), "{bytes:?}");
+    let told = loaded.as_ref().map_or_else(|bad| (bad.refusal, bad.offset), |_| (0, 0));
+    let expected = nucleus::load(bytes).map_or_else(|bad| bad.numbers(), |_| (0, 0));
+    assert_eq!(told, expected, "{bytes:?}");
     let before = Tables::start();
     let mut tables = before.clone();
-    let Some(plain) = loaded else {
-        assert_eq!(load_checked(&mut tables, bytes), Err(13));
-        assert_eq!(tables, before);
-        return false;
-    };
-    assert_eq!(dump_of(&plain), bytes);
-    assert_eq!(load_checked(&mut tables, bytes), Ok(()));
-    assert_eq!(dump_of_lent(&tables), bytes);
-    true
+    assert_eq!(load_checked(&mut tables, bytes).err(), loaded.as_ref().err().copied());
+    match loaded {
+        Err(_) => assert_eq!(tables, before),
+        Ok(plain) => {
+            assert_eq!(dump_of(&plain), bytes);
+            assert_eq!(dump_of_lent(&tables), bytes);
+        }
+    }
+    told.0
+}
+
+/// How often each answer came: dumps, then 15 to 19.
+#[derive(Default, Debug)]
+struct Answers([u64; 6]);
+
+impl Answers {
+    fn note(&mut self, bytes: &[u8]) {
+        self.0[usize::from(loads_agree(bytes).saturating_sub(14))] += 1;
+    }
+
+    /// That the test has met enough of each.
+    fn expect(&self, what: &str, least: [u64; 6]) {
+        println!("{what}: dumps and 15 to 19: {:?}", self.0);
+        assert!(self.0.iter().zip(least).all(|(&met, least)| met >= least), "{what}: {self:?}");
+    }
 }
 
 /// One kind of damage: a number, two numbers, a cut, bytes behind, or a part moved by one.
@@ -61,20 +82,34 @@ fn damaged(random: &mut Random, dump: &[u8]) -> Vec<u8> {
 #[test]
 fn good_and_damaged_dumps_agree() {
     let mut random = Random::new(5);
-    let (mut good, mut read, mut refused) = (0, 0, 0);
+    let mut answers = Answers::default();
     for node in nodes(60, 40) {
         let dump = node.dump();
-        assert!(loads_agree(&dump));
-        good += 1;
+        assert_eq!(loads_agree(&dump), 0);
         for _ in 0..200 {
             let bytes = damaged(&mut random, &dump);
             if bytes != dump {
-                *if loads_agree(&bytes) { &mut read } else { &mut refused } += 1;
+                answers.note(&bytes);
             }
         }
     }
-    println!("{good} good dumps; damaged ones: {read} are dumps too, {refused} are refused");
-    assert!(read > 10_000 && refused > 10_000, "{read} {refused}");
+    answers.expect("damaged dumps", [10_000; 6]);
+}
+
+/// Random dumps, and all that the independent program can do to them.
+#[test]
+fn all_damages_agree() {
+    let mut dumps = Dumps::new(4);
+    let mut answers = Answers::default();
+    for _ in 0..4_000 {
+        let dump = dumps.next_dump();
+        assert_eq!(loads_agree(&dump), 0);
+        for _ in 0..20 {
+            let (bytes, _) = damage(&dump, dumps.random());
+            answers.note(&bytes);
+        }
+    }
+    answers.expect("all damages", [1_000; 6]);
 }
 
 fn cut(mut bytes: &[u8]) -> Vec<&[u8]> {
@@ -90,21 +125,21 @@ fn cut(mut bytes: &[u8]) -> Vec<&[u8]> {
 /// Two fields in each other's place, a field left out, a field twice. Messages in one inbox may change places: that is another dump.
 #[test]
 fn fields_in_wrong_places_agree() {
-    let (mut read, mut refused) = (0, 0);
-    let mut count = |fields: Vec<&[u8]>| *if loads_agree(&fields.concat()) { &mut read } else { &mut refused } += 1;
+    let mut answers = Answers::default();
+    let mut note = |fields: Vec<&[u8]>| answers.note(&fields.concat());
     for node in nodes(20, 80) {
         let dump = node.dump();
         let fields = cut(&dump);
         for first in 0..fields.len() {
-            count([&fields[..first], &fields[first + 1..]].concat());
-            count([&fields[..first + 1], &fields[first..]].concat());
+            note([&fields[..first], &fields[first + 1..]].concat());
+            note([&fields[..first + 1], &fields[first..]].concat());
             for second in first + 1..fields.len() {
                 let mut swapped = fields.clone();
                 swapped.swap(first, second);
-                count(swapped);
+                note(swapped);
             }
         }
     }
-    println!("fields in wrong places: {read} are dumps, {refused} are refused");
-    assert!(read > 100 && refused > 10_000, "{read} {refused}");
+    // No value is changed, so none is out of its range.
+    answers.expect("fields in wrong places", [100, 100, 1_000, 0, 100, 1_000]);
 }

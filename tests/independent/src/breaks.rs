@@ -5,6 +5,7 @@
 
 use crate::numbers::{BEAT, BLOCKS, DEVICES, FIRST, GONE, NAMES, NOBODY, SLICE, SSI, THREADS};
 use crate::random::Random;
+use crate::spoil::place_in;
 use crate::tables::{state, RawHeld, RawMessage, RawThread, Rule, Tables};
 
 /// All rules, in document 01's order.
@@ -46,28 +47,29 @@ pub fn break_rule(tables: &mut Tables, rule: Rule, random: &mut Random) -> Optio
         Rule::Slice => tables.slice = 0,
         Rule::Answers => answers(tables, random)?,
     }
-    tables.threads.sort_by_key(|thread| thread.name);
-    tables.messages.sort_by_key(|message| message.receiver);
-    tables.held.sort_by_key(|held| held.device);
+    in_order(tables);
     Some(())
 }
 
+/// The order of the dump.
+pub(crate) fn in_order(tables: &mut Tables) {
+    tables.threads.sort_by_key(|thread| thread.name);
+    tables.messages.sort_by_key(|message| message.receiver);
+    tables.held.sort_by_key(|held| held.device);
+}
+
 /// The place of a thread in one of these states.
-fn in_states(tables: &Tables, states: &[u8], random: &mut Random) -> Option<usize> {
+pub(crate) fn in_states(tables: &Tables, states: &[u8], random: &mut Random) -> Option<usize> {
     let fits = |&place: &usize| states.contains(&tables.threads[place].state);
     let places: Vec<usize> = (0..tables.threads.len()).filter(fits).collect();
     random.choose(&places)
 }
 
-fn any_place<T>(row: &[T], random: &mut Random) -> Option<usize> {
-    (!row.is_empty()).then(|| random.below(row.len() as u64) as usize)
-}
-
-fn live(tables: &Tables) -> Vec<u8> {
+pub(crate) fn live(tables: &Tables) -> Vec<u8> {
     tables.threads.iter().map(|thread| thread.name).collect()
 }
 
-fn dead_name(tables: &Tables, random: &mut Random) -> Option<u8> {
+pub(crate) fn dead_name(tables: &Tables, random: &mut Random) -> Option<u8> {
     let live = live(tables);
     let dead: Vec<u8> = (0..NAMES).filter(|name| !live.contains(name)).collect();
     random.choose(&dead)
@@ -98,11 +100,19 @@ fn ranges(tables: &mut Tables, random: &mut Random) -> Option<()> {
 /// A thread twice, or one more than there may be.
 fn live_names(tables: &mut Tables, random: &mut Random) -> Option<()> {
     if random.one_in(2) {
-        let place = in_states(tables, &[state::RECEIVING, state::TRAPPED], random)?;
-        let twin = tables.threads[place];
-        tables.threads.push(twin);
-        return Some(());
+        thread_twice(tables, random)
+    } else {
+        too_many_threads(tables, random)
     }
+}
+
+pub(crate) fn thread_twice(tables: &mut Tables, random: &mut Random) -> Option<()> {
+    let place = in_states(tables, &[state::RECEIVING, state::TRAPPED], random)?;
+    tables.threads.push(tables.threads[place]);
+    Some(())
+}
+
+pub(crate) fn too_many_threads(tables: &mut Tables, random: &mut Random) -> Option<()> {
     let parent = random.choose(&live(tables))?;
     while tables.threads.len() <= THREADS {
         let name = dead_name(tables, random)?;
@@ -128,7 +138,7 @@ fn receiver(name: u8, parent: u8) -> RawThread {
 
 /// A parent that is not live, oneself, a child, or none; or a parent of thread 0.
 fn parents(tables: &mut Tables, random: &mut Random) -> Option<()> {
-    let place = any_place(&tables.threads, random)?;
+    let place = place_in(&tables.threads, random)?;
     let name = tables.threads[place].name;
     let parent = match random.below(4) {
         0 => dead_name(tables, random)?,
@@ -151,7 +161,7 @@ fn queues(tables: &mut Tables, random: &mut Random) -> Option<()> {
     };
     let has_runner = tables.runner != NOBODY;
     let queue = if has_runner && random.one_in(2) { &mut tables.ready } else { &mut tables.clock };
-    match (any_place(queue, random), random.below(3)) {
+    match (place_in(queue, random), random.below(3)) {
         (Some(place), 0) => drop(queue.remove(place)),
         (Some(place), 1) => queue[place] = wrong,
         (place, _) => queue.insert(place.unwrap_or(0), wrong),
@@ -162,7 +172,7 @@ fn queues(tables: &mut Tables, random: &mut Random) -> Option<()> {
 /// A word held for a device that is waited for, held twice, or two waiters.
 fn devices(tables: &mut Tables, random: &mut Random) -> Option<()> {
     let waiter = in_states(tables, &[state::DEVICE], random);
-    let held = any_place(&tables.held, random);
+    let held = place_in(&tables.held, random);
     match (waiter, held, random.below(3)) {
         (Some(place), _, 0) => {
             let device = tables.threads[place].detail;
@@ -193,7 +203,7 @@ fn names_wanted_and_set(tables: &mut Tables, random: &mut Random) -> Option<()> 
         tables.threads[place].detail = dead;
         return Some(());
     }
-    let place = any_place(&tables.threads, random)?;
+    let place = place_in(&tables.threads, random)?;
     let thread = &mut tables.threads[place];
     let kind = random.below(3) as u8;
     // The manager that a trapped thread waits for has rules of its own.
@@ -214,7 +224,7 @@ fn trapped_manager(tables: &mut Tables, random: &mut Random) -> Option<()> {
 }
 
 /// A message or a notice that its receiver waits for.
-fn no_match(tables: &mut Tables, random: &mut Random) -> Option<()> {
+pub(crate) fn no_match(tables: &mut Tables, random: &mut Random) -> Option<()> {
     let place = in_states(tables, &[state::RECEIVING], random)?;
     let RawThread { name: receiver, detail: wanted, .. } = tables.threads[place];
     let notices: Vec<u8> = trapped_without_notice(tables, receiver, wanted);
@@ -261,11 +271,11 @@ fn message_names(tables: &mut Tables, random: &mut Random) -> Option<()> {
 }
 
 /// The place of a thread that waits for no message.
-fn busy(tables: &Tables, random: &mut Random) -> Option<usize> {
+pub(crate) fn busy(tables: &Tables, random: &mut Random) -> Option<usize> {
     in_states(tables, &[state::RUNNING, state::READY, state::CLOCK, state::DEVICE, state::TRAPPED], random)
 }
 
-fn message_count(tables: &mut Tables, random: &mut Random) -> Option<()> {
+pub(crate) fn message_count(tables: &mut Tables, random: &mut Random) -> Option<()> {
     let place = busy(tables, random)?;
     let receiver = tables.threads[place].name;
     while tables.messages.iter().filter(|message| message.kind == 1).count() <= BLOCKS {
@@ -288,7 +298,7 @@ fn notices(tables: &mut Tables, random: &mut Random) -> Option<()> {
 }
 
 /// The runner waits for the clock, and nobody runs though somebody is ready.
-fn ready_needs_runner(tables: &mut Tables, random: &mut Random) -> Option<()> {
+pub(crate) fn ready_needs_runner(tables: &mut Tables, random: &mut Random) -> Option<()> {
     if tables.runner != NOBODY {
         let runner = tables.runner;
         let thread = tables.threads.iter_mut().find(|thread| thread.name == runner)?;
@@ -308,7 +318,7 @@ fn ready_needs_runner(tables: &mut Tables, random: &mut Random) -> Option<()> {
 
 /// An answer for one that is not ready, or of a wrong form.
 fn answers(tables: &mut Tables, random: &mut Random) -> Option<()> {
-    let place = any_place(&tables.threads, random)?;
+    let place = place_in(&tables.threads, random)?;
     let name = random.below(NAMES.into()) as u8;
     let thread = &mut tables.threads[place];
     let well_formed = [(1, name, 7), (2, name, 7), (3, name, 0), (4, SSI, 7)];

@@ -3,13 +3,14 @@
 //! Most are no dumps any more, but some are dumps of other tables: only the reader can say. A kind that a dump gives no room for (no
 //! message to double, nobody trapped) is not used on it, and another one is drawn.
 
-use crate::breaks;
-use crate::dump;
+use crate::dump::{self, length_of};
 use crate::event::{bytes::field, first_field};
-use crate::numbers::{BEAT, DEVICES, KINDS, NAMES, NOBODY, SLICE};
+use crate::fault::{Cause, CAUSES};
+use crate::numbers::{Refusal, BEAT, NAMES, NOBODY};
 use crate::program::fields_of;
 use crate::random::Random;
-use crate::tables::{state, Rule, Tables};
+use crate::spoil::{self, place_in};
+use crate::tables::{state, Tables};
 
 #[derive(Clone, Copy, Debug, PartialEq, Eq, PartialOrd, Ord)]
 pub enum Damage {
@@ -41,10 +42,10 @@ pub enum Damage {
     LengthChanged,
     /// Value and length are one longer or shorter.
     ValueResized,
-    /// A queue has up to 2,000 names.
+    /// A queue has up to 2,000 names, and seldom as many as a field can have.
     LongQueue,
-    /// A number is over its range.
-    OutOfRange,
+    /// Fields of any tags, most of the right length, with small values, and nothing of the dump.
+    AnyFields,
     /// A name becomes another one, live or not.
     NameChanged,
     /// Something that no rule ties to anything: still a dump.
@@ -53,8 +54,12 @@ pub enum Damage {
     OrderChanged,
     /// Two dumps, one behind the other.
     DumpTwice,
-    /// Well-formed and in order; one table rule is to be broken.
-    Rule(Rule),
+    /// A fault of this cause.
+    Fault(Cause),
+    /// Faults of two of the numbers 15 to 19.
+    TwoNumbers([Refusal; 2]),
+    /// Two faults of one number.
+    TwoPlaces(Refusal),
 }
 
 use Damage::*;
@@ -65,9 +70,11 @@ pub fn kinds() -> Vec<Damage> {
     let mut kinds = vec![
         Bit, Byte, TellingByte, ByteLost, ByteAdded, BytesBehind, Cut, CutBetween, FieldTwice, FieldManyTimes,
         FieldLost, FieldsSwapped, FieldMoved, FieldAdded, TagChanged, LengthChanged, ValueResized, LongQueue,
-        OutOfRange, NameChanged, FreeNumber, OrderChanged, DumpTwice,
+        AnyFields, NameChanged, FreeNumber, OrderChanged, DumpTwice,
     ];
-    kinds.extend(breaks::RULES.map(Rule));
+    kinds.extend(CAUSES.map(Fault));
+    kinds.extend(spoil::TWO_NUMBERS.map(TwoNumbers));
+    kinds.extend(spoil::TWO_PLACES.map(TwoPlaces));
     kinds
 }
 
@@ -88,9 +95,11 @@ pub fn damage_by(bytes: &[u8], kind: Damage, random: &mut Random) -> Option<Vec<
         Bit | Byte | TellingByte | ByteLost | ByteAdded | BytesBehind | Cut | DumpTwice => {
             in_bytes(bytes, kind, random)
         }
-        LongQueue | OutOfRange | NameChanged | FreeNumber | OrderChanged | Rule(_) => {
-            in_tables(bytes, kind, random)?
-        }
+        LongQueue | NameChanged | FreeNumber | OrderChanged => in_tables(bytes, kind, random)?,
+        AnyFields => any_fields(random),
+        Fault(cause) => spoil::spoil(bytes, cause, random)?,
+        TwoNumbers(numbers) => spoil::spoil_twice(bytes, numbers, random)?,
+        TwoPlaces(number) => spoil::spoil_twice(bytes, [number, number], random)?,
         _ => in_fields(bytes, kind, random)?,
     };
     (damaged != bytes).then_some(damaged)
@@ -152,6 +161,22 @@ fn in_fields(bytes: &[u8], kind: Damage, random: &mut Random) -> Option<Vec<u8>>
     Some(fields.concat())
 }
 
+/// A head first, then rising tags, each with a chance to be anything else.
+fn any_fields(random: &mut Random) -> Vec<u8> {
+    let mut fields = Vec::new();
+    for tag in [1, 2, 2, 3, 4, 5, 6] {
+        let tag = if random.one_in(12) { random.below(9) as u8 } else { tag };
+        let queued = random.below(3) as usize;
+        let length = length_of(tag).unwrap_or(queued) + usize::from(random.one_in(20));
+        let value: Vec<u8> =
+            (0..length).map(|_| if random.one_in(3) { telling_byte(random) } else { 0 }).collect();
+        if !random.one_in(10) {
+            fields.extend(field(tag, &value));
+        }
+    }
+    fields
+}
+
 fn added_field(random: &mut Random) -> Vec<u8> {
     let tag = random.below(11) as u8;
     let length = random.choose(&[0, 0, 1, 2, 5, 7, 9, 17]).unwrap_or(0);
@@ -174,77 +199,19 @@ fn in_tables(bytes: &[u8], kind: Damage, random: &mut Random) -> Option<Vec<u8>>
     let mut tables = dump::read(bytes)?;
     match kind {
         LongQueue => lengthen_queue(&mut tables, random),
-        OutOfRange => out_of_range(&mut tables, random)?,
         NameChanged => change_name(&mut tables, random)?,
         FreeNumber => change_free_number(&mut tables, random)?,
         OrderChanged => change_order(&mut tables, random)?,
-        Rule(rule) => breaks::break_rule(&mut tables, rule, random)?,
         _ => return None,
     }
     Some(dump::write(&tables))
 }
 
 fn lengthen_queue(tables: &mut Tables, random: &mut Random) {
-    let names = (0..1 + random.below(2_000)).map(|number| (number % u64::from(NAMES)) as u8);
+    let most = if random.one_in(8) { 65_500 } else { 2_000 };
+    let names = (0..1 + random.below(most)).map(|number| (number % u64::from(NAMES)) as u8);
     let queue = if random.one_in(2) { &mut tables.ready } else { &mut tables.clock };
     queue.extend(names);
-}
-
-/// A place of the row, if it is not empty.
-fn place_in<T>(row: &[T], random: &mut Random) -> Option<usize> {
-    (!row.is_empty()).then(|| random.below(row.len() as u64) as usize)
-}
-
-/// From the limit on up to 255.
-fn over(limit: u8, random: &mut Random) -> u8 {
-    if random.one_in(2) {
-        return limit;
-    }
-    limit + random.below(256 - u64::from(limit)) as u8
-}
-
-fn out_of_range(tables: &mut Tables, random: &mut Random) -> Option<()> {
-    match random.below(12) {
-        0 => tables.status = over(4, random),
-        1 => tables.name_given_last = over(NAMES, random),
-        2 => tables.runner = NAMES,
-        3 => tables.slice = over(SLICE + 1, random),
-        4 => tables.ticks_since_beat = over(BEAT, random),
-        5 => {
-            let place = place_in(&tables.held, random)?;
-            tables.held[place].device = over(DEVICES, random);
-        }
-        6 => {
-            let place = place_in(&tables.messages, random)?;
-            tables.messages[place].kind = random.choose(&[0, 3, 4, 5, 255])?;
-        }
-        7 => {
-            let place = place_in(&tables.ready, random)?;
-            tables.ready[place] = over(NAMES, random);
-        }
-        _ => thread_out_of_range(tables, random)?,
-    }
-    Some(())
-}
-
-fn thread_out_of_range(tables: &mut Tables, random: &mut Random) -> Option<()> {
-    let place = place_in(&tables.threads, random)?;
-    let thread = &mut tables.threads[place];
-    match random.below(5) {
-        0 => thread.name = over(NAMES, random),
-        1 => thread.parent = NAMES,
-        2 => thread.state = over(6, random),
-        3 => thread.answer_kind = over(5, random),
-        _ => {
-            thread.detail = match thread.state {
-                state::RECEIVING => NAMES,
-                state::DEVICE => over(DEVICES, random),
-                state::TRAPPED => over(KINDS, random),
-                _ => over(1, random),
-            }
-        }
-    }
-    Some(())
 }
 
 /// Any of the names in the tables becomes another one.

@@ -1,8 +1,8 @@
 //! The dump's writer and reader.
 
 use crate::event::{bytes::field, first_field, word};
+use crate::fault::{self, Bad};
 use crate::node::Node;
-use crate::numbers::Refusal;
 use crate::tables::{RawHeld, RawMessage, RawThread, Tables};
 
 pub const HEAD: u8 = 1;
@@ -15,14 +15,33 @@ pub const HELD: u8 = 6;
 /// No dump is longer than this.
 pub const SUFFICIENT: usize = 1241;
 
+/// The length that the value of a field has, where it is fixed.
+pub fn length_of(tag: u8) -> Option<usize> {
+    match tag {
+        HEAD => Some(9),
+        THREAD => Some(17),
+        MESSAGE => Some(7),
+        HELD => Some(5),
+        _ => None,
+    }
+}
+
 impl Node {
     pub fn dump(&self) -> Vec<u8> {
         write(&self.tables())
     }
 }
 
-/// The node that a dump shows; `None` for refusal 13.
-pub fn load(bytes: &[u8]) -> Option<Node> {
+/// The node that a dump shows, or why and where the bytes are no dump.
+pub fn load(bytes: &[u8]) -> Result<Node, Bad> {
+    node_of(bytes).ok_or_else(|| {
+        let faults = fault::faults(bytes);
+        faults.first().expect("bytes that are no dump have a fault").bad()
+    })
+}
+
+/// "Bytes are a dump exactly if these rules hold and the writer gives those bytes."
+fn node_of(bytes: &[u8]) -> Option<Node> {
     let node = Node::from_tables(&read(bytes)?)?;
     (node.dump() == bytes).then_some(node)
 }
@@ -107,7 +126,7 @@ impl<'a> Fields<'a> {
     }
 }
 
-fn read_head(value: &[u8]) -> Option<Tables> {
+pub(crate) fn read_head(value: &[u8]) -> Option<Tables> {
     let value: &[u8; 9] = value.try_into().ok()?;
     Some(Tables {
         status: value[0],
@@ -120,7 +139,7 @@ fn read_head(value: &[u8]) -> Option<Tables> {
     })
 }
 
-fn read_thread(value: &[u8]) -> Option<RawThread> {
+pub(crate) fn read_thread(value: &[u8]) -> Option<RawThread> {
     let value: &[u8; 17] = value.try_into().ok()?;
     Some(RawThread {
         name: value[0],
@@ -135,23 +154,32 @@ fn read_thread(value: &[u8]) -> Option<RawThread> {
     })
 }
 
-fn read_message(value: &[u8]) -> Option<RawMessage> {
+pub(crate) fn read_message(value: &[u8]) -> Option<RawMessage> {
     let value: &[u8; 7] = value.try_into().ok()?;
     Some(RawMessage { receiver: value[0], sender: value[1], kind: value[2], word: word(&value[3..7]) })
 }
 
-fn read_held(value: &[u8]) -> Option<RawHeld> {
+pub(crate) fn read_held(value: &[u8]) -> Option<RawHeld> {
     let value: &[u8; 5] = value.try_into().ok()?;
     Some(RawHeld { device: value[0], word: word(&value[1..5]) })
 }
 
-/// What is to be said of any bytes: 0 or the refusal, then, if they are a
+/// What is to be said of any bytes: refusal and offset, then, if they are a
 /// dump, a line per field.
 pub fn inspect(bytes: &[u8]) -> String {
     match load(bytes) {
-        Some(node) => format!("0\n{}\n", in_decimal(&node.tables()).join("\n")),
-        None => format!("{}\n", Refusal::NoDump.number()),
+        Ok(node) => accepted(&node.tables()),
+        Err(bad) => refused(bad),
     }
+}
+
+pub(crate) fn accepted(tables: &Tables) -> String {
+    format!("0 0\n{}\n", in_decimal(tables).join("\n"))
+}
+
+pub(crate) fn refused(bad: Bad) -> String {
+    let (refusal, offset) = bad.numbers();
+    format!("{refusal} {offset}\n")
 }
 
 /// Field by field in decimal: the tag, then the values.

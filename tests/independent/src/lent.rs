@@ -48,13 +48,13 @@ pub fn dump(tables: &Tables, buffer: &mut [u8]) -> (u8, usize) {
     (0, bytes.len())
 }
 
-/// Read a dump into lent tables; gives the refusal.
-pub fn load(tables: &mut Tables, bytes: &[u8]) -> u8 {
+/// Read a dump into lent tables; gives refusal and offset. A refusal leaves the tables as they are.
+pub fn load(tables: &mut Tables, bytes: &[u8]) -> (u8, usize) {
     match dump::load(bytes) {
-        Some(node) => {
+        Ok(node) => {
             *tables = node.tables();
-            0
+            (0, 0)
         }
-        None => Refusal::NoDump.number(),
+        Err(bad) => bad.numbers(),
     }
 }

@@ -6,8 +6,9 @@
 //! * `node`      the tables and the step
 //! * `tables`    the tables as plain numbers, and the table rules
 //! * `dump`      the dump's writer and reader
+//! * `fault`     what is at fault in bytes that are no dump, and where (refusals 15 to 19)
 //! * `batch`     a batch of events in one call
-//! * `lent`      step, batch, dump and load over lent plain tables (refusals 11 to 14)
+//! * `lent`      step, batch, dump and load over lent plain tables (refusals 11, 12 and 14 to 19)
 //! * `program`   the event program
 //!
 //! And what makes and compares inputs:
@@ -18,7 +19,8 @@
 //! * `rings`     rows and rings of threads that wait for each other
 //! * `census`    what runs reach
 //! * `valid`     random tables that meet the table rules, and their dumps
-//! * `damage`    damaged dumps; `breaks` those with one table rule broken
+//! * `damage`    damaged dumps; `breaks` those with one table rule broken, `spoil` those with a fault of one cause
+//! * `verdicts`  what bytes were refused for, counted
 //! * `compare`   the comparison of programs under test with this one
 //! * `slips`     programs with one slip each, which it has to find
 //! * `hex`       fields in hex
@@ -30,6 +32,7 @@ pub mod compare;
 pub mod damage;
 pub mod dump;
 pub mod event;
+pub mod fault;
 pub mod generator;
 pub mod hex;
 pub mod lent;
@@ -40,12 +43,15 @@ pub mod random;
 pub mod rings;
 pub mod rubbish;
 pub mod slips;
+pub mod spoil;
 pub mod tables;
 pub mod thread;
 pub mod valid;
+pub mod verdicts;
 
 pub use dump::load;
 pub use event::pick;
+pub use fault::{Bad, Cause};
 pub use node::{Decision, Node, Status};
 pub use numbers::Refusal;
 pub use tables::{Rule, Tables};

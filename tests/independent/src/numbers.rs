@@ -31,7 +31,7 @@ pub const TERMINALS: u8 = 8;
 pub const KINDS: u8 = 3;
 
 /// The refusals, each with the document's number.
-#[derive(Clone, Copy, Debug, PartialEq, Eq)]
+#[derive(Clone, Copy, Debug, PartialEq, Eq, PartialOrd, Ord)]
 #[repr(u8)]
 pub enum Refusal {
     /// An event comes when halted or panicked.
@@ -58,11 +58,23 @@ pub enum Refusal {
     BadTables = 11,
     /// The dump buffer is shorter than the dump.
     ShortBuffer = 12,
-    /// The bytes are no dump.
-    NoDump = 13,
     /// The buffer of a batch holds fewer than six numbers per complete field.
     ShortBatch = 14,
+    /// Bytes cut short, a wrong length, or no field 1, 3 or 4.
+    CutShort = 15,
+    /// An unknown tag, tags out of order, or a second 1, 3 or 4.
+    OutOfPlace = 16,
+    /// A value outside its range.
+    OutOfRange = 17,
+    /// A name not live where one is asked for.
+    NameNotLive = 18,
+    /// Any other rule of a dump, rising order included.
+    OtherRule = 19,
 }
+
+/// The refusals of bytes that are no dump, in the order in which they count (document 02, CR 4).
+pub const OF_BYTES: [Refusal; 5] =
+    [Refusal::CutShort, Refusal::OutOfPlace, Refusal::OutOfRange, Refusal::NameNotLive, Refusal::OtherRule];
 
 impl Refusal {
     pub fn number(self) -> u8 {

@@ -1,13 +1,16 @@
 //! The three programs with one slip each, to show that the comparison finds it.
 //!
-//! A slip of the event program changes the tables or the decision after a step that is right, or the lines. It is given by name.
+//! A slip of the event program changes the tables or the decision after a step that is right, or the lines. A slip of inspect changes which
+//! fault counts, or the number or the place that it has. It is given by name.
 
+use crate::batch::complete_fields;
 use crate::dump;
 use crate::event::{self, bytes, Event, Request};
+use crate::fault::{self, Cause, Fault};
 use crate::node::{Decision, Node};
-use crate::numbers::{GONE, NAMES, NOBODY, SLICE};
+use crate::numbers::{Refusal, GONE, NAMES, NOBODY, SLICE};
 use crate::program::{self, FieldReader};
-use crate::tables::{state, Rule, Tables};
+use crate::tables::{state, Tables};
 use std::io::{self, Read, Write};
 
 /// Changes what comes of a step: the node before it, the field, the tables after it, the decision.
@@ -50,8 +53,30 @@ pub const IN_LINES: [&str; 9] = [
 pub const IN_SNAPSHOT: [&str; 4] =
     ["a byte behind", "no held words", "counts in a byte", "inboxes newest first"];
 
-pub const IN_INSPECT: [&str; 4] =
-    ["asks for no rule", "asks for no order", "prints words below 0", "no first line"];
+/// Beside these, the name of a cause makes it forget that cause.
+pub const IN_INSPECT: [&str; 21] = [
+    "asks for no rule",
+    "asks for no order",
+    "prints words below 0",
+    "no first line",
+    "one number for all",
+    "counts tags before lengths",
+    "counts names before ranges",
+    "counts the earliest field of all",
+    "counts the last field of a number",
+    "gives the place of the value",
+    "gives the place of a cut field",
+    "gives 0 for a missing field",
+    "gives the field that came too early",
+    "measures a field that is cut",
+    "wants the name given last to be live",
+    "wants senders of answers to be live",
+    "takes no manager of a trapped thread for another rule",
+    "takes dead names in queues for another rule",
+    "takes the slice for another rule",
+    "takes answers of threads not ready for a range",
+    "takes the offset in 8 bits",
+];
 
 // ---- slips in a step ----
 
@@ -162,7 +187,8 @@ fn gives_the_lowest(before: &Node, field: &[u8], _: &mut Tables, decision: &mut 
 
 /// Is a thread made, so that the word is its name?
 fn makes(field: &[u8], decision: &Decision) -> bool {
-    let made = matches!(event::read(field), Some(Event::Request(Request::CreateSon | Request::CreateBrother)));
+    let made =
+        matches!(event::read(field), Some(Event::Request(Request::CreateSon | Request::CreateBrother)));
     made && decision.refusal == 0
 }
 
@@ -182,7 +208,13 @@ fn picks_receivers_first(before: &Node, field: &[u8], tables: &mut Tables, decis
 }
 
 /// What an accepted interrupt would have done with another of its pending devices.
-fn picks(before: &Node, field: &[u8], tables: &mut Tables, decision: &mut Decision, device: impl Fn(u64) -> u32) {
+fn picks(
+    before: &Node,
+    field: &[u8],
+    tables: &mut Tables,
+    decision: &mut Decision,
+    device: impl Fn(u64) -> u32,
+) {
     let Some(Event::Interrupt { status, .. }) = event::read(field) else { return };
     let pending = field[3..11].iter().fold(0u64, |number, &byte| number << 8 | u64::from(byte));
     let mut other = before.clone();
@@ -292,20 +324,20 @@ pub fn snapshot(name: &str, input: impl Read, mut output: impl Write) -> io::Res
     Ok(true)
 }
 
-/// Inspect with a slip; the name of a table rule leaves that rule out.
+/// Inspect with a slip; the name of a cause leaves that cause out.
 pub fn inspect(name: &str, mut input: impl Read, mut output: impl Write) -> io::Result<bool> {
     let mut bytes = Vec::new();
     input.read_to_end(&mut bytes)?;
-    let forgotten = crate::breaks::RULES.into_iter().find(|rule| format!("{rule:?}") == name);
-    if forgotten.is_none() && !IN_INSPECT.contains(&name) {
+    let forgets = fault::CAUSES.iter().any(|cause| format!("{cause:?}") == name);
+    if !forgets && !IN_INSPECT.contains(&name) {
         return Ok(false);
     }
-    let text = match dump::read(&bytes).filter(|tables| is_taken(tables, &bytes, name, forgotten)) {
-        Some(tables) => format!("0\n{}\n", dump::in_decimal(&tables).join("\n")),
-        None => "13\n".to_string(),
+    let text = match verdict_with(name, &bytes) {
+        Some((refusal, offset)) => format!("{refusal} {offset}\n"),
+        None => dump::read(&bytes).map_or("0 0\n".to_string(), |tables| dump::accepted(&tables)),
     };
     let text = match name {
-        "no first line" => text.replacen("0\n", "", 1),
+        "no first line" => text.replacen("0 0\n", "", 1),
         "prints words below 0" => text.split_inclusive([' ', '\n']).map(with_sign).collect(),
         _ => text,
     };
@@ -323,13 +355,87 @@ fn with_sign(number: &str) -> String {
     }
 }
 
-fn is_taken(tables: &Tables, bytes: &[u8], name: &str, forgotten: Option<Rule>) -> bool {
-    let rules =
-        name == "asks for no rule" || tables.broken_rules().iter().all(|&rule| Some(rule) == forgotten);
-    let mut in_order = tables.clone();
-    in_order.threads.sort_by_key(|thread| thread.name);
-    in_order.messages.sort_by_key(|message| message.receiver);
-    in_order.held.sort_by_key(|held| held.device);
-    let order = name == "asks for no order" || dump::write(&in_order) == bytes;
-    rules && order
+/// Number and place of the fault that counts, if it finds any.
+fn verdict_with(name: &str, bytes: &[u8]) -> Option<(u8, usize)> {
+    let mut found: Vec<(u8, usize)> = fault::faults(bytes)
+        .iter()
+        .filter(|fault| !is_forgotten(name, fault.cause))
+        .map(|fault| (number_with(name, fault.cause), place_with(name, fault, bytes)))
+        .collect();
+    found.extend(found_beside(name, bytes));
+    let counts = |&(number, place): &(u8, usize)| match (name, number) {
+        ("counts tags before lengths", 15) => (16, place),
+        ("counts tags before lengths", 16) => (15, place),
+        ("counts names before ranges", 17) => (18, place),
+        ("counts names before ranges", 18) => (17, place),
+        ("counts the earliest field of all", _) => (0, place),
+        ("counts the last field of a number", _) => (number, usize::MAX - place),
+        _ => (number, place),
+    };
+    let (number, place) = found.into_iter().min_by_key(counts)?;
+    match name {
+        "one number for all" => Some((15, place)),
+        "takes the offset in 8 bits" => Some((number, place & 0xFF)),
+        _ => Some((number, if number == 19 { 0 } else { place })),
+    }
+}
+
+fn is_forgotten(name: &str, cause: Cause) -> bool {
+    let of_order = matches!(cause, Cause::ThreadsNotRising | Cause::MessagesNotRising | Cause::HeldNotRising);
+    match name {
+        "asks for no rule" => cause.refusal() > Refusal::OutOfPlace && !of_order,
+        "asks for no order" => of_order,
+        _ => format!("{cause:?}") == name,
+    }
+}
+
+fn number_with(name: &str, cause: Cause) -> u8 {
+    match (name, cause) {
+        ("takes no manager of a trapped thread for another rule", Cause::NoManagerOfTrapped) => 19,
+        ("takes dead names in queues for another rule", Cause::ReadyNotLive | Cause::ClockNotLive) => 19,
+        ("takes the slice for another rule", Cause::SliceOfRunner | Cause::SliceOfNobody) => 19,
+        ("takes answers of threads not ready for a range", Cause::AnswerOfNotReady) => 17,
+        _ => cause.refusal().number(),
+    }
+}
+
+fn place_with(name: &str, fault: &Fault, bytes: &[u8]) -> usize {
+    let ends = || complete_fields(bytes).into_iter().map(<[u8]>::len);
+    match (name, fault.cause) {
+        ("gives the place of a cut field", Cause::CutField | Cause::StrayBytes) => ends().sum(),
+        ("gives 0 for a missing field", Cause::Missing(_)) => 0,
+        ("gives the field that came too early", Cause::OutOfOrder) => field_before(bytes, fault.offset),
+        ("gives the place of the value", _) if fault.offset < bytes.len() => fault.offset + 3,
+        _ => fault.offset,
+    }
+}
+
+/// Where the field before the one at this place begins.
+fn field_before(bytes: &[u8], place: usize) -> usize {
+    let before = complete_fields(&bytes[..place]);
+    place - before.last().map_or(0, |field| field.len())
+}
+
+/// Faults where there are none.
+fn found_beside(name: &str, bytes: &[u8]) -> Option<(u8, usize)> {
+    let fields = complete_fields(bytes);
+    let end = fields.iter().map(|field| field.len()).sum::<usize>();
+    match name {
+        "measures a field that is cut" => {
+            let length = dump::length_of(*bytes.get(end)?)?;
+            let declared = bytes.get(end + 1..end + 3)?;
+            (declared != (length as u16).to_be_bytes()).then_some((15, end))
+        }
+        "wants the name given last to be live" => {
+            let tables = dump::read(bytes)?;
+            (!tables.is_live(tables.name_given_last)).then_some((18, 0))
+        }
+        "wants senders of answers to be live" => {
+            let tables = dump::read(bytes)?;
+            let dead = |kind, sender| matches!(kind, 1..=3) && !tables.is_live(sender);
+            let place = tables.threads.iter().position(|t| dead(t.answer_kind, t.answer_sender))?;
+            Some((18, fields[0].len() + fields[1..=place].iter().map(|field| field.len()).sum::<usize>()))
+        }
+        _ => None,
+    }
 }

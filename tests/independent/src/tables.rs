@@ -149,7 +149,7 @@ impl Tables {
     }
 
     /// Going from parent to parent comes to a thread without one.
-    fn line_of_parents_ends(&self, thread: &RawThread) -> bool {
+    pub(crate) fn line_of_parents_ends(&self, thread: &RawThread) -> bool {
         let mut parent = thread.parent;
         for _ in 0..self.threads.len() {
             match self.thread(parent) {
@@ -161,14 +161,13 @@ impl Tables {
     }
 
     fn queues_hold(&self) -> bool {
-        let runners: Vec<u8> = if self.has_runner() { vec![self.runner] } else { Vec::new() };
-        self.are_in_state(&runners, state::RUNNING)
+        self.are_in_state(&self.runners(), state::RUNNING)
             && self.are_in_state(&self.ready, state::READY)
             && self.are_in_state(&self.clock, state::CLOCK)
     }
 
     /// The row has the threads of this state, each once, and no other.
-    fn are_in_state(&self, row: &[u8], state: u8) -> bool {
+    pub(crate) fn are_in_state(&self, row: &[u8], state: u8) -> bool {
         let mut row = row.to_vec();
         let mut names: Vec<u8> =
             self.threads.iter().filter(|thread| thread.state == state).map(|thread| thread.name).collect();
@@ -204,7 +203,7 @@ impl Tables {
             .all(|thread| manager_waited_for(thread).is_some_and(|manager| self.is_live(manager)))
     }
 
-    fn inboxes_hold_no_match(&self) -> bool {
+    pub(crate) fn inboxes_hold_no_match(&self) -> bool {
         self.threads.iter().filter(|thread| thread.state == state::RECEIVING).all(|thread| {
             self.messages
                 .iter()
@@ -217,7 +216,7 @@ impl Tables {
         self.messages.iter().all(|message| self.is_live(message.sender) && self.is_live(message.receiver))
     }
 
-    fn message_count_holds(&self) -> bool {
+    pub(crate) fn message_count_holds(&self) -> bool {
         self.messages.iter().filter(|message| message.kind == 1).count() <= BLOCKS
     }
 
@@ -253,19 +252,28 @@ impl Tables {
         }
     }
 
-    fn has_runner(&self) -> bool {
+    pub(crate) fn has_runner(&self) -> bool {
         self.runner != NOBODY
     }
 
-    fn anybody_ready(&self) -> bool {
+    /// The runner, or nobody.
+    pub(crate) fn runners(&self) -> Vec<u8> {
+        if self.has_runner() {
+            vec![self.runner]
+        } else {
+            Vec::new()
+        }
+    }
+
+    pub(crate) fn anybody_ready(&self) -> bool {
         !self.ready.is_empty() || self.threads.iter().any(|thread| thread.state == state::READY)
     }
 
-    fn thread(&self, name: u8) -> Option<&RawThread> {
+    pub(crate) fn thread(&self, name: u8) -> Option<&RawThread> {
         self.threads.iter().find(|thread| thread.name == name)
     }
 
-    fn is_live(&self, name: u8) -> bool {
+    pub(crate) fn is_live(&self, name: u8) -> bool {
         is_name(name) && self.thread(name).is_some()
     }
 
@@ -274,11 +282,11 @@ impl Tables {
     }
 }
 
-fn is_name(number: u8) -> bool {
+pub(crate) fn is_name(number: u8) -> bool {
     number < NAMES
 }
 
-fn is_name_or_nobody(number: u8) -> bool {
+pub(crate) fn is_name_or_nobody(number: u8) -> bool {
     is_name(number) || number == NOBODY
 }
 
@@ -299,7 +307,7 @@ fn message_in_range(message: &RawMessage) -> bool {
 }
 
 /// The manager a trapped thread waits for, if its entry is a name.
-fn manager_waited_for(thread: &RawThread) -> Option<u8> {
+pub(crate) fn manager_waited_for(thread: &RawThread) -> Option<u8> {
     if thread.state != state::TRAPPED {
         return None;
     }

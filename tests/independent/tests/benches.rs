@@ -88,5 +88,5 @@ fn p10_the_first_dump() {
         hex("010009 00 00 00 05 00 00000000 020011 00 FF 00 00 FFFFFF 00000000 00 FF 00000000 030000 040000");
     assert_eq!(expected.len(), 38);
     assert_eq!(Node::start().dump(), expected);
-    assert_eq!(load(&expected), Some(Node::start()));
+    assert_eq!(load(&expected), Ok(Node::start()));
 }

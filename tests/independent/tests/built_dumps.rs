@@ -3,8 +3,10 @@
 use nucleus::breaks::{break_rule, RULES};
 use nucleus::damage::{self, damage_by, Damage};
 use nucleus::dump;
+use nucleus::fault::{deciding, faults, CAUSES};
 use nucleus::random::Random;
 use nucleus::valid::{self, Dumps};
+use nucleus::verdicts::Verdicts;
 use std::collections::BTreeMap;
 
 #[test]
@@ -46,11 +48,11 @@ fn both_ways() -> BTreeMap<Damage, (u64, u64)> {
             assert_ne!(damaged, bytes);
             let (still, not) = seen.entry(kind).or_insert((0, 0));
             match dump::load(&damaged) {
-                Some(node) => {
+                Ok(node) => {
                     assert_eq!(node.dump(), damaged);
                     *still += 1;
                 }
-                None => *not += 1,
+                Err(_) => *not += 1,
             }
         }
     }
@@ -70,8 +72,10 @@ fn damage_goes_both_ways() {
             }
             FreeNumber | OrderChanged => assert!(still > 20 && not == 0, "{kind:?} {still} {not}"),
             ByteLost | ByteAdded | BytesBehind | TagChanged | LengthChanged | ValueResized | LongQueue
-            | OutOfRange | DumpTwice => assert!(still == 0 && not > 20, "{kind:?} {still} {not}"),
-            FieldAdded | Rule(_) => assert!(not > 20, "{kind:?} {still} {not}"),
+            | DumpTwice | Fault(_) => assert!(still == 0 && not > 20, "{kind:?} {still} {not}"),
+            FieldAdded | AnyFields | TwoNumbers(_) | TwoPlaces(_) => {
+                assert!(not > 20, "{kind:?} {still} {not}")
+            }
         }
     }
 }
@@ -91,11 +95,51 @@ fn every_rule_is_broken_alone() {
             let bytes = dump::write(&tables);
             assert_eq!(dump::read(&bytes), Some(tables.clone()), "well-formed");
             if tables.broken_rules() == [rule] {
-                assert!(dump::load(&bytes).is_none());
+                assert!(dump::load(&bytes).is_err());
                 alone += 1;
             }
         }
         println!("{rule:?}: {tried} times, {alone} times alone");
         assert!(alone > 300, "{rule:?}: {tried} times, {alone} times alone");
     }
+}
+
+/// Every damage for a cause is refused with its number, and most of them for that cause alone.
+#[test]
+fn every_cause_decides_alone() {
+    let mut dumps = Dumps::new(23);
+    for cause in CAUSES {
+        let (mut tried, mut alone) = (0, 0);
+        while tried < 200 {
+            let bytes = dumps.next_dump();
+            let Some(damaged) = damage_by(&bytes, Damage::Fault(cause), dumps.random()) else { continue };
+            tried += 1;
+            let bad = dump::load(&damaged).expect_err("no dump");
+            assert_eq!(bad.refusal, cause.refusal(), "{cause:?}");
+            alone += u32::from(deciding(&faults(&damaged)) == Some(cause));
+        }
+        assert!(alone > 120, "{cause:?}: {alone} of {tried}");
+    }
+}
+
+/// What the faults say of any bytes agrees with "these rules hold and the writer gives those bytes"; and each number, each cause, each
+/// pair of numbers and each number in two places comes up.
+#[test]
+fn faults_agree_with_the_rules_and_the_writer() {
+    let mut dumps = Dumps::new(29);
+    let mut verdicts = Verdicts::default();
+    for _ in 0..20_000 {
+        let bytes = dumps.next_dump();
+        verdicts.note(&bytes);
+        let (damaged, _) = damage::damage(&bytes, dumps.random());
+        verdicts.note(&damaged);
+        // Damage upon damage, as far as the bytes can still be read.
+        if dump::read(&damaged).is_some() {
+            verdicts.note(&damage::damage(&damaged, dumps.random()).0);
+        }
+    }
+    assert!(verdicts.read > 20_000);
+    assert!(verdicts.refusals().iter().all(|(_, times)| *times > 1_000), "{:?}", verdicts.refusals());
+    assert!(verdicts.causes().iter().all(|(_, times)| *times > 20), "{:?}", verdicts.causes());
+    assert!(verdicts.several().iter().all(|(_, times)| *times > 20), "{:?}", verdicts.several());
 }

@@ -2,7 +2,6 @@
 
 mod common;
 use common::*;
-use nucleus::breaks::RULES;
 use nucleus::census::Census;
 use nucleus::compare::check::{self, Program};
 use nucleus::compare::names::{renamed, replayed};
@@ -10,6 +9,7 @@ use nucleus::compare::plan::{batch, BATCHES};
 use nucleus::compare::shrink::Shrinker;
 use nucleus::compare::source::Source;
 use nucleus::compare::subject::{Said, Subject};
+use nucleus::fault::CAUSES;
 use nucleus::program::fields_of;
 use nucleus::slips::{self, IN_INSPECT, IN_LINES, IN_SNAPSHOT, IN_STEP};
 use std::io::Read;
@@ -168,15 +168,17 @@ fn inspected(slip: &str, bytes: &[u8]) -> String {
     String::from_utf8(said).unwrap()
 }
 
-/// The batches of the fixed run find an inspect that leaves any one table rule out.
+/// The batches of the fixed run find an inspect that forgets any one cause, or counts or places faults otherwise.
 #[test]
 fn slips_of_inspect_are_found_by_the_fixed_run() {
     let dumps: Vec<Vec<u8>> = BATCHES.flat_map(batch).map(|(bytes, _)| bytes).collect();
-    let rules = RULES.map(|rule| format!("{rule:?}"));
-    for slip in rules.iter().map(String::as_str).chain(IN_INSPECT) {
-        let found = dumps.iter().filter(|dump| inspected(slip, dump) != nucleus::dump::inspect(dump)).count();
+    let wanted: Vec<String> = dumps.iter().map(|dump| nucleus::dump::inspect(dump)).collect();
+    let causes = CAUSES.map(|cause| format!("{cause:?}"));
+    for slip in causes.iter().map(String::as_str).chain(IN_INSPECT) {
+        let found =
+            dumps.iter().zip(&wanted).filter(|(dump, wanted)| inspected(slip, dump) != **wanted).count();
         println!("{slip}: {found} of {} dumps", dumps.len());
-        assert!(found >= 2, "{slip}: {found}");
+        assert!(found >= 5, "{slip}: {found}");
     }
 }
 

@@ -39,7 +39,7 @@ impl fmt::Display for Ground {
 /// The node that the words stand for.
 pub fn judge(said: &Said) -> Result<Node, Ground> {
     let bytes = written(said)?;
-    load(&bytes).ok_or_else(|| ground(&bytes))
+    load(&bytes).map_err(|_| ground(&bytes))
 }
 
 fn ground(bytes: &[u8]) -> Ground {

@@ -33,6 +33,14 @@ pub struct Dumped {
     pub length: usize,
 }
 
+/// What reading bytes answers, and where they are bad.
+#[repr(C)]
+#[derive(Clone, Copy, Debug, PartialEq, Eq)]
+pub struct Loaded {
+    pub refusal: u8,
+    pub offset: usize,
+}
+
 #[repr(C)]
 #[derive(Clone, Copy, Debug, PartialEq, Eq)]
 pub struct Picked {
@@ -64,7 +72,7 @@ extern "C" {
     pub fn nucleus_batch(tables: *mut u32, events: *mut Bytes, numbers: *mut u32, room: usize, refusal: *mut u8);
     pub fn nucleus_check(tables: *const u32) -> u8;
     fn nucleus_dump(tables: *const u32, out: *mut u8, room: usize) -> Dumped;
-    fn nucleus_load(tables: *mut u32, bytes: *const u8, length: usize) -> u8;
+    fn nucleus_load(tables: *mut u32, bytes: *const u8, length: usize) -> Loaded;
     fn nucleus_pick(pending: u64) -> Picked;
     fn nucleus_sizes() -> Sizes;
 }
@@ -125,7 +133,7 @@ impl Room {
         unsafe { nucleus_dump(self.words.as_mut_ptr(), out.as_mut_ptr(), out.len()) }
     }
 
-    pub fn load(&mut self, bytes: &[u8]) -> u8 {
+    pub fn load(&mut self, bytes: &[u8]) -> Loaded {
         unsafe { nucleus_load(self.words.as_mut_ptr(), bytes.as_ptr(), bytes.len()) }
     }
 

@@ -106,7 +106,7 @@ impl Tally {
             few("tables that stand:", FILLED, &self.filled),
             few("a step answered", 0..=11, &self.steps),
             few("a dump answered", [0, 11, 12], &self.dumps),
-            few("a load answered", [0, 13], &self.loads),
+            few("a load answered", [0, 15, 16, 17, 18, 19], &self.loads),
             few("a pick answered", [0, 2], &self.picks),
         ];
         missing.concat()

@@ -2,11 +2,11 @@
 
 use crate::events::{self, Known};
 use crate::judge::{judge, written, Ground};
-use crate::lent::{pick, Dumped, Picked, Report, Room, LONGEST};
+use crate::lent::{pick, Dumped, Loaded, Picked, Report, Room, LONGEST};
 use crate::tally::{count, Tally};
 use nucleus::damage::damage;
 use nucleus::random::Random;
-use nucleus::{load, Node};
+use nucleus::{load, Bad, Node};
 use std::fmt::Debug;
 
 /// Refusal 11 of a step: "for 11 both are 255".
@@ -45,7 +45,7 @@ pub fn try_room(
     trial.check(stands);
     trial.dumps(&verdict, plan.dump.is_some());
     if let Some(dump) = plan.dump {
-        trial.loads(written(&said).ok(), verdict.as_ref().ok(), dump);
+        trial.loads(written(&said).ok(), dump);
         trial.start();
         trial.pick();
     }
@@ -115,23 +115,29 @@ impl Trial<'_> {
     }
 
     /// Reading looks at no tables, so any room will do: the bytes that these numbers would be, and a damaged dump.
-    fn loads(&mut self, written: Option<Vec<u8>>, node: Option<&Node>, dump: &[u8]) {
+    fn loads(&mut self, written: Option<Vec<u8>>, dump: &[u8]) {
         if let Some(bytes) = written {
-            self.load(&bytes, node);
+            self.load(&bytes);
         }
         let (bytes, _) = damage(dump, self.random);
-        self.load(&bytes, load(&bytes).as_ref());
+        self.load(&bytes);
     }
 
-    fn load(&mut self, bytes: &[u8], node: Option<&Node>) {
+    /// Refusal and offset, and the tables of the dump; of bytes that are none, no word changes.
+    fn load(&mut self, bytes: &[u8]) {
+        let expected = load(bytes);
+        let (refusal, offset) = expected.as_ref().map_or_else(|bad: &Bad| bad.numbers(), |_| (0, 0));
+        count(&mut self.tally.loads, refusal);
         let mut room = self.lent;
         let found = room.load(bytes);
-        let answer = if node.is_some() { 0 } else { 13 };
-        count(&mut self.tally.loads, answer);
-        self.same("load", found, answer);
-        match node {
-            Some(node) => self.shows("load", &mut room, node),
-            None => self.untouched("load", &room, self.lent),
+        let known = self.wrong.len();
+        self.same("load", found, Loaded { refusal, offset });
+        match &expected {
+            Ok(node) => self.shows("load", &mut room, node),
+            Err(_) => self.untouched("load", &room, self.lent),
+        }
+        if self.wrong.len() > known {
+            self.wrong.insert(known, format!("bytes {}", hex(&bytes[..bytes.len().min(200)])));
         }
     }
 

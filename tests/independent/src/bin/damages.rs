@@ -1,20 +1,15 @@
-//! damages SEED COUNT: damages COUNT random dumps and says for each kind how often the bytes still are a dump, and for each table rule
-//! how often it is the only one broken.
+//! damages SEED COUNT: damages COUNT random dumps and says for each kind how often the bytes still are a dump and how often they are refused
+//! with each number, and for each cause how often the answer rests on it alone.
 
-use nucleus::breaks::RULES;
 use nucleus::damage::{self, Damage};
+use nucleus::load;
 use nucleus::valid::Dumps;
-use nucleus::{dump, load, Rule};
+use nucleus::verdicts::Verdicts;
 use std::collections::BTreeMap;
 use std::process::ExitCode;
 
-#[derive(Default)]
-struct Tally {
-    /// How often damaged, and how often still a dump.
-    kinds: BTreeMap<Damage, (u64, u64)>,
-    /// How often broken alone: by any damage.
-    alone: BTreeMap<Rule, u64>,
-}
+/// How often a dump, then how often 15 to 19.
+type Numbers = [u64; 6];
 
 fn main() -> ExitCode {
     let arguments: Vec<u64> = std::env::args().skip(1).filter_map(|a| a.parse().ok()).collect();
@@ -23,35 +18,25 @@ fn main() -> ExitCode {
         return ExitCode::FAILURE;
     };
     let mut dumps = Dumps::new(seed);
-    let mut tally = Tally::default();
+    let mut kinds: BTreeMap<Damage, Numbers> = BTreeMap::new();
+    let mut verdicts = Verdicts::default();
     for _ in 0..count {
         let bytes = dumps.next_dump();
         let (damaged, kind) = damage::damage(&bytes, dumps.random());
-        tally.note(&damaged, kind);
+        let number = load(&damaged).map_or_else(|bad| bad.numbers().0, |_| 0);
+        kinds.entry(kind).or_default()[usize::from(number.saturating_sub(14))] += 1;
+        verdicts.note(&damaged);
     }
-    tally.print();
+    print(&kinds);
+    verdicts.print_causes();
     ExitCode::SUCCESS
 }
 
-impl Tally {
-    fn note(&mut self, damaged: &[u8], kind: Damage) {
-        let (times, still) = self.kinds.entry(kind).or_default();
-        *times += 1;
-        *still += u64::from(load(damaged).is_some());
-        let broken = dump::read(damaged).map(|tables| tables.broken_rules()).unwrap_or_default();
-        if let [rule] = broken[..] {
-            *self.alone.entry(rule).or_default() += 1;
-        }
-    }
-
-    fn print(&self) {
-        println!("{:28} {:>8} {:>12}", "damage", "times", "still a dump");
-        for (kind, (times, still)) in &self.kinds {
-            println!("{:28} {times:8} {still:12}", format!("{kind:?}"));
-        }
-        println!("\n{:28} {:>16}", "table rule", "alone broken");
-        for rule in RULES {
-            println!("{:28} {:16}", format!("{rule:?}"), self.alone.get(&rule).copied().unwrap_or(0));
-        }
+fn print(kinds: &BTreeMap<Damage, Numbers>) {
+    println!("{:28} {:>8} {:>8} {:>8} {:>8} {:>8} {:>8}", "damage", "dump", 15, 16, 17, 18, 19);
+    for (kind, numbers) in kinds {
+        print!("{:28}", format!("{kind:?}"));
+        numbers.iter().for_each(|times| print!(" {times:8}"));
+        println!();
     }
 }

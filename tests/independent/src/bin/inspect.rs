@@ -1,5 +1,5 @@
-//! Reads a dump on standard input. First line: 0 or the refusal. Then one
-//! line per field: the tag and its values in decimal.
+//! Reads a dump on standard input. First line: refusal and offset, 0 0 for a
+//! dump. Then one line per field: the tag and its values in decimal.
 
 use nucleus::dump;
 use std::io::{self, Read, Write};

@@ -5,10 +5,10 @@ use super::outcome::{Case, Outcome};
 use super::source::Source;
 use super::subject::Subject;
 use crate::census::{Census, STATES};
-use crate::damage::damage;
-use crate::numbers::Refusal;
+use crate::damage::{self, Damage};
 use crate::program::{fields_of, FieldReader};
 use crate::valid::Dumps;
+use crate::verdicts::Verdicts;
 use std::io::Read;
 use std::ops::Range;
 use std::path::PathBuf;
@@ -23,26 +23,20 @@ pub struct Comparison {
     /// How long the search for a short input may last.
     pub shrinking: Duration,
     pub census: Census,
-    pub dumps: Counted,
+    /// Of the dumps that were handed to inspect.
+    pub dumps: Verdicts,
     pub outcome: Outcome,
     since: Instant,
 }
 
-/// Dumps that were handed to inspect.
-#[derive(Clone, Copy, Debug, Default)]
-pub struct Counted {
-    pub read: u64,
-    pub refused: u64,
-}
-
 /// Every refusal that can come in the fixed run comes this often at least.
 const REFUSED: u64 = 100;
-/// And every deep state.
+/// And every deep state, and every cause why bytes are no dump.
 const REACHED: u64 = 10;
-/// Dumps of a batch.
-const BATCH: u64 = 24;
+/// One good dump in a batch stands beside so many damaged ones.
+const DAMAGED: usize = 6;
 /// The batches of the fixed run.
-pub const BATCHES: Range<u64> = 1..17;
+pub const BATCHES: Range<u64> = 1..15;
 
 impl Comparison {
     pub fn new(node: Subject, snapshot: Subject, inspect: Subject, keep: PathBuf) -> Comparison {
@@ -53,7 +47,7 @@ impl Comparison {
             keep,
             shrinking: Duration::from_secs(120),
             census: Census::default(),
-            dumps: Counted::default(),
+            dumps: Verdicts::default(),
             outcome: Outcome::default(),
             since: Instant::now(),
         }
@@ -125,8 +119,7 @@ impl Comparison {
     fn progress(&self, what: &str) {
         let seconds = self.since.elapsed().as_secs();
         let Outcome { passed, failed, .. } = &self.outcome;
-        let Counted { read, refused } = self.dumps;
-        let (events, dumps) = (self.census.events, read + refused);
+        let (events, dumps) = (self.census.events, self.dumps.total());
         println!("{seconds:4} s  {what}: {passed} the same, {failed} not; {events} events, {dumps} dumps");
     }
 
@@ -153,7 +146,7 @@ impl Comparison {
             if !self.outcome.goes_on(Program::Inspect) {
                 return;
             }
-            self.dumps.count(&bytes);
+            self.dumps.note(&bytes);
             let compared = check::whole(Program::Inspect, &self.inspect, &bytes);
             if !matches!(compared, Ok(None)) {
                 let what = format!("dumps of seed {seed}, number {number}: {kind}");
@@ -169,7 +162,8 @@ impl Comparison {
     /// The refusals that the programs can give.
     fn refusals(&self) -> Vec<(usize, u64)> {
         let of_events = self.census.refusals.iter().copied().enumerate().skip(1);
-        of_events.chain([(Refusal::NoDump as usize, self.dumps.refused)]).collect()
+        let of_bytes = self.dumps.refusals().into_iter().map(|(number, times)| (number.into(), times));
+        of_events.chain(of_bytes).collect()
     }
 
     fn print_refusals(&self) {
@@ -177,7 +171,7 @@ impl Comparison {
             println!("{times:9}  refusal {number}");
         }
         println!(
-            "           refusals 11 and 12 are given to calls of the library alone, and cannot come here"
+            "           refusals 11, 12 and 14 are given to calls of the library alone, and cannot come here"
         );
         println!("{:9}  events accepted, {} dumps read", self.census.refusals[0], self.dumps.read);
     }
@@ -191,6 +185,7 @@ impl Comparison {
     fn judge_reached(&mut self) {
         self.print_refusals();
         self.print_states();
+        self.dumps.print_causes();
         if [Program::Node, Program::Inspect].into_iter().any(|program| !self.outcome.goes_on(program)) {
             println!("not all was run, so nothing is asked of these figures");
             return;
@@ -200,33 +195,40 @@ impl Comparison {
         self.outcome.judge_reached(&format!("every refusal {REFUSED} times"), &rare);
         let rare: Vec<&str> = STATES.into_iter().filter(|what| self.census.times(what) < REACHED).collect();
         self.outcome.judge_reached(&format!("every deep state {REACHED} times"), &rare);
+        self.judge_causes();
+    }
+
+    fn judge_causes(&mut self) {
+        let mut rare = self.dumps.causes();
+        rare.retain(|(_, times)| *times < REACHED);
+        self.outcome.judge_reached(&format!("every cause of a refused dump {REACHED} times"), &rare);
+        let mut rare = self.dumps.several();
+        rare.retain(|(_, times)| *times < REACHED);
+        self.outcome.judge_reached(&format!("faults beside each other {REACHED} times"), &rare);
     }
 }
 
-impl Counted {
-    fn count(&mut self, bytes: &[u8]) {
-        match crate::load(bytes) {
-            Some(_) => self.read += 1,
-            None => self.refused += 1,
-        }
-    }
-}
-
-/// Good dumps and damaged ones, one to two, each with what it is.
+/// Each kind of damage once, with good dumps between them, each with what it is.
 pub fn batch(seed: u64) -> Vec<(Vec<u8>, String)> {
     let mut dumps = Dumps::new(seed);
     let mut batch = Vec::new();
-    for number in 0..BATCH {
-        let good = dumps.next_dump();
-        batch.push(match number % 3 {
-            0 => (good, "a good dump".to_string()),
-            _ => {
-                let (bytes, kind) = damage(&good, dumps.random());
-                (bytes, format!("a damaged dump ({kind:?})"))
-            }
-        });
+    for (number, kind) in damage::kinds().into_iter().enumerate() {
+        if number % DAMAGED == 0 {
+            batch.push((dumps.next_dump(), "a good dump".to_string()));
+        }
+        batch.push((damaged(&mut dumps, kind), format!("a damaged dump ({kind:?})")));
     }
     batch
+}
+
+/// The next dump that gives room for this kind.
+fn damaged(dumps: &mut Dumps, kind: Damage) -> Vec<u8> {
+    loop {
+        let good = dumps.next_dump();
+        if let Some(bytes) = damage::damage_by(&good, kind, dumps.random()) {
+            return bytes;
+        }
+    }
 }
 
 /// Files of 40 to 200 events, most of which end in a halt or a panic.
