@@ -1,6 +1,5 @@
 -- The rules on messages, message by message. The index gives the place of a name, and names are distinct: the thread there is the only one.
 -- "A receiver's inbox holds no match" is asked of each thread by the rules, and of each message by the code.
--- Assumes nothing.
 use Prim.Native.Nat.{ℕ, _-_, _≤_, _<_}
 use mathlib.Core.Path.{_≡_, refl, sym, ap, ap₂, _∙_}
 use mathlib.Core.Bool.{Bool, true, false, _&&_, not}

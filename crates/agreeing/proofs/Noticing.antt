@@ -1,6 +1,5 @@
 -- The rule on notices by one pass over the messages: marks at the places of senders say how many notices of each were met.
 -- Names are distinct, so that a notice is the one thread's alone.
--- Assumes nothing.
 use Prim.Native.Nat.{ℕ, zero, suc, _+_, _≤_, _<_}
 use mathlib.Core.Path.{_≡_, refl, sym, ap, _∙_}
 use mathlib.Core.Logic.{_≢_}

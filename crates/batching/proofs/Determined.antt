@@ -1,5 +1,4 @@
 -- A batch on a lent memory, from its promise alone: any two results agree; it equals single calls in order; two batches in a row equal one.
--- Assumes nothing.
 use Prim.Native.Nat.{ℕ, _+_, _-_}
 use mathlib.Core.Path.{_≡_, refl, sym, ap, _∙_}
 use mathlib.Core.Bool.{Bool, true, false}

@@ -1,6 +1,5 @@
 -- From the code to the demands, with batches: whatever a start, single steps and batches leave, call after call, the memory stands for the rules' run of
 -- the events that were run, and each decision told is that of the rules. So the laws on runs speak of batches too.
--- Assumes nothing.
 use Prim.Native.Nat.{ℕ, _≤_}
 use mathlib.Core.Path.{_≡_, refl, sym, ap, ap₂, _∙_, subst}
 use mathlib.Core.Logic.{_↔_}

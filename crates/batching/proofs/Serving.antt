@@ -1,5 +1,4 @@
 -- The exits of a batch: refused with 14, or all complete fields run. And the unread end, where it stands.
--- Assumes nothing.
 use Prim.Native.Nat.{ℕ, _*_, _≤_, _<_}
 use mathlib.Core.Path.{_≡_, sym, ap, _∙_, subst}
 use mathlib.Core.List.{List, [], _++_}

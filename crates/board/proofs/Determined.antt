@@ -1,6 +1,5 @@
 -- Determinacy of the step on lent tables: any two outcomes that its promise allows agree. For start, check, dump, load, pick and sizes the promise is an
 -- equality, or that of the function by value (crates/lending/proofs/Determined.antt).
--- Assumes nothing.
 use Prim.Native.Nat.{ℕ}
 use mathlib.Core.Path.{_≡_, refl, ap, _∙_}
 use mathlib.Core.Logic.{_≢_}

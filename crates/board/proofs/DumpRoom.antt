@@ -1,5 +1,4 @@
 -- What `nucleus_sizes` says of a dump is enough for every one.
--- Assumes nothing.
 use Prim.Native.Nat.{ℕ, _≤_}
 use mathlib.Core.Path.{_≡_}
 use mathlib.Core.Bool.{true}

@@ -1,7 +1,6 @@
 -- From the C entries to the demands. Calls of nucleus_start and nucleus_step, known by what their contracts say alone, are a series in the sense of
 -- crates/lending/proofs/Runs.antt: each contract of a step has a decision that the report tells. So what is lent stands for the rules' run of
 -- those events, the reports are the lines of that run, and the laws there speak of what the entries report.
--- Assumes nothing.
 use Prim.Native.Nat.{ℕ, _+_, _≤_}
 use mathlib.Core.Path.{_≡_, refl, sym, ap, _∙_, subst}
 use mathlib.Core.Logic.{_≢_, _↔_}

@@ -1,5 +1,4 @@
 -- What an entry for a board promises of the words that stand behind a reference.
--- Assumes nothing.
 use Prim.Native.Nat.{ℕ}
 use mathlib.Core.Bool.{true, false}
 use mathlib.Core.Path.{_≡_}

@@ -1,5 +1,5 @@
 -- How many bytes the structs take that C code and the library share.
--- Assumes nothing. What it says of C is the rule that #[repr(C)] names; that the compiler keeps it is not proved.
+-- What it says of C is the rule that #[repr(C)] names; that the compiler keeps it is not proved.
 use Prim.Native.Nat.{ℕ, _+_, _-_, _*_, _/_}
 use mathlib.Core.List.{List, [], _∷_}
 use lib.Dec.{leb}

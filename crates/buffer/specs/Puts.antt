@@ -1,5 +1,4 @@
 -- Bytes put at the front of a lent buffer.
--- Assumes nothing.
 use Prim.Native.Nat.{ℕ}
 use mathlib.Core.Path.{_≡_}
 use mathlib.Core.List.{List, _++_}

@@ -1,5 +1,4 @@
 -- A memory that is shaped for limits has them, and its counts are within them; and the other way round.
--- Assumes nothing.
 use Prim.Native.Nat.{ℕ, _+_, _≤_, _<_}
 use mathlib.Core.Path.{_≡_, refl, ap}
 use mathlib.Core.Bool.{Bool, true}

@@ -1,5 +1,4 @@
 -- The tests of the table rules together: one that fails is enough, and where ten pass the three on threads are left.
--- Assumes nothing.
 use Prim.Native.Nat.{ℕ, _≤_}
 use mathlib.Core.Path.{_≡_, refl, sym}
 use mathlib.Core.Bool.{Bool, true, false, _&&_, true≢false}

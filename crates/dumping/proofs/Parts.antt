@@ -1,5 +1,4 @@
 -- The parts of a dump: the bytes of field 1, how long a dump is up to each part, and that it is short.
--- Assumes nothing.
 use Prim.Native.Nat.{ℕ, _+_, _*_, _≤_, _<_}
 use mathlib.Core.Path.{_≡_}
 use mathlib.Core.List.{List, _∷_, _++_}

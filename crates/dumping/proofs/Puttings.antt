@@ -1,5 +1,4 @@
 -- Loops that put a table into a buffer: what the entries passed are written as stands at the front, all behind it is as it was.
--- Assumes nothing.
 use Prim.Native.Nat.{ℕ, _+_, _*_, _≤_, _<_}
 use mathlib.Core.Path.{_≡_, refl, sym, ap, _∙_}
 use mathlib.Core.Bool.{true, false}

@@ -1,5 +1,4 @@
 -- Words in a dump: those that are right stand there as they are, the others as what they say.
--- Assumes nothing.
 use Prim.Native.Nat.{ℕ, zero, suc, _≤_, _<_}
 use mathlib.Core.Path.{_≡_, refl, ap, _∙_}
 use mathlib.Core.Bool.{true, false, _&&_, true≢false, false≢true}

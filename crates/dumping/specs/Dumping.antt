@@ -1,5 +1,4 @@
 -- What the writer of dumps asks of a memory, and the held word of a device.
--- Assumes nothing.
 use Prim.Native.Nat.{ℕ}
 use mathlib.Core.Path.{_≡_}
 use mathlib.Core.Bool.{true}

@@ -1,5 +1,4 @@
 -- Which words are shown in a dump as they stand: those that would be written for what they say.
--- Assumes nothing.
 use Prim.Native.Nat.{ℕ}
 use mathlib.Core.Bool.{Bool, _&&_, _||_}
 use mathlib.Core.List.{List, [], _∷_, _++_}

@@ -1,5 +1,4 @@
 -- What the code keeps of the fields before one tells what the rules ask of their tags.
--- Assumes nothing.
 use Prim.Native.Nat.{ℕ, zero, suc}
 use mathlib.Core.Bool.{Bool, true, false, _&&_, _||_, not}
 use mathlib.Core.List.{List, [], _∷_}

@@ -1,5 +1,4 @@
 -- The exits of finding a fault: the first of a list is the verdict, where the lists before it are empty.
--- Assumes nothing.
 use Prim.Native.Nat.{ℕ}
 use mathlib.Core.Bool.{Bool, true, false}
 use mathlib.Core.List.{List, []}

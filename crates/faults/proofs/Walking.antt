@@ -1,5 +1,4 @@
 -- A pass: the fields before a place have no fault, and what was kept of them tells their tags.
--- Assumes nothing.
 use Prim.Native.Nat.{ℕ, _+_, _-_, _≤_, _<_}
 use mathlib.Core.Bool.{Bool, true, false, _||_, false≢true}
 use mathlib.Core.List.{List, [], _∷_, map}

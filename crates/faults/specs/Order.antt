@@ -1,5 +1,4 @@
 -- What the code keeps of the fields before one, and what it says by it.
--- Assumes nothing.
 use Prim.Native.Nat.{ℕ}
 use mathlib.Core.Bool.{Bool, false, _&&_, _||_, not}
 use mathlib.Core.List.{List}

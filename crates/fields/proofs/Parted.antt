@@ -1,6 +1,5 @@
 -- A reader taken apart. The struct is Copy, so what it owns is had twice: one copy is kept whole for the exit, and of the other what the slice owns
 -- goes to a function on slice and number, beside the lifetime's token. What a number owns is facts, and is made anew.
--- Assumes nothing.
 use mathlib.Core.Path.{_≡_, refl}
 use Prim.Native.Nat.{_<_, _^_}
 use mathlib.Core.List.{List, [], _∷_}

@@ -1,5 +1,4 @@
 -- What is left for a reader that has advanced.
--- Assumes nothing.
 use Prim.Native.Nat.{ℕ, _*_, _+_, _≤_}
 use mathlib.Core.Path.{_≡_, refl, sym, _∙_}
 use mathlib.Core.Bool.{false}

@@ -1,5 +1,4 @@
 -- The first field of some bytes: how long it is at least and at most, and what it is by what the code tests. Then the field at a place in the bytes.
--- Assumes nothing.
 use Prim.Native.Nat.{ℕ, _+_, _*_, _-_, _≤_, _<_}
 use mathlib.Core.Path.{_≡_, refl, sym, _∙_, ap, ap₂}
 use mathlib.Core.Bool.{Bool, true, false}

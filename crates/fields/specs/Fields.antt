@@ -1,5 +1,4 @@
 -- The fields of a stream of events, and the end of lent bytes.
--- Assumes nothing.
 use Prim.Native.Nat.{ℕ, _+_, _-_}
 use mathlib.Core.Path.{_≡_}
 use mathlib.Core.List.{List}

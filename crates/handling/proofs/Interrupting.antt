@@ -1,5 +1,4 @@
 -- An interrupt: who waits for the device, and that nobody does where a word is held for it.
--- Assumes nothing.
 use Prim.Native.Nat.{ℕ, suc, _<_}
 use mathlib.Core.Path.{_≡_, refl, sym, ap, _∙_}
 use mathlib.Core.Logic.{_≢_}

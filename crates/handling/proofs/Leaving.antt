@@ -1,5 +1,4 @@
 -- What one change after another leaves, and what the next may ask of it.
--- Assumes nothing.
 use Prim.Native.Nat.{ℕ}
 use mathlib.Core.Path.{_≡_, refl, ap, _∙_}
 use mathlib.Core.List.{List}

@@ -1,5 +1,4 @@
 -- What handlers ask of a memory: what the store asks, and of the tables what the rules keep.
--- Assumes nothing.
 use Prim.Native.Nat.{ℕ}
 use mathlib.Core.List.{List}
 use Rattle.laws.proofs.Types.{Inv, Ruled}

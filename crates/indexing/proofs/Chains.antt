@@ -1,5 +1,4 @@
 -- Loops over neighbours in a row: does a relation hold of each entry and its successor? i is the place of the later of the two.
--- Assumes nothing.
 use Prim.Native.Nat.{ℕ, _+_, _-_, _≤_, _<_}
 use mathlib.Core.Path.{_≡_, refl, sym, _∙_, ap}
 use mathlib.Core.Bool.{Bool, true, false, _&&_}

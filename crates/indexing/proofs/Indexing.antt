@@ -1,5 +1,4 @@
 -- The index: how it is filled from the last thread to the first, and what a look into it says of "any" in the table rules.
--- Assumes nothing.
 use Prim.Native.Nat.{ℕ, suc, _+_, _-_, _≤_, _<_}
 use mathlib.Core.Path.{_≡_, refl, sym, ap, _∙_}
 use mathlib.Core.Bool.{Bool, true, false}

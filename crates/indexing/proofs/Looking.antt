@@ -1,5 +1,4 @@
 -- What a search in an array's first n entries, which stopped at the place i, says of "any" in the table rules.
--- Assumes nothing.
 use Prim.Native.Nat.{ℕ, _≤_, _<_}
 use mathlib.Core.Path.{_≡_, ap, _∙_}
 use mathlib.Core.Bool.{Bool, false, _&&_}

@@ -1,5 +1,4 @@
 -- Marks: none at first, one more where a number is met, and what that says of how often it is met in all.
--- Assumes nothing.
 use Prim.Native.Nat.{ℕ, suc, _+_, _≤_, _<_}
 use mathlib.Core.Path.{_≡_, refl, sym, ap, _∙_}
 use mathlib.Core.Logic.{_≢_, ⊎-elim}

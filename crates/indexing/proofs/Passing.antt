@@ -1,5 +1,4 @@
 -- The loops of the table check over a row of the memory: k counts the row r, n is that count as it was read.
--- Assumes nothing.
 use Prim.Native.Nat.{ℕ, _+_, _-_, _≤_, _<_}
 use mathlib.Core.Path.{_≡_, refl, sym, ap, _∙_}
 use mathlib.Core.Bool.{Bool, true, false}

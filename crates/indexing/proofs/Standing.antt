@@ -1,5 +1,4 @@
 -- What is asked of a thread's place, of the runner, of a queue and of a manager, with what was read in place of what stands there.
--- Assumes nothing.
 use Prim.Native.Nat.{ℕ, _<_}
 use mathlib.Core.Path.{_≡_, ap, ap₂, _∙_}
 use mathlib.Core.Bool.{Bool, true, _&&_}

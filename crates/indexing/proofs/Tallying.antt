@@ -1,5 +1,4 @@
 -- How often each name stands in a row, by one pass: the count of each so far and that of the rest are its count in all.
--- Assumes nothing.
 use Prim.Native.Nat.{ℕ, _+_, _≤_, _<_}
 use mathlib.Core.Path.{_≡_, refl, sym, subst, ap, _∙_}
 use mathlib.Core.Bool.{Bool, true, false}

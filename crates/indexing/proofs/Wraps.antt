@@ -1,5 +1,4 @@
 -- The words of a memory are below the wrap by their type, and so are the counts and words that it shows.
--- Assumes nothing.
 use Prim.Native.Nat.{ℕ, zero, suc, _+_, _<_}
 use mathlib.Core.Path.{_≡_, refl, ap, ap₂, _∙_}
 use mathlib.Core.Bool.{Bool, true, _&&_}

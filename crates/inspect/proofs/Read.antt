@@ -1,5 +1,4 @@
 -- Bytes that are not refused leave a memory whose tables can be written.
--- Assumes nothing.
 use Prim.Native.Nat.{ℕ}
 use mathlib.Core.Path.{_≡_}
 use mathlib.Core.List.{List}

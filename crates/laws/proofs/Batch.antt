@@ -1,6 +1,5 @@
 -- A batch of events in one call: how the bytes are cut into complete fields and the unread end, when a batch is refused, that it equals single calls in
 -- order, and that two batches in a row equal one.
--- Assumes nothing.
 use Prim.Native.Nat.{ℕ, zero, suc, _+_, _*_, _-_, _≤_, _<_}
 use mathlib.Core.Path.{_≡_, refl, sym, ap, ap₂, _∙_, subst}
 use mathlib.Core.Bool.{Bool, true, false, _&&_, false≢true}

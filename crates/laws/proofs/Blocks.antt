@@ -1,5 +1,4 @@
--- Law 8, blocks: the ordinary messages queued are those received from inboxes, those discarded and those in inboxes now, and the blocks suffice.
--- Assumes nothing.
+-- Blocks: the ordinary messages queued are those received from inboxes, those discarded and those in inboxes now, and the blocks suffice.
 use Prim.Native.Nat.{ℕ, zero, suc, _+_, _-_, _≤_}
 use mathlib.Core.Path.{_≡_, refl, ap, _∙_}
 use mathlib.Core.Logic.{_↔_}

@@ -1,6 +1,5 @@
 -- Big-endian numbers: two and four bytes are bytes, give back the number that they were made of, and make no larger one than they can. And the
 -- number that four bytes somewhere in a list are.
--- Assumes nothing.
 use Prim.Native.Nat.{ℕ, _+_, _*_, _/_, _%_, _≤_, _<_}
 use mathlib.Core.Path.{_≡_, refl, ap}
 use mathlib.Core.Bool.{true}

@@ -1,5 +1,4 @@
 -- What an event other than a tick does to the runner, the ready queue and the time; and the rank of a ready thread from event to event.
--- Assumes nothing.
 use Prim.Native.Nat.{ℕ, zero, suc, _+_, _-_, _*_, _≤_}
 use mathlib.Core.Path.{_≡_, refl, sym, ap, _∙_}
 use mathlib.Core.Logic.{⊎-elim}

@@ -1,5 +1,4 @@
 -- The ended set is the smallest one: it holds the named thread, holds the dependants of its members, and lies in every set that does.
--- Assumes nothing.
 use Prim.Native.Nat.{ℕ, zero, suc, _+_, _≤_}
 use mathlib.Core.Path.{_≡_, refl, ap, _∙_}
 use mathlib.Core.Logic.{_⊎_, inl, inr, ⊎-elim}

@@ -1,6 +1,5 @@
 -- Who comes: an accepted request 1 or 2 brings one thread, of the next name, which is then the name given last. Every other event brings
 -- nobody and leaves the name given last, also when that thread ends.
--- Assumes nothing.
 use Prim.Native.Nat.{ℕ, zero, suc, _+_}
 use mathlib.Core.Path.{_≡_, refl, sym, ap, _∙_}
 use mathlib.Core.Logic.{_⊎_, inl, inr, ⊎-elim}

@@ -1,5 +1,4 @@
--- Law 9, counts: along a run, beats and each thread's tick count are the numbers of ticks that the rules say, modulo 2^32.
--- Assumes nothing.
+-- Counts: along a run, beats and each thread's tick count are the numbers of ticks that the rules say, modulo 2^32.
 use Prim.Native.Nat.{ℕ, zero, suc, _+_, _*_, _/_, _%_, _<_}
 use mathlib.Core.Path.{_≡_, refl, sym, ap, _∙_}
 use mathlib.Core.Logic.{⊎-elim, _≢_}

@@ -1,5 +1,4 @@
 -- The rule of parents as a test and as a type: going up ends in time exactly if every name has a depth.
--- Assumes nothing.
 use Prim.Native.Nat.{ℕ, zero, suc, _+_, _≤_, _<_}
 use mathlib.Core.Path.{_≡_, refl, ap, _∙_}
 use mathlib.Core.Logic.{⊎-elim, _≢_, _↔_}

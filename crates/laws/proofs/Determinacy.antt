@@ -1,5 +1,4 @@
--- Law 11, determinacy: a promise says that the result equals a definition, so any two results that it allows agree.
--- Assumes nothing.
+-- Determinacy: a promise says that the result equals a definition, so any two results that it allows agree.
 use Prim.Native.Nat.{ℕ}
 use mathlib.Core.Path.{_≡_, sym, ap, _∙_}
 use mathlib.Core.List.{List}

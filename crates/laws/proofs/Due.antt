@@ -1,6 +1,5 @@
 -- Due answers: a thread that is ready with an answer keeps just that answer until it is run or ends. When it is run it is handed
 -- that answer, once: after that it has none.
--- Assumes nothing.
 use Prim.Native.Nat.{ℕ, zero, suc, _+_, _-_, _≤_, _<_}
 use mathlib.Core.Path.{_≡_, refl, sym, ap, _∙_, subst}
 use mathlib.Core.Logic.{_⊎_, inl, inr, ⊎-elim, _≢_}

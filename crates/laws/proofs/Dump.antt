@@ -1,5 +1,4 @@
 -- The dump and its reader: every value comes back, cutting gives the fields, and so reading a dump gives the tables that were written.
--- Assumes nothing.
 use Prim.Native.Nat.{ℕ, _<_}
 use mathlib.Core.Path.{_≡_, refl, sym, ap, ap₂, _∙_}
 use mathlib.Core.Logic.{⊎-elim, _≢_, _↔_}

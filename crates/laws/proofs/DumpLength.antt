@@ -1,5 +1,4 @@
 -- How long a dump can be: the lengths of queues, messages and held words, and from them the length of the dump.
--- Assumes nothing.
 use Prim.Native.Nat.{ℕ, _+_, _*_, _≤_}
 use mathlib.Core.Path.{_≡_, refl, ap, _∙_}
 use mathlib.Core.Logic.{⊎-elim}

@@ -1,5 +1,4 @@
 -- What an ending leaves: nothing names a member of the ended set any more, and who is no member is as before.
--- Assumes nothing.
 use Prim.Native.Nat.{ℕ}
 use mathlib.Core.Path.{_≡_, refl, sym, ap, _∙_, subst}
 use mathlib.Core.Logic.{⊎-elim}

@@ -1,5 +1,4 @@
 -- Ending keeps the rules of families, managers, messages and notices; and thread 0 lives as long as any thread does.
--- Assumes nothing.
 use Prim.Native.Nat.{ℕ, zero, suc, _≤_, _<_}
 use mathlib.Core.Path.{_≡_, refl, sym, ap, _∙_, subst}
 use mathlib.Core.Logic.{⊎-elim, _≢_}

@@ -1,6 +1,5 @@
 -- Manager entries: an entry that named an ended thread is gone, not unset. Otherwise an entry changes only by its thread's own request
 -- 4, 5 or 6, which sets one that is unset.
--- Assumes nothing.
 use Prim.Native.Nat.{ℕ, zero, suc, _+_, _<_}
 use mathlib.Core.Path.{_≡_, refl, sym, ap, ap₂, _∙_, subst}
 use mathlib.Core.Logic.{_⊎_, inl, inr, ⊎-elim, _≢_}

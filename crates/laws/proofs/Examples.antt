@@ -1,5 +1,4 @@
 -- Runs of the rules, computed: an answer that is due may name a thread that has ended; and the incident, in which no late answer is handed over.
--- Assumes nothing.
 use Prim.Native.Nat.{ℕ}
 use mathlib.Core.Path.{_≡_, refl}
 use mathlib.Core.Bool.{false}

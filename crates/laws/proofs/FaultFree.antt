@@ -1,5 +1,4 @@
 -- A dump has no fault: none of the four lists of faults of Faults.antt has an offset for the dump of tables that meet the rules.
--- Assumes nothing.
 use Prim.Native.Nat.{ℕ, _≤_, _<_}
 use mathlib.Core.Path.{_≡_, refl, sym, ap, _∙_, subst}
 use mathlib.Core.Logic.{⊎-elim}

@@ -1,5 +1,4 @@
 -- The fields of a dump stand in order: every tag is known, none ranks below the one before it, and those that stand once stand once.
--- Assumes nothing.
 use Prim.Native.Nat.{ℕ, zero, suc, _≤_, _<_}
 use mathlib.Core.Path.{_≡_, refl, sym, ap, _∙_, subst}
 use mathlib.Core.Bool.{true, false, _&&_}

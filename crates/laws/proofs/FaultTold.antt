@@ -1,6 +1,5 @@
 -- What bytes tell that have no fault of a number: with none of 15 and 17 every value is in its range, with none of 15 and 18 every name lives where
 -- document 01 asks for a live one. So 18 is given for no range, and 19 for other rules only.
--- Assumes nothing.
 use Prim.Native.Nat.{ℕ, zero, suc, _<_}
 use mathlib.Core.Path.{_≡_, refl, sym, ap, ap₂, _∙_, subst}
 use mathlib.Core.Bool.{Bool, true, false, _&&_, not}

@@ -1,6 +1,5 @@
 -- Where bytes are bad (document 02, CR 4). Reading accepts exactly the dumps of tables that meet the rules. Other bytes are refused with 15 to 19:
 -- each exactly if its list of faults is the first that has one, at the earliest of them. The offset is that of a complete field, or the length.
--- Assumes nothing.
 use Prim.Native.Nat.{ℕ, _≤_, _<_}
 use mathlib.Core.Path.{_≡_, refl, sym, _∙_, subst}
 use mathlib.Core.Logic.{_↔_, _≢_, _⊎_, ⊎-elim}

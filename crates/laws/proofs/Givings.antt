@@ -1,5 +1,4 @@
 -- The names that a run gives, in order, and what the event that gives a name does: the new thread has it, and it is the name given last.
--- Assumes nothing.
 use Prim.Native.Nat.{ℕ, zero, suc}
 use mathlib.Core.Path.{_≡_, refl, sym, ap, _∙_, subst}
 use mathlib.Core.Bool.{Bool, true, false, _&&_}

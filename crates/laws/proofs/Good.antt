@@ -1,5 +1,4 @@
 -- Every step keeps the rules of families, managers, wanted names, devices, answers, messages and notices.
--- Assumes nothing.
 use Prim.Native.Nat.{ℕ, zero, suc, _+_, _≤_, _<_}
 use mathlib.Core.Path.{_≡_, refl, sym, ap, _∙_}
 use mathlib.Core.Logic.{inl, inr, ⊎-elim, _≢_, _⊎_}

@@ -1,7 +1,6 @@
 -- Whatever is handed over has its cause, kind by kind: a message or notice was sent to this thread in its present life, "sender
 -- gone" was told to one that waited for the ended, and a result is that of this thread's own request in its present life.
 -- A rule that gives a newcomer a word which was meant for an ended thread is refused here: the newcomer has asked for nothing.
--- Assumes nothing.
 use Prim.Native.Nat.{ℕ, zero, suc, _+_, _≤_, _<_}
 use mathlib.Core.Path.{_≡_, refl, sym, ap, _∙_, subst}
 use mathlib.Core.Logic.{_⊎_, inl, inr, ⊎-elim}

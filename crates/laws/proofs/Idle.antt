@@ -1,5 +1,4 @@
 -- The four statuses, each exactly when document 01 says; above all idle and panicked.
--- Assumes nothing.
 use Prim.Native.Nat.{ℕ, zero, suc, _<_}
 use mathlib.Core.Path.{_≡_, refl, sym, ap, _∙_}
 use mathlib.Core.Logic.{_↔_}

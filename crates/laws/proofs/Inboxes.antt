@@ -1,6 +1,5 @@
 -- Inboxes are first in, first out: what joins one joins its end, and a receive takes the oldest that is wanted and leaves the others
 -- in their order. Nothing else changes an inbox, but endings and decisions, which discard.
--- Assumes nothing.
 use Prim.Native.Nat.{ℕ, zero, suc, _<_}
 use mathlib.Core.Path.{_≡_, refl, sym, ap, _∙_, subst}
 use mathlib.Core.Logic.{_⊎_, inl, inr, ⊎-elim, _≢_}

@@ -1,7 +1,6 @@
 -- The incident, whole. A late answer was handed to a thread that had the name of an ended one. Here: when a name is given again its thread
 -- has ended and at least 253 − (threads − 1) others have been created since it was given, and whatever the newcomer is handed comes from
 -- something that happened in its own life.
--- Assumes nothing.
 use Prim.Native.Nat.{ℕ, _≤_, _<_}
 use mathlib.Core.Path.{_≡_, refl, sym, ap, _∙_, subst}
 use mathlib.Core.Logic.{⊎-elim}

@@ -1,5 +1,4 @@
 -- The table rules hold at the start, and every step keeps them: so they hold in every run.
--- Assumes nothing.
 use Prim.Native.Nat.{ℕ, _≤_, _<_}
 use mathlib.Core.Path.{_≡_, refl, ap}
 use mathlib.Core.Logic.{_⊎_, inl, inr}

@@ -1,5 +1,4 @@
--- Law 6, no late answer: what a thread is handed was sent to it, by the sender that is named, in this very life of the thread.
--- Assumes nothing.
+-- No late answer: what a thread is handed was sent to it, by the sender that is named, in this very life of the thread.
 use Prim.Native.Nat.{ℕ, zero, suc, _≤_, _<_}
 use mathlib.Core.Path.{_≡_, refl, sym, ap, _∙_, subst}
 use mathlib.Core.Logic.{⊎-elim}

@@ -1,6 +1,5 @@
 -- The count of a thread in its present life: what GETCPUTIME hands over is the number of ticks accepted while the requester ran, since
 -- it was made, modulo 2^32.
--- Assumes nothing.
 use Prim.Native.Nat.{ℕ, _+_, _%_, _≤_, _<_}
 use mathlib.Core.Path.{_≡_, refl, sym, ap, _∙_}
 use mathlib.Core.Logic.{⊎-elim}

@@ -1,7 +1,6 @@
 -- Nothing names an ended thread: whoever a message, a wait, a parent, a manager entry or the runner names is live. The answers already due are the
 -- exception: "An answer already due to a thread stays, even if its sender has ended." The name given last is no such place: it only says where names
 -- go on. And a newcomer is not named yet.
--- Assumes nothing.
 use Prim.Native.Nat.{ℕ, _≤_, _<_}
 use mathlib.Core.Path.{_≡_, refl, sym, ap, _∙_, subst}
 use mathlib.Core.Logic.{⊎-elim, _≢_}

@@ -1,5 +1,4 @@
 -- The name given to a new thread: the first successor, modulo 254, of the name given last that no live thread has.
--- Assumes nothing.
 use Prim.Native.Nat.{ℕ, zero, suc, _+_, _%_, _≤_, _<_}
 use mathlib.Core.Path.{_≡_, refl, sym, _∙_}
 use mathlib.Core.Logic.{_≢_}
@@ -103,7 +102,7 @@ name-fresh T few = fresh (length (T .threads)) (T .last) T few (omega arith)
 pub name-free : (L : Limits) (T : Tables) → L .threads < names → T .last < names → length (T .threads) ≤ L .threads → live (next-name T) T ≡ false
 name-free L T l h few = name-fresh T (omega arith)
 
--- Law 7: the name given is the first of the successors, modulo 254, of the name given last that no live thread has.
+-- The name given is the first of the successors, modulo 254, of the name given last that no live thread has.
 pub name-is-first-free : (T : Tables) → T .last < names → length (T .threads) < names →
     (i : ℕ) × (1 ≤ i) × (next-name T ≡ (T .last + i) % names) × (live (next-name T) T ≡ false) × ((j : ℕ) → 1 ≤ j → j < i → live ((T .last + j) % names) T ≡ true)
 name-is-first-free T h few =

@@ -1,5 +1,4 @@
 -- The next name by a walk over the threads, which stand by rising name: where the walk stops, and how it comes round behind 253.
--- Assumes nothing.
 use Prim.Native.Nat.{ℕ, zero, suc, _+_, _-_, _%_, _≤_, _<_}
 use mathlib.Core.Path.{_≡_, refl, sym, ap, _∙_}
 use mathlib.Core.Logic.{⊎-elim, _≢_}

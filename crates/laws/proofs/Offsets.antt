@@ -1,6 +1,5 @@
 -- The fields of some bytes at their places: which are listed, at which offsets and with which tags before them. And the offsets of those that have a
 -- fault: which they are, and that they rise.
--- Assumes nothing.
 use Prim.Native.Nat.{ℕ, _+_, _≤_, _<_}
 use mathlib.Core.Path.{_≡_, refl, sym, ap, _∙_, subst}
 use mathlib.Core.Logic.{_↔_, ⊎-elim}

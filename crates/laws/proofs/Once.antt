@@ -2,7 +2,6 @@
 -- there still. This holds over any run, with endings and decisions in it.
 -- Equal messages cannot be told apart, so they are counted: for every test on messages.
 -- What joins, is handed over and is discarded is read off the event, the decision and the tables before it, not off what the tables lose.
--- Assumes nothing.
 use Prim.Native.Nat.{ℕ, zero, suc, _+_, _≤_, _<_}
 use mathlib.Core.Path.{_≡_, refl, sym, ap, _∙_, subst}
 use mathlib.Core.Logic.{_≢_, ⊎-elim}

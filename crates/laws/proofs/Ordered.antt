@@ -1,5 +1,4 @@
 -- Lists in order: chains, fewer elements in the same order, and lists whose keys rise.
--- Assumes nothing.
 use Prim.Native.Nat.{ℕ, suc, _+_, _≤_, _<_}
 use mathlib.Core.Path.{_≡_, refl, ap, ap₂, _∙_}
 use mathlib.Core.Logic.{⊎-elim, _≢_}

@@ -1,5 +1,4 @@
 -- Ticks and interrupts, were they accepted whatever the status: when they leave the threads as they are, and which series of them wakes one.
--- Assumes nothing.
 use Prim.Native.Nat.{ℕ, zero, suc, _+_, _-_, _/_, _^_, _≤_, _<_}
 use mathlib.Core.Path.{_≡_, refl, sym, ap, ap₂, _∙_}
 use mathlib.Core.Logic.{_≢_}

@@ -1,5 +1,4 @@
 -- State, runner, ready queue and clock queue agree: what each move of threads between them must do for that, and which moves do it.
--- Assumes nothing.
 use Prim.Native.Nat.{ℕ, _+_, _≤_}
 use mathlib.Core.Path.{_≡_, refl, sym, ap, ap₂, _∙_}
 use mathlib.Core.Logic.{⊎-elim, _≢_}

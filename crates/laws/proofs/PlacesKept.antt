@@ -1,5 +1,4 @@
 -- Every step keeps `Inv`: state, runner and queues agree, names are below 254, and there are no more threads than blocks for them.
--- Assumes nothing.
 use Prim.Native.Nat.{ℕ, zero, suc, _+_, _-_, _<_}
 use mathlib.Core.Path.{_≡_, refl, sym, ap, _∙_}
 use mathlib.Core.Bool.{Bool, true, false, not}

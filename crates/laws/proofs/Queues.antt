@@ -1,5 +1,4 @@
 -- Queues of names: how often a name stands in one, how many stand before it, and what more behind or fewer before do to that.
--- Assumes nothing.
 use Prim.Native.Nat.{ℕ, suc, _+_, _≤_, _<_}
 use mathlib.Core.Path.{_≡_, refl, sym, ap, _∙_}
 use mathlib.Core.Logic.{⊎-elim, _≢_}

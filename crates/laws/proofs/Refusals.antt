@@ -1,5 +1,4 @@
--- Law 2, refusals: each number is given exactly when document 01 says, in its order, and a refused event changes nothing.
--- Assumes nothing.
+-- Refusals: each number is given exactly when document 01 says, in its order, and a refused event changes nothing.
 use Prim.Native.Nat.{ℕ, zero, suc}
 use mathlib.Core.Path.{_≡_, refl, sym, ap, _∙_}
 use mathlib.Core.Logic.{_↔_, _≢_, _⊎_, inl, inr, ⊎-elim}

@@ -1,5 +1,4 @@
 -- What the requests do, in words of their own: GETCPUTIME, WAITFORIO, the managers, brothers and sons.
--- Assumes nothing.
 use Prim.Native.Nat.{ℕ, _≤_, _<_}
 use mathlib.Core.Path.{_≡_, refl, sym, ap, ap₂, _∙_, subst}
 use mathlib.Core.Logic.{_⊎_, inl, inr, ⊎-elim, _≢_}

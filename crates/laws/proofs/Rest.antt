@@ -1,7 +1,6 @@
 -- A name rests before it returns: between two givings of one name at least 253 − (threads − 1) threads of other names are created.
 -- Names are tried one after the other, each once a round, and one is passed over only if a thread has it. A thread whose name was not given
 -- since the round began was there when it began. So of the 253 other names at most threads − 1 are passed over.
--- Assumes nothing.
 use Prim.Native.Nat.{ℕ, zero, suc, _+_, _-_, _%_, _≤_, _<_}
 use mathlib.Core.Path.{_≡_, refl, sym, ap, _∙_}
 use mathlib.Core.Logic.{⊎-elim, _≢_}

@@ -1,5 +1,4 @@
 -- Fewer messages, other threads around a thread, and some threads changed: the moves that keep the rules of threads and messages.
--- Assumes nothing.
 use Prim.Native.Nat.{ℕ, _+_, _≤_}
 use mathlib.Core.Path.{_≡_, refl, sym, ap, _∙_}
 use mathlib.Core.Logic.{_⊎_, ⊎-elim}

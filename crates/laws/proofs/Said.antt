@@ -1,5 +1,4 @@
 -- What well-formed bytes say: for each event, the bytes that document 01 gives it mean it. With Flaws.antt this tells what any bytes mean.
--- Assumes nothing.
 use Prim.Native.Nat.{ℕ, _+_, _*_, _/_, _%_, _^_, _<_}
 use mathlib.Core.Path.{_≡_, refl, ap, ap₂, _∙_}
 use mathlib.Core.Logic.{_≢_}

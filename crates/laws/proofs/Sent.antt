@@ -1,6 +1,5 @@
 -- Every message and every notice that is sent is handed over once at most, by any decision: from an inbox, or as the answer that was due to
 -- a thread. One that is discarded, or was due to a thread that ends, is not. Equal messages are counted, as in Once.antt.
--- Assumes nothing.
 use Prim.Native.Nat.{ℕ, zero, suc, _+_, _≤_, _<_}
 use mathlib.Core.Path.{_≡_, refl, sym, ap, _∙_, subst}
 use mathlib.Core.Logic.{⊎-elim}

@@ -1,5 +1,4 @@
 -- One thread by its place: the rules change all threads that pass a test, and where one at most passes, that is the thread at its place.
--- Assumes nothing.
 use Prim.Native.Nat.{ℕ, zero, suc, _+_, _-_, _≤_, _<_}
 use mathlib.Core.Path.{_≡_, refl, sym, ap, ap₂, _∙_}
 use mathlib.Core.Logic.{_≢_}

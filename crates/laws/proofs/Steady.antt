@@ -1,5 +1,4 @@
 -- Every step keeps `Steady`: the slice, the beat's numbers, and nobody ready without a runner.
--- Assumes nothing.
 use Prim.Native.Nat.{ℕ, _+_, _-_, _≤_, _<_}
 use mathlib.Core.Path.{_≡_, refl, sym, _∙_}
 use mathlib.Core.List.{List}

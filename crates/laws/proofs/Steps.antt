@@ -1,5 +1,4 @@
 -- To prove something of a step: of a refused event and of an accepted one, and of each thing that the dispatch can do. And runs in parts.
--- Assumes nothing.
 use Prim.Native.Nat.{ℕ, zero, suc}
 use mathlib.Core.Path.{_≡_, refl, ap}
 use mathlib.Core.Bool.{Bool, true, false, not, true≢false}

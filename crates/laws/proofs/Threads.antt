@@ -1,5 +1,4 @@
 -- Lists of threads: who lives, what changes that keep names leave, and how many threads of a name are in a kind of state.
--- Assumes nothing.
 use Prim.Native.Nat.{ℕ, _+_, _≤_}
 use mathlib.Core.Path.{_≡_, refl, sym, ap, _∙_}
 use mathlib.Core.Logic.{_⊎_, inl, inr, ⊎-elim}

@@ -1,5 +1,4 @@
 -- What comes of a thread that is made and ended at once: the tables are as before, but for the name given last.
--- Assumes nothing.
 use Prim.Native.Nat.{ℕ, _<_}
 use mathlib.Core.Path.{_≡_, refl, sym, ap, _∙_}
 use mathlib.Core.Bool.{Bool, true, false, _||_, not, false≢true, not-eq-not}

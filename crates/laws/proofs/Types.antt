@@ -1,5 +1,4 @@
 -- The table rules as types: what proofs use. Sound.antt says that the Boolean test `table-rules` and these say the same.
--- Assumes nothing.
 use Prim.Native.Nat.{ℕ, _+_, _≤_, _<_}
 use mathlib.Core.Path.{_≡_}
 use mathlib.Core.Logic.{_≢_}

@@ -1,5 +1,4 @@
 -- The wait of a ready thread: it has been given the processor, or has ended, by the tick number 5 × (threads − 1) accepted after it became ready.
--- Assumes nothing.
 use Prim.Native.Nat.{ℕ, zero, suc, _+_, _-_, _*_, _≤_, _<_}
 use mathlib.Core.Path.{_≡_, refl, ap}
 use mathlib.Core.Bool.{Bool, true, false, _&&_, _||_, not, false≢true}

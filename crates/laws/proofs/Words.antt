@@ -1,5 +1,4 @@
 -- The vocabulary of the rules under one roof. Another crate's `pub use` is not passed on, so it is said again here.
--- Assumes nothing.
 pub use Rattle.rules.specs.declared.Wanted.{Wanted}
 pub use Rattle.rules.specs.declared.Wanted.the-variants.{Anybody, Only}
 pub use Rattle.rules.specs.declared.TrapKind.{TrapKind}

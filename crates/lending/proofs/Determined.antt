@@ -1,6 +1,5 @@
 -- Determinacy on a lent memory: any two results that a public operation's promise allows agree, in decision and in dump. By value too: what is
 -- promised of a struct is promised of its words. The promises of check and dump are equalities.
--- Assumes nothing.
 use Prim.Native.Nat.{ℕ}
 use mathlib.Core.Path.{_≡_, refl, sym, ap, _∙_}
 use mathlib.Core.Logic.{_≢_}

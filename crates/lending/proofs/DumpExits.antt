@@ -1,5 +1,4 @@
 -- The exits of the public dump: a memory that stands for no tables, a short buffer, a dump written.
--- Assumes nothing.
 use Prim.Native.Nat.{ℕ, _≤_, _<_}
 use mathlib.Core.Path.{_≡_}
 use mathlib.Core.Bool.{true, false}

@@ -1,6 +1,5 @@
 -- From the code to the demands. Whatever the public start and step leave, call after call, the memory stands for the rules' run of those
 -- events, and each decision is that of the rules. So the laws on runs speak of the code.
--- Assumes nothing.
 use Prim.Native.Nat.{ℕ, _+_, _≤_}
 use mathlib.Core.Path.{_≡_, refl, sym, ap, _∙_, subst}
 use mathlib.Core.Logic.{_↔_}

@@ -1,5 +1,4 @@
 -- What the check tells, what it needs, and the exits of the public step and start.
--- Assumes nothing.
 use Prim.Native.Nat.{ℕ}
 use mathlib.Core.Path.{_≡_, refl, ap, _∙_}
 use mathlib.Core.Bool.{true, false}

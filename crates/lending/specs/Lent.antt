@@ -1,5 +1,4 @@
 -- The public operations on a lent memory, of any length and contents.
--- Assumes nothing.
 use Prim.Native.Nat.{ℕ}
 use mathlib.Core.Bool.{Bool, true, false, _&&_}
 use mathlib.Core.Path.{_≡_}

@@ -1,5 +1,4 @@
 -- Parts of the tables' text, put one behind the other, with how far they reach at most.
--- Assumes nothing.
 use Prim.Native.Nat.{ℕ, _+_, _*_, _≤_}
 use mathlib.Core.Path.{_≡_, ap}
 use mathlib.Core.List.{List, [], _∷_, _++_}

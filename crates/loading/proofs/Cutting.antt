@@ -1,5 +1,4 @@
 -- Cutting fields: what `opens` says by places, and the loop that reads a row of fields of one tag and one length.
--- Assumes nothing.
 use Prim.Native.Nat.{ℕ, _+_, _*_, _-_, _≤_, _<_}
 use mathlib.Core.Path.{_≡_, refl, sym, ap, _∙_}
 use mathlib.Core.Bool.{Bool, true, false, _&&_, true≢false}

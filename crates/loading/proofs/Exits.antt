@@ -1,6 +1,5 @@
 -- The exits of reading: sound, since what is accepted meets the rules and is written as those bytes again; complete, since the first stage finds
 -- the tables whose dump the bytes are.
--- Assumes nothing.
 use Prim.Native.Nat.{ℕ, _≤_}
 use mathlib.Core.Path.{_≡_, refl, sym, ap, _∙_}
 use mathlib.Core.Bool.{Bool, true, false}

@@ -1,5 +1,4 @@
 -- What the first stage of reading finds: where the bytes are the dump of tables that meet the rules, each part of it.
--- Assumes nothing.
 use Prim.Native.Nat.{ℕ, _≤_}
 use mathlib.Core.Path.{_≡_, refl, sym, ap, _∙_}
 use mathlib.Core.Bool.{Bool, true, false}

@@ -1,5 +1,4 @@
 -- Words copied to the front of a longer memory: it stands for what they stand for, since nothing behind them is looked at.
--- Assumes nothing.
 use Prim.Native.Nat.{ℕ, suc, _+_, _≤_, _<_}
 use mathlib.Core.Path.{_≡_, refl, sym, ap, ap₂, _∙_}
 use mathlib.Core.Bool.{true}

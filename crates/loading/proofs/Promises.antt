@@ -1,6 +1,5 @@
 -- What follows from the promises of the writer and the reader alone: each undoes the other, and the reader has one result.
 -- A memory after reading and its refusal stand for any result that the reader's promise allows, a buffer after writing for any that the writer's allows.
--- Assumes nothing.
 use Prim.Native.Nat.{ℕ, _≤_}
 use mathlib.Core.Path.{_≡_, sym, ap, _∙_}
 use mathlib.Core.Logic.{_≢_, _↔_}

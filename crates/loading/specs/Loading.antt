@@ -1,5 +1,4 @@
 -- What the reader of dumps promises on a lent memory.
--- Assumes nothing.
 use Prim.Native.Nat.{ℕ}
 use mathlib.Core.Bool.{true}
 use mathlib.Core.Path.{_≡_}

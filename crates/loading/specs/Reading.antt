@@ -1,5 +1,4 @@
 -- What the stages of reading promise: the parts of a dump, put into a memory that is lent.
--- Assumes nothing.
 use Prim.Native.Nat.{ℕ, _+_, _*_, _≤_}
 use mathlib.Core.Bool.{Bool, true, false, _&&_}
 use mathlib.Core.Path.{_≡_}

@@ -1,5 +1,4 @@
 -- What a store into the memory changes of its rows: one entry, or what the head says, and nothing else.
--- Assumes nothing.
 use Prim.Native.Nat.{ℕ, _+_, _≤_, _<_}
 use mathlib.Core.Path.{_≡_, ap, ap₂, _∙_}
 use mathlib.Core.Logic.{⊎-elim, _⊎_, inl, inr}

@@ -8,7 +8,6 @@
 --          number as a place in the ready queue, in the clock queue and in an ending's set, 1 spare (a place among sleepers)          16 each
 --          for each thread and each block a message of 4: receiver, sender with kind, word, 1 spare (a second word)                   4 each
 --
--- Assumes nothing.
 use Prim.Native.Nat.{ℕ, _+_, _*_}
 use Rattle.rules.specs.Numbers.{Limits, devices}
 use Rattle.laws.proofs.Words.{TrapKind, Program, Tlb, SysBp}

@@ -1,5 +1,4 @@
 -- The rows that a memory holds. Hints and spare words are no part of them.
--- Assumes nothing.
 use Prim.Native.Nat.{ℕ, zero, suc, _+_}
 use mathlib.Core.List.{List, [], _∷_}
 use lib.ListN.{length, take, drop}

@@ -1,5 +1,4 @@
 -- What a memory holds: rows, each with as many entries as there is room for, and their counts; and as the rules' tables.
--- Assumes nothing.
 use Prim.Native.Nat.{ℕ, suc, _+_, _≤_, _<_}
 use mathlib.Core.Path.{_≡_}
 use mathlib.Core.Bool.{Bool}

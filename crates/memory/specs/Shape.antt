@@ -1,5 +1,4 @@
 -- When a memory of any length and contents is shaped for limits: it is long enough, and its head has them and counts within them.
--- Assumes nothing.
 use Prim.Native.Nat.{ℕ, _+_}
 use mathlib.Core.Bool.{Bool}
 use mathlib.Core.List.{List, [], _∷_}

@@ -1,6 +1,5 @@
 -- The place of the first that passes, and what the rules say by any, pull, insert, map, keep and of-thread.
 -- That a store below n is a store among the first n, and that these are the array's own: take-set-lt and getD-take of lib.Seq.
--- Assumes nothing.
 use Prim.Native.Nat.{ℕ, zero, suc, _+_, _≤_, _<_}
 use mathlib.Core.Path.{_≡_, refl, sym, _∙_, ap}
 use mathlib.Core.Bool.{Bool, true, false, not, _||_, true≢false}

@@ -1,5 +1,4 @@
 -- The place of a name among the first n of a row, which stand by rising name: what a look at one of them tells.
--- Assumes nothing.
 use Prim.Native.Nat.{ℕ, zero, suc, _+_, _≤_, _<_}
 use mathlib.Core.Path.{_≡_, ap}
 use mathlib.Core.Bool.{Bool, true, false, not}

@@ -1,6 +1,5 @@
 -- Loops over a row: what is written so far, followed by what the rule makes of the rest, is what the rule makes of all.
 -- n counts the row's entries, r₀ is the array as it came, r as it is, i the place in it.
--- Assumes nothing.
 use Prim.Native.Nat.{ℕ, suc, _+_, _-_, _≤_, _<_}
 use mathlib.Core.Path.{_≡_, refl, sym, _∙_, ap, ap₂, subst}
 use mathlib.Core.Bool.{Bool, true, false, _&&_, _||_}

@@ -1,5 +1,4 @@
 -- The loops of an ending over the rows of a memory: the set grows, rows are closed up, receivers become ready. All else is as it was.
--- Assumes nothing.
 use Prim.Native.Nat.{ℕ, _+_, _≤_, _<_}
 use mathlib.Core.Path.{_≡_, refl, sym, ap, _∙_}
 use mathlib.Core.Bool.{Bool, true, false, not, _&&_, true≢false}

@@ -1,5 +1,4 @@
 -- The loops over a row of the memory, by the laws of Loops.antt: one row is written, and all else is as it was.
--- Assumes nothing.
 use Prim.Native.Nat.{ℕ, _+_, _≤_, _<_}
 use mathlib.Core.Path.{_≡_, refl, sym, ap, _∙_}
 use mathlib.Core.Bool.{Bool, true, false, not}

@@ -1,6 +1,5 @@
 -- The window's bytes, moved to the front one after the other, and what is read behind them. What is still to be moved is as it was, since
 -- a byte is written no further back than where it was read.
--- Assumes nothing.
 use Prim.Native.Nat.{ℕ, zero, suc, _+_, _-_, _≤_, _<_}
 use mathlib.Core.Path.{_≡_, refl, sym, ap, ap₂, _∙_, subst}
 use mathlib.Core.Bool.{Bool}

@@ -1,5 +1,4 @@
 -- The fields of a stream and what the event program prints for it: field by field, whatever comes behind a field that is all there.
--- Assumes nothing.
 use Prim.Native.Nat.{ℕ, zero, suc, _≤_, _<_}
 use mathlib.Core.Path.{_≡_, refl, ap, ap₂, _∙_}
 use mathlib.Core.List.{List, [], _∷_, _++_, append-nil}

@@ -1,5 +1,4 @@
 -- Turns in a row: whatever way the input arrives in pieces, and wherever each turn stops, the bytes written are those of the whole.
--- Assumes nothing.
 use Prim.Native.Nat.{ℕ}
 use mathlib.Core.Path.{_≡_, sym, ap, _∙_}
 use mathlib.Core.Bool.{Bool, true, false, false≢true}

@@ -1,5 +1,4 @@
 -- The document's listing: the bytes of its input, and its whole output, line by line.
--- Assumes nothing.
 use Prim.Native.Nat.{ℕ}
 use Prim.Native.Char.{code}
 use Prim.Native.String.{String, [] as end, _∷_ as _then_}

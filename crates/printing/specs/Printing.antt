@@ -1,5 +1,4 @@
 -- The event program: the fields of its input, what it prints for what is left of it, and what one turn of it asks and promises.
--- Assumes nothing.
 use Prim.Native.Nat.{ℕ, zero, suc, _+_, _≤_}
 use mathlib.Core.Bool.{Bool, true, false, _&&_, _||_, not}
 use mathlib.Core.Path.{_≡_}

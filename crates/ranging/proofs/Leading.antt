@@ -1,5 +1,4 @@
 -- Going up by places: steps add up, above all one stays, and the loops that try whether each place leads above all.
--- Assumes nothing.
 use Prim.Native.Nat.{ℕ, zero, suc, _+_, _≤_, _<_}
 use mathlib.Core.Path.{_≡_, refl, sym, ap, subst, _∙_}
 use mathlib.Core.Logic.{_⊎_, ⊎-elim}

@@ -1,5 +1,4 @@
 -- Held words stand at their devices' places, and so by rising device, where each is held for a device.
--- Assumes nothing.
 use Prim.Native.Nat.{ℕ, zero, suc, _≤_, _<_}
 use mathlib.Core.Path.{_≡_, refl}
 use mathlib.Core.Bool.{Bool, true}

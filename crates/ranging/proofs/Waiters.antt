@@ -1,6 +1,5 @@
 -- The devices' rule by one pass over the threads: marks say for which devices one waits, and no word is held for these.
 -- Held devices rise, so that each is held once.
--- Assumes nothing.
 use Prim.Native.Nat.{ℕ, suc, _+_, _≤_, _<_}
 use mathlib.Core.Path.{_≡_, refl, sym, ap, _∙_}
 use mathlib.Core.Logic.{_≢_, ⊎-elim}

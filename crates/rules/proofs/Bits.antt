@@ -1,5 +1,4 @@
 -- Trailing zeros and bits: the lowest set bit of a word, over the width, and the first pending one of a list of devices.
--- Assumes nothing.
 use Prim.Native.Nat.{ℕ, zero, suc, _+_, _-_, _/_, _%_, _^_, _≤_, _<_, zero-le}
 use mathlib.Core.Path.{_≡_, refl, sym, ap, _∙_}
 use mathlib.Core.Logic.{⊎-elim}

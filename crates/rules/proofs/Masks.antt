@@ -1,6 +1,5 @@
 -- The pick by masks: the word of each class is cut out of the pending word, and its trailing zeros are the device.
 -- Stated for any masks of the classes; those of src/pick.rt are shown to be such where it is proved, by computing.
--- Assumes nothing.
 use Prim.Native.Nat.{ℕ, zero, suc, _+_, _*_, _%_, _/_, _^_, _<_, zero-le, min}
 use mathlib.Core.Path.{_≡_, refl, sym, ap, _∙_}
 use mathlib.Core.Logic.{⊎-elim}

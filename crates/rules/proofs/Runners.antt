@@ -1,5 +1,4 @@
 -- The column "runner needed" of the table of tags, and the events that need one.
--- Assumes nothing.
 use Prim.Native.Nat.{ℕ, _+_, _*_}
 use mathlib.Core.Path.{_≡_, refl}
 use mathlib.Core.Bool.{Bool, true, false, _&&_, true≢false}

@@ -1,5 +1,4 @@
 -- A table's rule, proved at all of its entries by one test that antt computes. The entries may be anything that a test tells apart.
--- Assumes nothing.
 use Prim.Native.Nat.{ℕ, zero, suc, _+_, _-_, _≤_, _<_}
 use mathlib.Core.Path.{_≡_, sym, ap, _∙_}
 use mathlib.Core.Bool.{Bool, true, false, _&&_}

@@ -1,6 +1,5 @@
 -- Bytes that are no dump, made of the parts of P10's dump, each with its refusal and its offset, as document 02 (CR 4) has them. A wrong rule gives one of
 -- them another answer.
--- Assumes nothing.
 use Prim.Native.Nat.{ℕ}
 use mathlib.Core.Path.{_≡_, refl}
 use mathlib.Core.List.{List, [], _∷_, _++_, map}

@@ -1,5 +1,4 @@
 -- A batch of events in one call (document 02, CR 2): what is run, what is handed back, and what comes of it.
--- Assumes nothing.
 use Prim.Native.Nat.{ℕ, _*_}
 use mathlib.Core.List.{List, []}
 use lib.Dec.{ltb}

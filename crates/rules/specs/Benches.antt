@@ -1,5 +1,4 @@
 -- "Benches to prove": P1 to P10 as a single list under a single claim. Each starts at a start and goes through the bytes of its events.
--- Assumes nothing.
 use Prim.Native.Nat.{ℕ, _-_, _/_}
 use mathlib.Core.Path.{_≡_, refl}
 use mathlib.Core.List.{List, [], _∷_, _++_, map}

@@ -1,5 +1,4 @@
 -- The document's numbers for statuses, states, managers, kinds and answers.
--- Assumes nothing.
 use Prim.Native.Nat.{ℕ}
 use Rattle.rules.specs.Numbers.{nobody, service}
 use Rattle.rules.specs.Words.{TrapKind, Program, Tlb, SysBp, State, Running, Ready, Receiving, Clock, Device, Trapped, Answer, Nothing, FromMessage, FromNotice, SenderGone, Result, Manager, Unset, Set, Gone, Parent, MessageKind, Ordinary, Notice, Runner, Status, Working, Idle, Halted, Panicked, by-wanted, by-parent, by-runner}

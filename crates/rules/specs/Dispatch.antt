@@ -1,5 +1,4 @@
 -- Dispatch, and the status that it leaves.
--- Assumes nothing.
 use Prim.Native.Nat.{ℕ}
 use mathlib.Core.List.{List, [], _∷_}
 use Rattle.rules.specs.Lists.{if_then_else_, any}

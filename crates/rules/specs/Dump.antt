@@ -1,5 +1,4 @@
 -- The dump: the tables as bytes.
--- Assumes nothing.
 use Prim.Native.Nat.{ℕ}
 use mathlib.Core.List.{List, _∷_, _++_}
 use lib.ListN.{length}

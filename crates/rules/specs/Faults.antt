@@ -1,6 +1,5 @@
 -- Where bytes that are no dump are bad (document 02, CR 4): "Split it by cause and give the offset of the first byte of the field at fault, or the length
 -- of the input where a field is missing or cut." A list of offsets for each number, in the order of the bytes.
--- Assumes nothing.
 use Prim.Native.Nat.{ℕ, _+_}
 use mathlib.Core.Bool.{Bool, true, false, _&&_, _||_, not}
 use mathlib.Core.List.{List, [], _∷_, _++_, map}

@@ -1,6 +1,5 @@
 -- Fields one behind the other: how long the first one of some bytes is, whether it is all there, and all that are. "A field is a tag byte, a
 -- two-byte length, then the value; numbers are big-endian."
--- Assumes nothing.
 use Prim.Native.Nat.{ℕ, zero, suc, _+_, _*_, min}
 use mathlib.Core.Bool.{Bool, false}
 use mathlib.Core.List.{List, [], _∷_}

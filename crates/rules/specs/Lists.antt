@@ -1,5 +1,4 @@
 -- Tests, lists and big-endian bytes: what the rules are written with. Nothing here is of document 01.
--- Assumes nothing.
 use Prim.Native.Nat.{ℕ, zero, suc, _+_, _*_, _/_, _%_}
 use mathlib.Core.Bool.{Bool, true, false, _&&_, _||_}
 use mathlib.Core.List.{List, [], _∷_, _++_}

@@ -1,5 +1,4 @@
 -- Reading a dump: the fields are cut, the tables built from them, the table rules tested, the dump written again and compared.
--- Assumes nothing.
 use Prim.Native.Nat.{ℕ}
 use mathlib.Core.Bool.{_&&_}
 use mathlib.Core.List.{List, map}

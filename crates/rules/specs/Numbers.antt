@@ -1,5 +1,4 @@
 -- The numbers of document 01 ("Numbers") and of document 02, each once.
--- Assumes nothing.
 use Prim.Native.Nat.{ℕ}
 
 -- "threads, ordinary message blocks: 20 each". The rules are stated over the limits.

@@ -1,5 +1,4 @@
 -- To compute with the rules a proof says `unfolding opened`: this opens every definition that they are made of.
--- Assumes nothing.
 use Prim.Native.Nat.{ℕ}
 use Rattle.rules.specs.Lists.{all, any, keep, count, behind, pull, insert, chain, times, each, from-on, same, number-from}
 use Rattle.rules.specs.Tables.{of-thread, change, manager, set-entry, runs, runs-as, me}

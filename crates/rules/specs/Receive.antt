@@ -1,5 +1,4 @@
 -- Receive.
--- Assumes nothing.
 use Prim.Native.Nat.{ℕ}
 use mathlib.Core.Bool.{Bool, _&&_}
 use Rattle.rules.specs.Lists.{_==_, Pulled, missing, pulled, pull}

@@ -1,5 +1,4 @@
 -- Refusals: one ordered list of tests, each with its number.
--- Assumes nothing.
 use Prim.Native.Nat.{ℕ}
 use mathlib.Core.Bool.{Bool, true, false, _&&_, not}
 use mathlib.Core.List.{List, [], _∷_}

@@ -1,5 +1,4 @@
 -- Runs: one event after the other, the decision of each, and that as a line of the event program.
--- Assumes nothing.
 use Prim.Native.Nat.{ℕ}
 use mathlib.Core.List.{List, [], _∷_, map}
 use Rattle.rules.specs.Numbers.{Limits}

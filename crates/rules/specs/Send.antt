@@ -1,5 +1,4 @@
 -- Send, and the decision of a trap's manager.
--- Assumes nothing.
 use Prim.Native.Nat.{ℕ, zero, suc}
 use mathlib.Core.Bool.{Bool, _&&_, not}
 use Rattle.rules.specs.Lists.{if_then_else_, any, keep}

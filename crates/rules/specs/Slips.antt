@@ -1,6 +1,5 @@
 -- "Slips to keep out", and others of the same sort, told apart: each by a run whose last lines the wrong rule would change. One list
 -- under one claim.
--- Assumes nothing.
 use Prim.Native.Nat.{_+_, _^_}
 use mathlib.Core.Path.{_≡_, refl}
 use mathlib.Core.List.{List, [], _∷_, _++_, map}

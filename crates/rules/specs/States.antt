@@ -1,5 +1,4 @@
 -- What a thread's state says: whom it hears, what it waits for.
--- Assumes nothing.
 use Prim.Native.Nat.{ℕ}
 use mathlib.Core.Bool.{Bool, true, false, _||_}
 use Rattle.rules.specs.Lists.{_==_}

@@ -1,5 +1,4 @@
 -- The step: what each event does, and the decision.
--- Assumes nothing.
 use Prim.Native.Nat.{ℕ, zero, suc}
 use mathlib.Core.List.{List}
 use Rattle.rules.specs.Numbers.{Limits}

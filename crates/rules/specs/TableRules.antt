@@ -1,6 +1,5 @@
 -- The table rules of document 01 ("Table rules: .."), a test for each, in its order.
 -- "Status is what Dispatch says" has none: it is computed and not kept. What a type rules out has none either.
--- Assumes nothing.
 use Prim.Native.Nat.{ℕ, zero, suc, _+_}
 use mathlib.Core.Bool.{Bool, true, false, _&&_, _||_, not}
 use mathlib.Core.List.{List, [], _∷_}

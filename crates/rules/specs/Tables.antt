@@ -1,5 +1,4 @@
 -- The tables, in the order in which the dump shows them, and the start.
--- Assumes nothing.
 use Prim.Native.Nat.{ℕ}
 use mathlib.Core.Bool.{Bool, true, false}
 use mathlib.Core.List.{List, [], _∷_, map}

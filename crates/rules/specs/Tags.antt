@@ -1,6 +1,5 @@
 -- The one table of document 01 that step and program share: "Event tags", and the services with their argument rules. Then the fields of a dump.
 -- Every tag and every length of a field stands here once.
--- Assumes nothing.
 use Prim.Native.Nat.{ℕ, suc}
 use mathlib.Core.Bool.{Bool, true, false}
 use mathlib.Core.List.{List, [], _∷_}

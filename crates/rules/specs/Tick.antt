@@ -1,5 +1,4 @@
 -- Tick.
--- Assumes nothing.
 use Prim.Native.Nat.{ℕ, _+_, _-_, _%_}
 use mathlib.Core.List.{[]}
 use Rattle.rules.specs.Lists.{if_then_else_, _==_}

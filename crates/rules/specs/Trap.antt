@@ -1,5 +1,4 @@
 -- Trap.
--- Assumes nothing.
 use Prim.Native.Nat.{ℕ}
 use Rattle.rules.specs.Words.{TrapKind, Trapped, Unset, Notice, Message, by-manager}
 use Rattle.rules.specs.Tables.{Tables, of-thread, manager}

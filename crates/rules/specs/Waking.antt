@@ -1,5 +1,4 @@
 -- The moves that events share: threads become ready, a message or notice goes to a thread, the runner stops.
--- Assumes nothing.
 use Prim.Native.Nat.{ℕ}
 use mathlib.Core.Bool.{Bool, true, false, _&&_, not}
 use mathlib.Core.List.{List, [], _∷_, _++_, map}

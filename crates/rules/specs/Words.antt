@@ -1,5 +1,4 @@
 -- The vocabulary of src/lib.rt under one roof, and what can be said of a value by its case.
--- Assumes nothing.
 use Prim.Native.Nat.{ℕ}
 pub use Rattle.rules.specs.declared.Wanted.{Wanted}
 pub use Rattle.rules.specs.declared.Wanted.the-variants.{Anybody, Only}

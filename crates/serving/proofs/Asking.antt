@@ -1,5 +1,4 @@
 -- What the requests leave, in the words of the rules: a newcomer, an ending or a new entry, a runner that waits, a held word that is taken.
--- Assumes nothing.
 use Prim.Native.Nat.{ℕ, _+_, _≤_, _<_}
 use mathlib.Core.Path.{_≡_, refl, sym, ap, _∙_}
 use mathlib.Core.Bool.{Bool, true, false, _||_, not, false≢true}

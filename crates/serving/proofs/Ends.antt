@@ -1,5 +1,4 @@
 -- Ending: the set closed round by round, the tables without it, and who is released.
--- Assumes nothing.
 use Prim.Native.Nat.{ℕ, _+_, _≤_, _<_}
 use mathlib.Core.Path.{_≡_, sym, ap, _∙_}
 use mathlib.Core.Logic.{_≢_}

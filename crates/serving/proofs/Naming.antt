@@ -1,5 +1,4 @@
 -- The walk for a free name over the threads of a memory, place by place, and how it comes round.
--- Assumes nothing.
 use Prim.Native.Nat.{ℕ, suc, _+_, _-_, _%_, _≤_, _<_}
 use mathlib.Core.Path.{_≡_, refl, sym, ap, _∙_}
 use mathlib.Core.Logic.{_≢_}

@@ -1,5 +1,4 @@
 -- Send, decisions, receive and traps: each exit's tables are what the rules say, and what is woken or told has room.
--- Assumes nothing.
 use Prim.Native.Nat.{ℕ, zero, suc, _+_, _≤_, _<_}
 use mathlib.Core.Path.{_≡_, refl, sym, ap, _∙_}
 use mathlib.Core.Logic.{_≢_}

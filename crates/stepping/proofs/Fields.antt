@@ -1,5 +1,4 @@
 -- The bytes of one field: the numbers in them, how long each tag's field is, and what the rules say of each exit of the decoder.
--- Assumes nothing.
 use Prim.Native.Nat.{ℕ, suc, _+_, _*_, _≤_, _<_}
 use mathlib.Core.Path.{_≡_, refl, _∙_}
 use mathlib.Core.Logic.{_≢_}

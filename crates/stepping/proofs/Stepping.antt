@@ -1,5 +1,4 @@
 -- What start, refusals and step need of the rules: the first thread, the room of a call that nothing refuses, a step by its two ways.
--- Assumes nothing.
 use Prim.Native.Nat.{ℕ, zero, suc, _+_, _<_}
 use mathlib.Core.Path.{_≡_, refl, sym, ap, _∙_}
 use mathlib.Core.Logic.{_≢_}

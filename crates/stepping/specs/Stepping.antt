@@ -1,5 +1,4 @@
 -- What a step on a memory that stands leaves.
--- Assumes nothing.
 use Prim.Native.Nat.{ℕ}
 use mathlib.Core.Path.{_≡_}
 use mathlib.Core.Logic.{_≢_}

@@ -1,5 +1,4 @@
 -- Messages: the blocks they use, one that joins its inbox, and one that is taken out.
--- Assumes nothing.
 use Prim.Native.Nat.{ℕ, _+_, _≤_, _<_}
 use mathlib.Core.Path.{_≡_, refl, sym, ap, _∙_}
 use mathlib.Core.Bool.{Bool, false, not}

@@ -1,5 +1,4 @@
 -- What the store's users know of a memory that is Shaped, and of a search by name.
--- Assumes nothing.
 use Prim.Native.Nat.{ℕ, _≤_, _<_}
 use mathlib.Core.Path.{_≡_, refl, sym, _∙_}
 use mathlib.Core.Logic.{_≢_}

@@ -1,3 +1,2 @@
 -- The marks beside an ending's set, for those above.
--- Assumes nothing.
 pub use Rattle.moving.proofs.Marking.{no-marks, marks-of}

@@ -1,6 +1,5 @@
 -- The tables without those an ending has found, row by row: m became m₁ without their threads, that became m₂ without them in the ready queue, m₃ without
 -- them in the clock queue, m₄ without their messages; and a runner among them runs no more.
--- Assumes nothing.
 use Prim.Native.Nat.{ℕ, _≤_}
 use mathlib.Core.Path.{_≡_, refl, sym, ap, _∙_}
 use mathlib.Core.Bool.{Bool, true, false, not, _||_}

@@ -1,5 +1,4 @@
 -- What a memory stands for, in the words of the contracts. All that is above the store speaks of these; none of it looks inside Shaped and Holding.
--- Assumes nothing.
 use Prim.Native.Nat.{ℕ, _≤_}
 use mathlib.Core.Path.{_≡_}
 use mathlib.Core.Bool.{Bool}

@@ -1,6 +1,5 @@
 -- A program between two rounds: its memory and buffers have their lengths, the run is right, and the number of the next line has room for the
 -- rounds that are left.
--- Assumes nothing.
 use Prim.Native.Nat.{ℕ, _+_, _*_, _≤_}
 use mathlib.Core.Path.{_≡_, sym, _∙_}
 use mathlib.Core.Bool.{Bool}

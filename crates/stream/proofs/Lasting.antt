@@ -1,6 +1,5 @@
 -- Where a turn stops. With room for a line it stops, told that more comes, only before a field that is not all there; and told that nothing
 -- comes, it serves a field that is not all there as the last.
--- Assumes nothing.
 use Prim.Native.Nat.{ℕ, suc, _+_, _*_, _≤_, _<_}
 use mathlib.Core.Path.{_≡_, refl, sym, ap, _∙_}
 use mathlib.Core.Bool.{Bool, true, false, _&&_, not, false≢true}

@@ -1,5 +1,4 @@
 -- What turns, reads and rounds keep: the run lies in its buffers, and the number of the next line grows by no more than the bytes that are there.
--- Assumes nothing.
 use Prim.Native.Nat.{ℕ, zero, suc, _+_, _-_, _≤_, _<_, min}
 use mathlib.Core.Path.{_≡_, refl, sym, ap, _∙_, subst}
 use mathlib.Core.Bool.{Bool, false}

@@ -1,6 +1,5 @@
 -- The programs' loop, whole. From a start: rounds until a read tells the end of the input, then a last turn, and the last line. Whatever
 -- pieces the reads give, what is written is the document's output for all that was read, and the tables at the end are those of the rules' run.
--- Assumes nothing.
 use Prim.Native.Nat.{ℕ, zero, suc, _+_, _-_, _≤_, _<_}
 use mathlib.Core.Path.{_≡_, refl, sym, ap, ap₂, _∙_}
 use mathlib.Core.Bool.{true, false, false≢true}

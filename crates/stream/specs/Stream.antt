@@ -1,5 +1,4 @@
 -- The loop that the programs share: what a start, a turn, a read and a round of it promise, exactly but for the bytes that are read.
--- Assumes nothing.
 use Prim.Native.Nat.{ℕ, _+_, _<_, _≤_}
 use mathlib.Core.Bool.{Bool, false}
 use mathlib.Core.Path.{_≡_}

@@ -1,5 +1,4 @@
 -- Words that say a name, a state, an answer, a sender; a record's words after its stores.
--- Assumes nothing.
 use Prim.Native.Nat.{ℕ, _+_, _-_, _<_}
 use mathlib.Core.Path.{_≡_, refl, sym, ap, _∙_}
 use mathlib.Core.List.{List, [], _∷_}

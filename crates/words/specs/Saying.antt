@@ -1,6 +1,5 @@
 -- What the words of the memory say. Every word says something. A word that would not be written for what it says (a name that is no byte,
 -- a detail where there is none) says something that no table rule allows, so that a flipped bit is found by the table rules alone.
--- Assumes nothing.
 use Prim.Native.Nat.{ℕ, _+_, _-_}
 use mathlib.Core.Bool.{_&&_}
 use mathlib.Core.List.{List, [], _∷_}

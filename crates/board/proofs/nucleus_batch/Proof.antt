@@ -1,6 +1,5 @@
 -- `nucleus_batch` meets its contract: a walk of its code, by hand. `batch_value` is called on copies of the tables and of the events, and on the output, and each borrow is closed at what it and `rest_at` give.
 -- Of the two functions it knows the contracts, of the tables no field.
--- Assumes nothing.
 use mathlib.Core.Path.{_≡_, refl}
 use Prim.Native.Nat.{ℕ}
 use mathlib.Core.List.{List, [], _∷_}

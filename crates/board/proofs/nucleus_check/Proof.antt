@@ -1,6 +1,5 @@
 -- `nucleus_check` meets its contract: a walk of its code, by hand. The tables behind the `&` are copied out whole, and `check_value` is called on the
 -- copy. Of `check_value` it knows the contract, of the tables no field.
--- Assumes nothing.
 use mathlib.Core.Path.{_≡_, refl}
 use Prim.Native.Nat.{ℕ}
 use mathlib.Core.List.{List, [], _∷_}

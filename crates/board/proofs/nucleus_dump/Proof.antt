@@ -1,7 +1,6 @@
 -- `nucleus_dump` meets its contract: a walk of its code, by hand. The tables behind the `&` are copied out whole, and `dump_value` is called on the copy
 -- and the buffer. The buffer is given up to that call for good, so what `dump_value` says of its last bytes is said here. Of `dump_value` it knows the
 -- contract, of the tables no field.
--- Assumes nothing.
 use mathlib.Core.Path.{_≡_, refl}
 use Prim.Native.Nat.{ℕ}
 use mathlib.Core.List.{List, [], _∷_}

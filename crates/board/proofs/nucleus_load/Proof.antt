@@ -1,6 +1,5 @@
 -- `nucleus_load` meets its contract: a walk of its code, by hand. The borrow is opened, the tables are copied out whole, `load_value` is called on
 -- the copy, the tables that it gives are stored whole, and the borrow is closed at them. Of `load_value` it knows the contract, of the tables no field.
--- Assumes nothing.
 use mathlib.Core.Path.{refl}
 use Prim.Native.Nat.{ℕ}
 use mathlib.Core.List.{List, [], _∷_}

@@ -1,5 +1,4 @@
 -- `nucleus_sizes` meets its contract: the layout of each struct, computed.
--- Assumes nothing.
 use mathlib.Core.Path.{refl}
 use Rattle.board.specs.Layout.{end-of, largest-align, struct, array, lent-tables, report, sizes-of}
 use Rattle.board.proofs.nucleus_sizes.Statement.{statement}

@@ -1,6 +1,5 @@
 -- `nucleus_start` meets its contract: a walk of its code, by hand. `start_value` is called, the borrow is opened, the tables are stored whole, and the
 -- borrow is closed at them. Of `start_value` it knows the contract; of what stood there before it knows nothing.
--- Assumes nothing.
 use mathlib.Core.Path.{refl}
 use Prim.Native.Nat.{ℕ}
 use mathlib.Core.List.{List, [], _∷_}

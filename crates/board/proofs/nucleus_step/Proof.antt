@@ -1,6 +1,5 @@
 -- `nucleus_step` meets its contract: a walk of its code, by hand. The borrow is opened, the tables are copied out whole, `step_numbers` is called on
 -- the copy, the new tables are stored whole, and the borrow is closed at them. Of `step_numbers` it knows the contract, of the tables no field.
--- Assumes nothing.
 use mathlib.Core.Path.{_≡_, refl, ap}
 use Prim.Native.Nat.{ℕ}
 use mathlib.Core.List.{List, [], _∷_}

@@ -1,5 +1,4 @@
 -- `buffer::put_bytes` meets its contract. After i turns the first i bytes of the text are put.
--- Assumes nothing.
 use Prim.Native.Nat.{ℕ, _+_, _-_, _≤_}
 use mathlib.Core.Path.{_≡_, refl, sym, ap, _∙_}
 use mathlib.Core.List.{List, [], _∷_, _++_}

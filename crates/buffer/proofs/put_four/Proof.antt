@@ -1,5 +1,4 @@
 -- `put_four` meets its contract: its bytes are written one by one.
--- Assumes nothing.
 use native.Mathlib.Omega.{arith}
 use lib.ListN.{length-set}
 use borrow.Author.Needs.{needs}

@@ -1,5 +1,4 @@
 -- `put_head` meets its contract: a length below 256 has 0 as its high byte.
--- Assumes nothing.
 use native.Mathlib.Omega.{arith}
 use borrow.Author.Needs.{needs}
 use Rattle.buffer.proofs.Putting.{short-length}

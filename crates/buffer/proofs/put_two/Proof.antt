@@ -1,5 +1,4 @@
 -- `put_two` meets its contract: its bytes are written one by one.
--- Assumes nothing.
 use borrow.Author.Needs.{needs}
 use Rattle.buffer.proofs.Putting.{puts-two}
 use Rattle.buffer.proofs.put_two.Statement.{statement}

@@ -1,7 +1,6 @@
 -- `field_at` meets its contract: a walk of its code, by hand. The reader that `at_place` returns is held in a local and passed to `next`. All that the
 -- proof knows of the two is that each meets its contract. The machine value that `at_place` returns is stored and passed on as it is. In a local of a
 -- body the lifetime of the struct's type is erased, so the value is shown to have the type at `erased`: what it owns does not say the lifetime's name.
--- Assumes nothing.
 use mathlib.Core.Path.{_≡_, refl, ap, _∙_}
 use Prim.Native.Nat.{ℕ, _<_, _^_}
 use mathlib.Core.List.{List, [], _∷_}

@@ -1,5 +1,4 @@
 -- `answers` is safe and ends: the memory keeps its length.
--- Assumes nothing.
 use Prim.Native.Nat.{_-_}
 use mathlib.Core.Path.{_≡_, refl, _∙_}
 use native.Mathlib.Omega.{arith}

@@ -1,5 +1,4 @@
 -- `gauge_again` is safe: what was read stands, and its dump fits.
--- Assumes nothing.
 use Prim.Native.Nat.{ℕ}
 use mathlib.Core.Path.{_≡_}
 use mathlib.Core.Bool.{true}

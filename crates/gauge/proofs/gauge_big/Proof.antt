@@ -1,5 +1,4 @@
 -- `gauge_big` is safe: a started memory stands, at any limits.
--- Assumes nothing.
 use Rattle.laws.proofs.Kept.{start-ruled}
 use Rattle.rules.specs.Numbers.{Limits}
 use native.Mathlib.Omega.{arith}

@@ -1,5 +1,4 @@
 -- `gauge_check` is safe: a started memory stands; the check asks nothing.
--- Assumes nothing.
 use borrow.Author.Needs.{needs}
 use Rattle.lending.proofs.Standing.{checked}
 use Rattle.gauge.proofs.gauge_check.Statement.{statement}

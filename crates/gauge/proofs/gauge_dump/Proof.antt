@@ -1,5 +1,4 @@
 -- `gauge_dump` is safe: the memory that a run leaves stands, with the limits that it was started with.
--- Assumes nothing.
 use mathlib.Core.Path.{_∙_}
 use Rattle.lending.proofs.Standing.{checked, passes}
 use native.Mathlib.Omega.{arith}

@@ -1,5 +1,4 @@
 -- `gauge_step` is safe: a started memory stands.
--- Assumes nothing.
 use borrow.Author.Needs.{needs}
 use Rattle.lending.proofs.Standing.{checked}
 use Rattle.gauge.proofs.gauge_step.Statement.{statement}

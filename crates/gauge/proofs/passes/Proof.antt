@@ -1,5 +1,4 @@
 -- `passes` is safe and ends: the count of those that passed is at most the count of the turns.
--- Assumes nothing.
 use Prim.Native.Nat.{_≤_, _-_}
 use mathlib.Core.Path.{_≡_, refl, ap, _∙_}
 use mathlib.Core.Logic.{⊎-elim}

@@ -1,5 +1,4 @@
 -- `reads` is safe and ends: the memory keeps its length, and the count of those that were read is at most the count of the turns.
--- Assumes nothing.
 use Prim.Native.Nat.{_≤_, _-_}
 use mathlib.Core.Path.{_≡_, refl, _∙_}
 use mathlib.Core.Logic.{⊎-elim}

@@ -1,6 +1,5 @@
 -- `run_in` meets its contract: each step leaves a memory that stands, with the limits that it had. An event that is accepted passed a byte at least, so the count does not
 -- wrap; what is left of the bytes is the measure.
--- Assumes nothing.
 use Prim.Native.Nat.{_≤_, _-_}
 use mathlib.Core.Path.{_≡_, refl, _∙_}
 use native.Mathlib.Omega.{arith}

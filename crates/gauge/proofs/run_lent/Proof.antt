@@ -1,5 +1,4 @@
 -- `run_lent` is safe and ends, as `run_in`: a step on a lent memory asks nothing of it.
--- Assumes nothing.
 use Prim.Native.Nat.{_≤_, _-_}
 use mathlib.Core.Path.{_≡_, refl, _∙_}
 use native.Mathlib.Omega.{arith}

@@ -1,5 +1,4 @@
 -- `writes` is safe and ends: the dump of a memory that stands fits, and the buffer keeps its length.
--- Assumes nothing.
 use Prim.Native.Nat.{_≤_, _-_}
 use mathlib.Core.Path.{_≡_, refl, _∙_}
 use mathlib.Core.Logic.{⊎-elim}

@@ -1,5 +1,4 @@
 -- `buffer` meets its contract: so many zeros. (Found by search, the length would be counted out.)
--- Assumes nothing.
 use Prim.Native.Nat.{ℕ}
 use mathlib.Core.Path.{sym}
 use lib.ListN.{length-replicate}

@@ -1,5 +1,4 @@
 -- `main` is safe and ends: the window lies in the buffer, whose length stays.
--- Assumes nothing.
 use Prim.Native.Nat.{_≤_}
 use mathlib.Core.Path.{_≡_, sym, _∙_}
 use native.Mathlib.Omega.{arith}

@@ -1,5 +1,4 @@
 -- `print_verdict` meets its contract: the line lies in the buffer.
--- Assumes nothing.
 use Rattle.buffer.proofs.Putting.{place-within}
 use borrow.Author.Needs.{needs}
 use Rattle.inspect.proofs.print_verdict.Statement.{statement}

@@ -1,5 +1,4 @@
 -- `main` is safe and ends: the rounds that are left go down, and between two of them all is as `Going` says.
--- Assumes nothing.
 use mathlib.Core.Path.{sym}
 use native.Mathlib.Omega.{arith}
 use borrow.Author.Needs.{needs}

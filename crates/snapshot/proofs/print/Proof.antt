@@ -1,5 +1,4 @@
 -- `print` meets its contract: the part that is written has n bytes.
--- Assumes nothing.
 use mathlib.Core.Path.{sym}
 use lib.Seq.{length-take-le}
 use borrow.Author.Needs.{needs}

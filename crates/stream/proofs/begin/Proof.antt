@@ -1,5 +1,4 @@
 -- `begin` meets its contract: a started memory stands.
--- Assumes nothing.
 use mathlib.Core.Path.{refl}
 use borrow.Author.Needs.{needs}
 use Rattle.lending.proofs.Standing.{checked}

@@ -1,5 +1,4 @@
 -- `read_more` meets its contract: what the window's `refill` promises.
--- Assumes nothing.
 use mathlib.Core.Path.{refl}
 use borrow.Author.Needs.{needs}
 use Rattle.stream.proofs.read_more.Statement.{statement}

@@ -1,5 +1,4 @@
 -- `round` meets its contract: by those of `serve` and `read_more`.
--- Assumes nothing.
 use mathlib.Core.Path.{refl}
 use native.Mathlib.Omega.{arith}
 use borrow.Author.Needs.{needs}

@@ -1,5 +1,4 @@
 -- `serve` meets its contract: what a turn promises of the bytes in the window.
--- Assumes nothing.
 use mathlib.Core.Path.{refl}
 use borrow.Author.Needs.{needs}
 use Rattle.stream.proofs.serve.Statement.{statement}

@@ -1,5 +1,4 @@
 -- `answers::answer_in_range` meets its contract: a word is in its range by its type, so that the sender is left to test.
--- Assumes nothing.
 use mathlib.Core.Path.{sym, ap, _∙_}
 use borrow.Author.Needs.{needs}
 use Rattle.agreeing.proofs.Widths.{sender-in-range, word-fits}

@@ -1,5 +1,4 @@
 -- `answers::answer_right` meets its contract: the tests are tried in turn.
--- Assumes nothing.
 use borrow.Author.Needs.{needs}
 use Rattle.laws.proofs.Tests.{not-true, not-false}
 use Rattle.agreeing.proofs.answers.answer_right.Statement.{statement}

@@ -1,5 +1,4 @@
 -- `answers::answers_right` meets its contract. The loop: the answers passed are right.
--- Assumes nothing.
 use Prim.Native.Nat.{_-_}
 use mathlib.Core.Path.{refl, sym, ap₂, _∙_}
 use mathlib.Core.Bool.{_&&_, _||_}

@@ -1,5 +1,4 @@
 -- `answers::is_nothing` answers as the rule, case by case.
--- Assumes nothing.
 use borrow.Author.Needs.{needs}
 use Rattle.rules.specs.TableRules.{is-nothing}
 use Rattle.agreeing.proofs.answers.is_nothing.Statement.{statement}

@@ -1,5 +1,4 @@
 -- `inboxes::inboxes_right` meets its contract. The loop: no thread accepts a message passed.
--- Assumes nothing.
 use Prim.Native.Nat.{ℕ, _-_}
 use mathlib.Core.Path.{refl, sym, ap, ap₂, _∙_}
 use mathlib.Core.Bool.{not}

@@ -1,5 +1,4 @@
 -- `inboxes::messages_right` meets its contract. The loop: both ends of the messages passed live, and so many were ordinary.
--- Assumes nothing.
 use Prim.Native.Nat.{ℕ, _-_}
 use mathlib.Core.Path.{refl, sym, ap, ap₂, _∙_}
 use mathlib.Core.Bool.{_&&_}

@@ -1,5 +1,4 @@
 -- `inboxes::notices_right` meets its contract. The loop: the notices passed are right, and the marks say whose were met.
--- Assumes nothing.
 use Prim.Native.Nat.{_-_}
 use mathlib.Core.Path.{sym, ap, _∙_}
 use native.Mathlib.Omega.{arith}

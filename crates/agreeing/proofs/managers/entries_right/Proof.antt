@@ -1,5 +1,4 @@
 -- `managers::entries_right` meets its contract: the three entries are tried in turn.
--- Assumes nothing.
 use borrow.Author.Needs.{needs}
 use Rattle.rules.specs.Tables.{manager}
 use Rattle.laws.proofs.Both.{failed, passed}

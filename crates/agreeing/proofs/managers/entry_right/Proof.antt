@@ -1,5 +1,4 @@
 -- `managers::entry_right` meets its contract, case by case.
--- Assumes nothing.
 use borrow.Author.Needs.{needs}
 use Rattle.agreeing.proofs.managers.entry_right.Statement.{statement}
 use Rattle.agreeing.proofs.managers.entry_right.Tie as tie

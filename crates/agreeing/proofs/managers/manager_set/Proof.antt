@@ -1,5 +1,4 @@
 -- `managers::manager_set` answers as the rule, state by state.
--- Assumes nothing.
 use borrow.Author.Needs.{needs}
 use Rattle.rules.specs.TableRules.{manager-set}
 use Rattle.agreeing.proofs.managers.manager_set.Statement.{statement}

@@ -1,5 +1,4 @@
 -- `managers::names_live` meets its contract. The loop: what the threads passed want and have set lives.
--- Assumes nothing.
 use Prim.Native.Nat.{_-_}
 use mathlib.Core.Path.{refl, sym, ap, _∙_}
 use mathlib.Core.Bool.{_&&_}

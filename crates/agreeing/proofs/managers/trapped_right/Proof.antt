@@ -1,5 +1,4 @@
 -- `managers::trapped_right` meets its contract. The loop: who of the threads passed is trapped has a manager.
--- Assumes nothing.
 use Prim.Native.Nat.{_-_}
 use mathlib.Core.Path.{refl, sym, ap, _∙_}
 use native.Mathlib.Omega.{arith}

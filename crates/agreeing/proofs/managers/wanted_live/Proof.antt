@@ -1,5 +1,4 @@
 -- `managers::wanted_live` meets its contract, state by state.
--- Assumes nothing.
 use borrow.Author.Needs.{needs}
 use Rattle.agreeing.proofs.managers.wanted_live.Statement.{statement}
 use Rattle.agreeing.proofs.managers.wanted_live.Tie as tie

@@ -1,5 +1,4 @@
 -- `places::agrees` meets its contract: at each exit the code's tests are put in for the rule's.
--- Assumes nothing.
 use borrow.Author.Needs.{needs}
 use borrow.Author.Tests.{eq-eqb, ne-eqb}
 use Rattle.agreeing.proofs.places.agrees.Statement.{statement}

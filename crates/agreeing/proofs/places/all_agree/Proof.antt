@@ -1,5 +1,4 @@
 -- `places::all_agree` meets its contract. The loop: each thread passed stands where its state says.
--- Assumes nothing.
 use Prim.Native.Nat.{_-_}
 use mathlib.Core.Path.{refl, sym, _∙_}
 use native.Mathlib.Omega.{arith}

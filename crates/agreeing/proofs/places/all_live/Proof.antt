@@ -1,5 +1,4 @@
 -- `places::all_live` meets its contract. The loop: the names passed are live.
--- Assumes nothing.
 use Prim.Native.Nat.{ℕ, _-_}
 use mathlib.Core.Path.{_≡_, sym, ap, _∙_}
 use mathlib.Core.List.{List}

@@ -1,5 +1,4 @@
 -- `places::is_runner` meets its contract: by whether anybody runs.
--- Assumes nothing.
 use borrow.Author.Needs.{needs}
 use Rattle.rules.specs.Tables.{runs-as}
 use Rattle.agreeing.proofs.places.is_runner.Statement.{statement}

@@ -1,5 +1,4 @@
 -- `places::places_agree` meets its contract: the four tests are tried in turn.
--- Assumes nothing.
 use native.Mathlib.Omega.{arith}
 use borrow.Author.Needs.{needs}
 use Rattle.store.specs.Store.{tables}

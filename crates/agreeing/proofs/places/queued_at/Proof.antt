@@ -1,5 +1,4 @@
 -- `places::queued_at` meets its contract, by the queue.
--- Assumes nothing.
 use Rattle.agreeing.proofs.places.queued_at.Statement.{statement}
 use Rattle.agreeing.proofs.places.queued_at.Tie as tie
 

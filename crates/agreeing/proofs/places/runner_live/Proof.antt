@@ -1,5 +1,4 @@
 -- `places::runner_live` meets its contract: by whether anybody runs.
--- Assumes nothing.
 use borrow.Author.Needs.{needs}
 use Rattle.agreeing.proofs.places.runner_live.Statement.{statement}
 use Rattle.agreeing.proofs.places.runner_live.Tie as tie

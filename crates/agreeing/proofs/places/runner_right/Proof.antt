@@ -1,5 +1,4 @@
 -- `places::runner_right` meets its contract: by whether anybody runs.
--- Assumes nothing.
 use Prim.Native.Nat.{ℕ}
 use mathlib.Core.Path.{sym, ap, _∙_}
 use borrow.Author.Needs.{needs}

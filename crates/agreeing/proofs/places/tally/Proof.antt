@@ -1,5 +1,4 @@
 -- `places::tally` meets its contract. The loop: how often each name was met so far.
--- Assumes nothing.
 use Prim.Native.Nat.{_-_}
 use native.Mathlib.Omega.{arith}
 use borrow.Author.Needs.{needs}

@@ -1,5 +1,4 @@
 -- `batch::batch` meets its contract: what is served, and the end of the bytes behind it.
--- Assumes nothing.
 use borrow.Author.Needs.{needs}
 use Rattle.batching.proofs.Serving.{hands-back}
 use Rattle.batching.proofs.batch.batch.Statement.{statement}

@@ -1,5 +1,4 @@
 -- `batch::put_decision` meets its contract: six writes, one behind the other.
--- Assumes nothing.
 use Prim.Native.Nat.{_<_}
 use mathlib.Core.Path.{sym}
 use native.Mathlib.Omega.{arith}

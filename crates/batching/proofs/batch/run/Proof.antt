@@ -1,6 +1,5 @@
 -- `batch::run` meets its contract. Whenever the loop's test is reached, the events so far were run by single calls, and their decisions stand in the
 -- buffer. The measure is how many are left.
--- Assumes nothing.
 use Prim.Native.Nat.{_+_, _≤_}
 use mathlib.Core.Path.{_≡_, ap}
 use native.Mathlib.Omega.{arith}

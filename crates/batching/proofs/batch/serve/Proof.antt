@@ -1,5 +1,4 @@
 -- `batch::serve` meets its contract: 14, or all complete fields run.
--- Assumes nothing.
 use native.Mathlib.Omega.{arith}
 use borrow.Author.Needs.{needs}
 use Rattle.batching.proofs.Serving.{refused-14, ran}

@@ -1,6 +1,5 @@
 -- `complete::count_complete` meets its contract. Whenever the loop's test is reached, the fields up to the place are counted. The measure is how many
 -- bytes are left.
--- Assumes nothing.
 use Prim.Native.Nat.{_-_}
 use mathlib.Core.Path.{sym, _∙_}
 use lib.ListN.{length}

@@ -1,5 +1,4 @@
 -- `values::report` meets its contract: number by number.
--- Assumes nothing.
 use Rattle.board.specs.Board.{report-of}
 use borrow.Author.Needs.{needs}
 use Rattle.board.proofs.values.report.Statement.{statement}

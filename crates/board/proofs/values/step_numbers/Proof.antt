@@ -1,5 +1,4 @@
 -- `values::step_numbers` meets its contract: that of `step_value`, its decision as numbers.
--- Assumes nothing.
 use mathlib.Core.Path.{ap, _∙_}
 use Rattle.board.specs.declared.Report.{Report}
 use Rattle.board.specs.Board.{report-of}

@@ -1,5 +1,4 @@
 -- `check::check` meets its contract.
--- Assumes nothing.
 use borrow.Author.Needs.{needs}
 use Rattle.checking.proofs.check.check.Statement.{statement}
 use Rattle.checking.proofs.check.check.Tie as tie

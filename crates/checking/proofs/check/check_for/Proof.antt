@@ -1,5 +1,4 @@
 -- `check::check_for` meets its contract: the rules are asked of a memory that is shaped right.
--- Assumes nothing.
 use mathlib.Core.Path.{refl, sym, ap, _∙_}
 use Rattle.rules.specs.Numbers.{Limits}
 use Rattle.rules.specs.TableRules.{table-rules}

@@ -1,5 +1,4 @@
 -- `rules_met::messages_met` meets its contract: the rules are tried in turn.
--- Assumes nothing.
 use Rattle.laws.proofs.Both.{failed, passed}
 use Rattle.checking.proofs.rules_met.messages_met.Statement.{statement}
 use Rattle.checking.proofs.rules_met.messages_met.Tie as tie

@@ -1,5 +1,4 @@
 -- `rules_met::rules_met` meets its contract: one rule that fails is enough, and where all but those on threads hold, these decide.
--- Assumes nothing.
 use mathlib.Core.Path.{_∙_}
 use Rattle.store.specs.Store.{tables, limits}
 use Rattle.laws.proofs.Both.{failed, passed}

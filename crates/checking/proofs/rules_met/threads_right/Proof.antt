@@ -1,5 +1,4 @@
 -- `rules_met::threads_right` meets its contract: the rules are tried in turn.
--- Assumes nothing.
 use Rattle.laws.proofs.Both.{failed, passed}
 use Rattle.checking.proofs.rules_met.threads_right.Statement.{statement}
 use Rattle.checking.proofs.rules_met.threads_right.Tie as tie

@@ -1,5 +1,4 @@
 -- `shown::answer_right` meets its contract, test by test.
--- Assumes nothing.
 use mathlib.Core.Logic.{⊎-elim}
 use borrow.Author.Tests.{eq-eqb, ne-eqb}
 use Rattle.dumping.specs.Shown.{answer-right}

@@ -1,5 +1,4 @@
 -- `shown::manager_number` meets its contract: gone, or a byte.
--- Assumes nothing.
 use mathlib.Core.Path.{_∙_}
 use borrow.Author.Needs.{needs}
 use Rattle.dumping.proofs.Showing.{gone-shown, manager-shown}

@@ -1,5 +1,4 @@
 -- `shown::sender_number` meets its contract, test by test.
--- Assumes nothing.
 use borrow.Author.Tests.{eq-eqb, ne-eqb}
 use borrow.Author.Needs.{needs}
 use Rattle.dumping.specs.Shown.{sender-number}

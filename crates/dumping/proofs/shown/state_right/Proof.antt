@@ -1,5 +1,4 @@
 -- `shown::state_right` meets its contract, test by test.
--- Assumes nothing.
 use borrow.Author.Tests.{eq-eqb, ne-eqb}
 use Rattle.dumping.specs.Shown.{state-right}
 use Rattle.dumping.proofs.shown.state_right.Statement.{statement}

@@ -1,5 +1,4 @@
 -- `shown::write_answer` meets its contract: the words as they stand, or as the answer that they say.
--- Assumes nothing.
 use mathlib.Core.Path.{refl, sym, _∙_}
 use mathlib.Core.List.{_∷_}
 use Rattle.rules.specs.Lists.{four-bytes}

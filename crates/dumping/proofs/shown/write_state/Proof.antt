@@ -1,5 +1,4 @@
 -- `shown::write_state` meets its contract: both words as they stand, or as the state that they say.
--- Assumes nothing.
 use mathlib.Core.Path.{sym, _∙_}
 use mathlib.Core.List.{[], _∷_}
 use Rattle.buffer.proofs.Putting.{said}

@@ -1,5 +1,4 @@
 -- `writing::count_held` meets its contract. The loop: the held words of the devices passed are counted.
--- Assumes nothing.
 use Prim.Native.Nat.{_-_}
 use Rattle.rules.specs.Numbers.{devices}
 use Rattle.store.specs.Store.{tables}

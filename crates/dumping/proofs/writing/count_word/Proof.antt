@@ -1,5 +1,4 @@
 -- `writing::count_word` meets its contract: one or none.
--- Assumes nothing.
 use mathlib.Core.Path.{sym, _∙_}
 use Rattle.dumping.proofs.Puttings.{no-length, one-length}
 use Rattle.dumping.proofs.writing.count_word.Statement.{statement}

@@ -1,5 +1,4 @@
 -- `writing::dump_length` meets its contract: the lengths of the parts.
--- Assumes nothing.
 use Rattle.store.specs.Store.{tables}
 use Rattle.dumping.proofs.Parts.{lengths, short}
 use native.Mathlib.Omega.{arith}

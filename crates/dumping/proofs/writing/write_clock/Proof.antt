@@ -1,5 +1,4 @@
 -- `writing::write_clock` meets its contract. The loop: the names passed stand behind the head of the field.
--- Assumes nothing.
 use Prim.Native.Nat.{_-_}
 use mathlib.Core.Path.{_∙_}
 use Rattle.store.specs.Store.{tables}

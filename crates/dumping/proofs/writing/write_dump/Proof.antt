@@ -1,5 +1,4 @@
 -- `writing::write_dump` meets its contract: each part is put behind those before it.
--- Assumes nothing.
 use mathlib.Core.List.{List}
 use Prim.Native.Nat.{ℕ}
 use Rattle.rules.specs.Tables.{Tables}

@@ -1,5 +1,4 @@
 -- `writing::write_front` meets its contract: each put behind the one before.
--- Assumes nothing.
 use mathlib.Core.Path.{refl}
 use Rattle.buffer.proofs.Putting.{behind, counted, said}
 use Rattle.dumping.proofs.Showing.{front-bytes}

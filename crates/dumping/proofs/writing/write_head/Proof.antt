@@ -1,5 +1,4 @@
 -- `writing::write_head` meets its contract: each put behind the one before.
--- Assumes nothing.
 use mathlib.Core.Path.{refl, ap, _∙_}
 use Rattle.rules.specs.Tables.{me}
 use Rattle.rules.specs.Codes.{status-code, slice-code}

@@ -1,5 +1,4 @@
 -- `writing::write_held` meets its contract. The loop: the fields of the held words of the devices passed stand at the front.
--- Assumes nothing.
 use Prim.Native.Nat.{_-_}
 use Rattle.rules.specs.Numbers.{devices}
 use Rattle.rules.specs.Dump.{field, held-value}

@@ -1,5 +1,4 @@
 -- `writing::write_message` meets its contract: each put behind the one before.
--- Assumes nothing.
 use mathlib.Core.Path.{refl}
 use Rattle.rules.specs.Dump.{message-value}
 use Rattle.buffer.proofs.Putting.{behind, counted}

@@ -1,5 +1,4 @@
 -- `writing::write_messages` meets its contract. The loop: the fields of the messages passed stand at the front.
--- Assumes nothing.
 use Prim.Native.Nat.{_-_}
 use mathlib.Core.List.{[], _∷_}
 use lib.ListN.{take, getD}

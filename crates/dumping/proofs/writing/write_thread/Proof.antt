@@ -1,5 +1,4 @@
 -- `writing::write_thread` meets its contract: each put behind the one before.
--- Assumes nothing.
 use mathlib.Core.Path.{refl}
 use Rattle.buffer.proofs.Putting.{behind, counted, said}
 use Rattle.dumping.specs.Shown.{thread-front}

@@ -1,5 +1,4 @@
 -- `writing::write_threads` meets its contract. The loop: the fields of the threads passed stand at the front.
--- Assumes nothing.
 use Prim.Native.Nat.{_-_}
 use mathlib.Core.Path.{_∙_}
 use mathlib.Core.List.{[], _∷_}

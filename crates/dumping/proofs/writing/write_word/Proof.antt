@@ -1,5 +1,4 @@
 -- `writing::write_word` meets its contract: nothing, or the word behind tag, length and device.
--- Assumes nothing.
 use Prim.Native.Nat.{_≤_}
 use mathlib.Core.Path.{_≡_, refl, sym, _∙_}
 use mathlib.Core.Bool.{true}

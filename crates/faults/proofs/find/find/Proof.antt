@@ -1,5 +1,4 @@
 -- `find::find` meets its contract: one law for each exit.
--- Assumes nothing.
 use borrow.Author.Needs.{needs}
 use Rattle.faults.proofs.Finding.{lengths-right, found-15, ended-15, found-16, found-17, found-18, none-found}
 use Rattle.faults.proofs.find.find.Statement.{statement}

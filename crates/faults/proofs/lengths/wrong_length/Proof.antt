@@ -1,5 +1,4 @@
 -- `lengths::wrong_length` meets its contract: what the table says of the tag.
--- Assumes nothing.
 use lib.ListN.{length-drop}
 use borrow.Author.Tests.{not-true, not-false}
 use borrow.Author.Needs.{needs}

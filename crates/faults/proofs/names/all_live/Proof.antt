@@ -1,5 +1,4 @@
 -- `names::all_live` meets its contract: those before i live.
--- Assumes nothing.
 use Prim.Native.Nat.{_-_}
 use mathlib.Core.Path.{sym, _∙_}
 use borrow.Author.Tests.{not-true, not-false}

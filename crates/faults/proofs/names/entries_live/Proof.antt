@@ -1,5 +1,4 @@
 -- `names::entries_live` meets its contract: entry by entry.
--- Assumes nothing.
 use mathlib.Core.Path.{sym, _∙_}
 use borrow.Author.Tests.{not-true, not-false}
 use borrow.Author.Needs.{needs}

@@ -1,5 +1,4 @@
 -- `names::entry` meets its contract: each arm is the entry of its kind.
--- Assumes nothing.
 use borrow.Author.Needs.{needs}
 use Rattle.rules.specs.Tables.{manager as manager-of}
 use Rattle.faults.proofs.names.entry.Statement.{statement}

@@ -1,5 +1,4 @@
 -- `names::head_lives` meets its contract: the runner that the two bytes stand for.
--- Assumes nothing.
 use borrow.Author.Needs.{needs}
 use Rattle.rules.specs.Faults.{head-lives as head-lives-of}
 use Rattle.faults.proofs.names.head_lives.Statement.{statement}

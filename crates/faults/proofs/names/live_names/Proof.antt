@@ -1,5 +1,4 @@
 -- `names::live_names` meets its contract: the names of the fields before a place are marked. The measure is how many bytes are left.
--- Assumes nothing.
 use Prim.Native.Nat.{_-_}
 use mathlib.Core.Path.{sym, _∙_}
 use native.Mathlib.Omega.{arith}

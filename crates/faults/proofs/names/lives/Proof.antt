@@ -1,5 +1,4 @@
 -- `names::lives` meets its contract: the mark that stands at the name.
--- Assumes nothing.
 use borrow.Author.Needs.{needs}
 use Rattle.faults.specs.Names.{lives-in}
 use Rattle.faults.proofs.names.lives.Statement.{statement}

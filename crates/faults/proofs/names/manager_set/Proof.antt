@@ -1,5 +1,4 @@
 -- `names::manager_set` meets its contract: each arm is the rule's own case.
--- Assumes nothing.
 use mathlib.Core.Path.{ap, _∙_}
 use mathlib.Core.Bool.{true, false}
 use borrow.Author.Needs.{needs}

@@ -1,5 +1,4 @@
 -- `names::message_lives` meets its contract: receiver and sender.
--- Assumes nothing.
 use mathlib.Core.Path.{sym, _∙_}
 use borrow.Author.Tests.{not-true, not-false}
 use borrow.Author.Needs.{needs}

@@ -1,5 +1,4 @@
 -- `names::parent_lives` meets its contract: each arm is the rule's own case.
--- Assumes nothing.
 use borrow.Author.Needs.{needs}
 use Rattle.faults.proofs.names.parent_lives.Statement.{statement}
 use Rattle.faults.proofs.names.parent_lives.Tie as tie

@@ -1,5 +1,4 @@
 -- `names::runner_lives` meets its contract: each arm is the rule's own case.
--- Assumes nothing.
 use borrow.Author.Needs.{needs}
 use Rattle.faults.proofs.names.runner_lives.Statement.{statement}
 use Rattle.faults.proofs.names.runner_lives.Tie as tie

@@ -1,5 +1,4 @@
 -- `names::thread_lives` meets its contract: parent, wanted name, entries, and the entry that is waited for.
--- Assumes nothing.
 use mathlib.Core.Path.{sym, _∙_}
 use borrow.Author.Tests.{not-true, not-false}
 use borrow.Author.Needs.{needs}

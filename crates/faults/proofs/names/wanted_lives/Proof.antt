@@ -1,5 +1,4 @@
 -- `names::wanted_lives` meets its contract: each arm is the rule's own case.
--- Assumes nothing.
 use borrow.Author.Needs.{needs}
 use Rattle.faults.proofs.names.wanted_lives.Statement.{statement}
 use Rattle.faults.proofs.names.wanted_lives.Tie as tie

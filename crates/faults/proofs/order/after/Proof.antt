@@ -1,5 +1,4 @@
 -- `order::after` meets its contract: by tag, part by part.
--- Assumes nothing.
 use mathlib.Core.Path.{sym}
 use native.Mathlib.Omega.{arith}
 use borrow.Author.Tests.{eq-eqb, ne-eqb}

@@ -1,5 +1,4 @@
 -- `order::misplaced` meets its contract: one law of the table for each exit.
--- Assumes nothing.
 use borrow.Author.Tests.{not-true, not-false, lt-ltb, le-ltb}
 use borrow.Author.Needs.{needs}
 use Rattle.faults.specs.Order.{misplaced-behind}

@@ -1,5 +1,4 @@
 -- `order::missing` meets its contract: one of three was not there.
--- Assumes nothing.
 use borrow.Author.Tests.{not-true, not-false}
 use Rattle.faults.specs.Order.{missing as missing-of}
 use Rattle.faults.proofs.order.missing.Statement.{statement}

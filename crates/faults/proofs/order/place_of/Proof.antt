@@ -1,5 +1,4 @@
 -- `order::place_of` meets its contract: what the table says.
--- Assumes nothing.
 use mathlib.Core.Path.{ap}
 use borrow.Author.Needs.{needs}
 use Rattle.rules.specs.declared.DumpFacts.{DumpFacts}

@@ -1,5 +1,4 @@
 -- `order::seen` meets its contract: by tag.
--- Assumes nothing.
 use borrow.Author.Tests.{eq-eqb, ne-eqb}
 use Rattle.faults.specs.Order.{seen as seen-of}
 use Rattle.faults.proofs.order.seen.Statement.{statement}

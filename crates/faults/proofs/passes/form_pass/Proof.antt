@@ -1,5 +1,4 @@
 -- `passes::form_pass` meets its contract: the fields before a place have no fault. The measure is how many bytes are left.
--- Assumes nothing.
 use Prim.Native.Nat.{ℕ, _-_}
 use mathlib.Core.List.{List}
 use mathlib.Core.Path.{sym, ap, _∙_, subst}

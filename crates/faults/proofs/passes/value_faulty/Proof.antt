@@ -1,5 +1,4 @@
 -- `passes::value_faulty` meets its contract: by number.
--- Assumes nothing.
 use borrow.Author.Tests.{ne-eqb}
 use borrow.Author.Needs.{needs}
 use Rattle.faults.specs.Passes.{value-fault}

@@ -1,5 +1,4 @@
 -- `ranges::answer_fits` meets its contract: what is written for what it stands for.
--- Assumes nothing.
 use mathlib.Core.Path.{sym, _∙_}
 use native.Mathlib.Omega.{arith}
 use borrow.Author.Tests.{eq-eqb, ne-eqb}

@@ -1,5 +1,4 @@
 -- `ranges::answer_right` meets its contract: each arm is the rule's own case; a word is below 2^32.
--- Assumes nothing.
 use mathlib.Core.Path.{sym, _∙_}
 use borrow.Author.Tests.{lt-ltb}
 use borrow.Author.Needs.{needs}

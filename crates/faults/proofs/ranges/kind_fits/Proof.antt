@@ -1,5 +1,4 @@
 -- `ranges::kind_fits` meets its contract: what is written for the kind that it stands for.
--- Assumes nothing.
 use mathlib.Core.Path.{ap, _∙_}
 use borrow.Author.Needs.{needs}
 use Rattle.rules.specs.Codes.{message-code as message-code-of}

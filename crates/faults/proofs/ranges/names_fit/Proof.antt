@@ -1,5 +1,4 @@
 -- `ranges::names_fit` meets its contract: those before i are names.
--- Assumes nothing.
 use Prim.Native.Nat.{_-_}
 use mathlib.Core.Path.{sym, _∙_}
 use borrow.Author.Tests.{not-true, not-false}

@@ -1,5 +1,4 @@
 -- `ranges::out_of_range` meets its contract: a value of a wrong length is not looked at.
--- Assumes nothing.
 use Prim.Native.Nat.{ℕ}
 use mathlib.Core.List.{List}
 use mathlib.Core.Path.{sym, ap, _∙_}

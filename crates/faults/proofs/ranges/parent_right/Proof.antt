@@ -1,5 +1,4 @@
 -- `ranges::parent_right` meets its contract: each arm is the rule's own case.
--- Assumes nothing.
 use borrow.Author.Needs.{needs}
 use Rattle.faults.proofs.ranges.parent_right.Statement.{statement}
 use Rattle.faults.proofs.ranges.parent_right.Tie as tie

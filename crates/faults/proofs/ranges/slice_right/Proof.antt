@@ -1,5 +1,4 @@
 -- `ranges::slice_right` meets its contract: a test for each exit.
--- Assumes nothing.
 use mathlib.Core.Path.{sym, _∙_}
 use borrow.Author.Tests.{not-true, not-false, le-leb, lt-leb}
 use borrow.Author.Needs.{needs}

@@ -1,5 +1,4 @@
 -- `ranges::state_fits` meets its contract: what is written for what it stands for.
--- Assumes nothing.
 use mathlib.Core.Path.{sym, _∙_}
 use borrow.Author.Tests.{eq-eqb, ne-eqb}
 use borrow.Author.Needs.{needs}

@@ -1,5 +1,4 @@
 -- `ranges::state_right` meets its contract: each arm is the rule's own case.
--- Assumes nothing.
 use mathlib.Core.Path.{sym}
 use borrow.Author.Needs.{needs}
 use Rattle.rules.specs.TableRules.{state-in-range}

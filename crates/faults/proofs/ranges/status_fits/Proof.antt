@@ -1,5 +1,4 @@
 -- `ranges::status_fits` meets its contract: statuses are 0 to 3.
--- Assumes nothing.
 use Rattle.faults.proofs.Fits.{status-below}
 use Rattle.faults.proofs.ranges.status_fits.Statement.{statement}
 use Rattle.faults.proofs.ranges.status_fits.Tie as tie

@@ -1,5 +1,4 @@
 -- `ranges::thread_fits` meets its contract: a test for each exit.
--- Assumes nothing.
 use mathlib.Core.Path.{sym, _∙_}
 use borrow.Author.Tests.{not-true, not-false}
 use borrow.Author.Needs.{needs}

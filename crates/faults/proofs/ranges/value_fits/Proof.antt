@@ -1,5 +1,4 @@
 -- `ranges::value_fits` meets its contract: by tag. A length that is not wrong is long enough for what is read.
--- Assumes nothing.
 use mathlib.Core.Path.{refl}
 use native.Mathlib.Omega.{arith}
 use borrow.Author.Tests.{ne-eqb}

@@ -1,5 +1,4 @@
 -- `ranges::wanted_right` meets its contract: each arm is the rule's own case.
--- Assumes nothing.
 use borrow.Author.Needs.{needs}
 use Rattle.faults.proofs.ranges.wanted_right.Statement.{statement}
 use Rattle.faults.proofs.ranges.wanted_right.Tie as tie

@@ -1,5 +1,4 @@
 -- `values::read_thread` meets its contract: each field is what its bytes stand for.
--- Assumes nothing.
 use Rattle.rules.specs.Load.{thread-from}
 use borrow.Author.Needs.{needs}
 use Rattle.faults.proofs.values.read_thread.Statement.{statement}

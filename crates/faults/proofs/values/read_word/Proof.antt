@@ -1,5 +1,4 @@
 -- `values::read_word` meets its contract: each field is what its bytes stand for.
--- Assumes nothing.
 use Rattle.rules.specs.Load.{held-from}
 use borrow.Author.Needs.{needs}
 use Rattle.faults.proofs.values.read_word.Statement.{statement}

@@ -1,5 +1,4 @@
 -- `values::runner_from` meets its contract: each arm is the rule's own test.
--- Assumes nothing.
 use borrow.Author.Tests.{eq-eqb, ne-eqb}
 use Rattle.faults.proofs.values.runner_from.Statement.{statement}
 use Rattle.faults.proofs.values.runner_from.Tie as tie

@@ -1,5 +1,4 @@
 -- `values::word_at` meets its contract: `four-at`.
--- Assumes nothing.
 use Rattle.laws.proofs.Bytes.{four-at}
 use native.Mathlib.Omega.{arith}
 use borrow.Author.Needs.{needs}

@@ -1,5 +1,4 @@
 -- `cuts::cut_at` meets its contract: one law for each exit.
--- Assumes nothing.
 use native.Mathlib.Omega.{arith}
 use borrow.Author.Needs.{needs}
 use Rattle.fields.proofs.Sizes.{none-left, few-left, cut-left, whole-left}

@@ -1,5 +1,4 @@
 -- `cuts::rest_at` meets its contract: a part up to the end is all that is left from its start, and stands where it stood.
--- Assumes nothing.
 use Prim.Native.Nat.{ℕ, _+_, _-_, _≤_}
 use mathlib.Core.Path.{_≡_, sym, ap, _∙_}
 use mathlib.Core.List.{List}

@@ -1,7 +1,6 @@
 -- `reader::advance` meets its contract: a walk of its code, by hand. The struct is taken apart, and `cut_at` is called on the slice and the number.
 -- Then a reader is made anew of the same slice and of the end that came back. All that the proof knows of `cut_at` is that it meets its
 -- contract. Parted.antt says what goes to it and what is kept.
--- Assumes nothing.
 use mathlib.Core.Path.{_≡_, refl, ap}
 use Prim.Native.Nat.{_<_, _^_}
 use mathlib.Core.List.{List, [], _∷_}

@@ -1,6 +1,5 @@
 -- `reader::next` meets its contract: a walk of its code, by hand. The struct is taken apart, and `cut_at` is called on the slice and the number.
 -- All that the proof knows of `cut_at` is that it meets its contract. Parted.antt says what goes to it and what is kept.
--- Assumes nothing.
 use mathlib.Core.Path.{_≡_, refl}
 use mathlib.Core.List.{[], _∷_}
 use lib.Dec.{T as Holds}

@@ -1,6 +1,5 @@
 -- `reader::rest` meets its contract: a walk of its code, by hand. The struct is taken apart, and `rest_at` is called on the slice and the number.
 -- All that the proof knows of `rest_at` is that it meets its contract. Parted.antt says what goes to it and what is kept.
--- Assumes nothing.
 use mathlib.Core.Path.{refl}
 use Prim.Native.Nat.{ℕ}
 use mathlib.Core.List.{List, [], _∷_}

@@ -1,5 +1,4 @@
 -- `dispatch::dispatch` meets its contract: the front of the queue runs where nobody does, and else the runner goes on.
--- Assumes nothing.
 use mathlib.Core.Path.{sym, _∙_}
 use Rattle.rules.specs.Waking.{_handing_}
 use Rattle.laws.proofs.Single.{dispatch-stays}

@@ -1,5 +1,4 @@
 -- `dispatch::run_next` meets its contract: nobody is ready, or the front of the queue is taken.
--- Assumes nothing.
 use mathlib.Core.Path.{sym, _∙_}
 use Rattle.store.specs.Store.{tables}
 use Rattle.rules.specs.Waking.{_handing_}

@@ -1,5 +1,4 @@
 -- `dispatch::status` meets its contract: a runner, no thread, or a thread that something outside wakes.
--- Assumes nothing.
 use mathlib.Core.Path.{sym, _∙_}
 use mathlib.Core.Bool.{true, false}
 use Rattle.store.specs.Store.{tables}

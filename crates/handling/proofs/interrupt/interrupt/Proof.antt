@@ -1,5 +1,4 @@
 -- `interrupt::interrupt` meets its contract: the one waiter of the device is woken, or there is none and the word is held.
--- Assumes nothing.
 use mathlib.Core.Path.{sym, _∙_}
 use Rattle.laws.proofs.Single.{interrupt-holds}
 use Rattle.store.specs.Store.{tables}

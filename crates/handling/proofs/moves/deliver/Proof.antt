@@ -1,5 +1,4 @@
 -- `moves::deliver` meets its contract: a receiver that waits is woken, and has room in the ready queue; else the message is queued.
--- Assumes nothing.
 use mathlib.Core.Path.{sym, ap, _∙_}
 use Rattle.rules.specs.Waking.{wake}
 use Rattle.laws.proofs.Words.{Answer}

@@ -1,5 +1,4 @@
 -- `moves::is_awaited` meets its contract: the receiver is asked.
--- Assumes nothing.
 use mathlib.Core.Path.{_∙_}
 use Rattle.store.specs.Store.{tables}
 use Rattle.handling.proofs.Moving.{awaited}

@@ -1,5 +1,4 @@
 -- `moves::stop` meets its contract: the thread is turned, and nobody runs.
--- Assumes nothing.
 use Rattle.handling.proofs.Moving.{stopped}
 use borrow.Author.Needs.{needs}
 use Rattle.handling.proofs.moves.stop.Statement.{statement}

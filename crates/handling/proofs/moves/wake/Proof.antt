@@ -1,5 +1,4 @@
 -- `moves::wake` meets its contract: the thread is turned, and its name joins the tail.
--- Assumes nothing.
 use Rattle.handling.proofs.Moving.{turned-room, woken}
 use borrow.Author.Needs.{needs}
 use Rattle.handling.proofs.moves.wake.Statement.{statement}

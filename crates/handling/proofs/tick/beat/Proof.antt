@@ -1,5 +1,4 @@
 -- `tick::beat` meets its contract. The ready and the clock waiters are different threads, so the ready queue has room for all.
--- Assumes nothing.
 use Rattle.handling.proofs.Ticking.{passed, beat-room, struck}
 use native.Mathlib.Omega.{arith}
 use borrow.Author.Needs.{needs}

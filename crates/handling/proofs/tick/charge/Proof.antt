@@ -1,5 +1,4 @@
 -- `tick::charge` meets its contract: the runner's count is raised, and its slice is one less.
--- Assumes nothing.
 use mathlib.Core.Path.{sym, _∙_}
 use Rattle.laws.proofs.Single.{charge-none}
 use Rattle.store.specs.Store.{tables}

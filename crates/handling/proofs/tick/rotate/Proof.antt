@@ -1,5 +1,4 @@
 -- `tick::rotate` meets its contract: with a used-up slice the runner is woken and nobody runs.
--- Assumes nothing.
 use mathlib.Core.Path.{sym, _∙_}
 use Rattle.laws.proofs.Single.{rotate-stays, rotate-none}
 use Rattle.store.specs.Store.{tables}

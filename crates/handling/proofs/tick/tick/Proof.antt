@@ -1,5 +1,4 @@
 -- `tick::tick` meets its contract: each part leaves what the next asks.
--- Assumes nothing.
 use Prim.Native.Nat.{_<_}
 use Rattle.rules.specs.Numbers.{Limits, beat-ticks}
 use Rattle.rules.specs.Tables.{Tables}

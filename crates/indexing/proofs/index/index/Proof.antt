@@ -1,5 +1,4 @@
 -- `index::index` meets its contract. The loop: the threads from i on are in the index.
--- Assumes nothing.
 use mathlib.Core.Path.{_≡_}
 use native.Mathlib.Omega.{arith}
 use Rattle.memory.specs.Rows.{no-thread}

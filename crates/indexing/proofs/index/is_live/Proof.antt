@@ -1,5 +1,4 @@
 -- `index::is_live` meets its contract: the look-up law of the index.
--- Assumes nothing.
 use native.Mathlib.Omega.{arith}
 use borrow.Author.Needs.{needs}
 use Rattle.indexing.proofs.Indexing.{look-live}

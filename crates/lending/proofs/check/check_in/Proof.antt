@@ -1,5 +1,4 @@
 -- `check::check_in` meets its contract: the check's answer as a refusal.
--- Assumes nothing.
 use mathlib.Core.Path.{sym, _∙_}
 use borrow.Author.Tests.{not-true, not-false}
 use borrow.Author.Needs.{needs}

@@ -1,5 +1,4 @@
 -- `dump::dump_in` meets its contract: 11, a buffer that is too short, or the dump.
--- Assumes nothing.
 use mathlib.Core.Path.{_≡_, sym, _∙_}
 use mathlib.Core.Bool.{true}
 use native.Mathlib.Omega.{arith}

@@ -1,5 +1,4 @@
 -- `load::load_value` meets its contract: that of `load_in`, on the struct's words.
--- Assumes nothing.
 use Prim.Native.Nat.{_≤_}
 use mathlib.Core.Path.{_≡_}
 use lib.ListN.{length}

@@ -1,5 +1,4 @@
 -- `start::start_in` meets its contract: the start of small limits.
--- Assumes nothing.
 use borrow.Author.Needs.{needs}
 use Rattle.lending.proofs.Standing.{started}
 use Rattle.lending.proofs.start.start_in.Statement.{statement}

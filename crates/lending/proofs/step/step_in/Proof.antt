@@ -1,5 +1,4 @@
 -- `step::step_in` meets its contract: 11, or the step.
--- Assumes nothing.
 use mathlib.Core.Path.{sym, _∙_}
 use borrow.Author.Needs.{needs}
 use borrow.Author.Tests.{not-true, not-false}

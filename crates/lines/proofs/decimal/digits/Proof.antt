@@ -1,5 +1,4 @@
 -- `lines::decimal::digits` meets its contract. After each turn k digits are counted; the measure is what is left of the number.
--- Assumes nothing.
 use native.Mathlib.Omega.{arith}
 use Rattle.lines.proofs.Numerals.{Counted, counted-first, counted-next, counted-all}
 use Rattle.lines.proofs.decimal.digits.Statement.{statement}

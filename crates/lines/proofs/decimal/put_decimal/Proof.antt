@@ -1,5 +1,4 @@
 -- `lines::decimal::put_decimal` meets its contract: the digits are put from the last to the first.
--- Assumes nothing.
 use native.Mathlib.Omega.{arith}
 use borrow.Author.Needs.{needs}
 use lib.ListN.{length-set}

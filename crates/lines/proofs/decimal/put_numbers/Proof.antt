@@ -1,5 +1,4 @@
 -- `lines::decimal::put_numbers` meets its contract. After i turns the first i numbers stand at the front.
--- Assumes nothing.
 use Prim.Native.Nat.{_-_}
 use native.Mathlib.Omega.{arith}
 use lib.ListN.{length, length-set}

@@ -1,5 +1,4 @@
 -- `lines::decimal::put_spaced` meets its contract: the space, then the number into the part behind it.
--- Assumes nothing.
 use Prim.Native.Nat.{ℕ, _≤_}
 use mathlib.Core.List.{List, [], _∷_}
 use native.Mathlib.Omega.{arith}

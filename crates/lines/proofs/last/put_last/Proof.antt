@@ -1,5 +1,4 @@
 -- `lines::last::put_last` meets its contract: each text is the last line of its status.
--- Assumes nothing.
 use Prim.Native.Nat.{ℕ}
 use mathlib.Core.Path.{_≡_, sym, _∙_, subst}
 use mathlib.Core.List.{List}

@@ -1,5 +1,4 @@
 -- `lines::line::put_line` meets its contract: the numbers of the decision, the answer's by their codes, as one line.
--- Assumes nothing.
 use borrow.Author.Needs.{needs}
 use Rattle.lines.proofs.line.put_line.Statement.{statement}
 use Rattle.lines.proofs.line.put_line.Tie as tie

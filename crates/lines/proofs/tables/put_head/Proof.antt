@@ -1,5 +1,4 @@
 -- `lines::tables::put_head` meets its contract: the numbers of the head as one line.
--- Assumes nothing.
 use borrow.Author.Needs.{needs}
 use Rattle.lines.proofs.tables.put_head.Statement.{statement}
 use Rattle.lines.proofs.tables.put_head.Tie as tie

@@ -1,5 +1,4 @@
 -- `lines::tables::put_held` meets its contract. After d turns the lines of the words held for devices below d stand at the front.
--- Assumes nothing.
 use Prim.Native.Nat.{_-_}
 use Rattle.rules.specs.Numbers.{devices}
 use Rattle.store.specs.Store.{tables}

@@ -1,5 +1,4 @@
 -- `lines::tables::put_message` meets its contract: the numbers of the message as one line.
--- Assumes nothing.
 use borrow.Author.Needs.{needs}
 use Rattle.lines.proofs.tables.put_message.Statement.{statement}
 use Rattle.lines.proofs.tables.put_message.Tie as tie

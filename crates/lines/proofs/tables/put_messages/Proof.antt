@@ -1,5 +1,4 @@
 -- `lines::tables::put_messages` meets its contract. After i turns the lines of the first i messages stand at the front.
--- Assumes nothing.
 use Prim.Native.Nat.{_-_}
 use lib.ListN.{take}
 use Rattle.memory.specs.Rows.{no-message}

@@ -1,5 +1,4 @@
 -- `lines::tables::put_ready` meets its contract. After i turns the tag and the first i names stand in the row of numbers.
--- Assumes nothing.
 use Prim.Native.Nat.{_-_}
 use mathlib.Core.Path.{refl, ap}
 use Rattle.store.specs.Store.{tables}

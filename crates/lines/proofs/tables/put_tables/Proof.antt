@@ -1,5 +1,4 @@
 -- `lines::tables::put_tables` meets its contract: each call puts its part behind what stands there.
--- Assumes nothing.
 use Prim.Native.Nat.{ℕ, _+_}
 use mathlib.Core.List.{List, _∷_, _++_}
 use native.Mathlib.Omega.{arith}

@@ -1,5 +1,4 @@
 -- `lines::tables::put_thread` meets its contract: the numbers of the thread as one line.
--- Assumes nothing.
 use borrow.Author.Needs.{needs}
 use Rattle.lines.proofs.tables.put_thread.Statement.{statement}
 use Rattle.lines.proofs.tables.put_thread.Tie as tie

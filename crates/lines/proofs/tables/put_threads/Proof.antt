@@ -1,5 +1,4 @@
 -- `lines::tables::put_threads` meets its contract. After i turns the lines of the first i threads stand at the front.
--- Assumes nothing.
 use Prim.Native.Nat.{_-_}
 use lib.ListN.{take}
 use Rattle.memory.specs.Rows.{no-thread}

@@ -1,5 +1,4 @@
 -- `lines::tables::put_word` meets its contract: one line, or none where no word is held.
--- Assumes nothing.
 use Prim.Native.Nat.{ℕ}
 use mathlib.Core.Path.{sym, ap, _∙_}
 use mathlib.Core.List.{[], _∷_}

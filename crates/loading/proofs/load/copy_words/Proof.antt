@@ -1,5 +1,4 @@
 -- `load::copy_words` meets its contract: up to each place the words are those of `from`, and behind it as they were.
--- Assumes nothing.
 use Prim.Native.Nat.{_-_}
 use mathlib.Core.Path.{_≡_, refl}
 use lib.ListN.{length}

@@ -1,5 +1,4 @@
 -- `load::gives` meets its contract: the dump of a memory that stands has room in 1,241 bytes, and what is put there is compared.
--- Assumes nothing.
 use Prim.Native.Nat.{ℕ}
 use mathlib.Core.Path.{ap, _∙_}
 use mathlib.Core.List.{List}

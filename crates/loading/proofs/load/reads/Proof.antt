@@ -1,5 +1,4 @@
 -- `load::reads` meets its contract: a law of Exits for each exit.
--- Assumes nothing.
 use mathlib.Core.Path.{sym, _∙_}
 use borrow.Author.Tests.{not-true, not-false}
 use Rattle.loading.proofs.Exits.{nothing-found, rules-broken, compared}

@@ -1,5 +1,4 @@
 -- `load::same` meets its contract: up to each place the bool says whether the bytes are alike.
--- Assumes nothing.
 use Prim.Native.Nat.{_-_}
 use mathlib.Core.Path.{sym}
 use mathlib.Core.Logic.{⊎-elim}

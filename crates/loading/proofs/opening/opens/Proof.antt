@@ -1,5 +1,4 @@
 -- `opening::opens` meets its contract: `opened` and `unopened` say what it tests.
--- Assumes nothing.
 use mathlib.Core.Path.{sym, _∙_}
 use borrow.Author.Tests.{eq-eqb, ne-eqb}
 use Rattle.loading.proofs.Cutting.{opened, unopened}

@@ -1,5 +1,4 @@
 -- `reading::count_names` meets its contract: a law of Cutting for each exit.
--- Assumes nothing.
 use Prim.Native.Nat.{_+_}
 use lib.ListN.{getD}
 use borrow.Author.Tests.{not-true, not-false}

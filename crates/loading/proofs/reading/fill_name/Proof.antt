@@ -1,5 +1,4 @@
 -- `reading::fill_name` meets its contract: the queue of its tag.
--- Assumes nothing.
 use borrow.Author.Tests.{eq-eqb, ne-eqb}
 use Rattle.loading.proofs.reading.fill_name.Statement.{statement}
 use Rattle.loading.proofs.reading.fill_name.Tie as tie

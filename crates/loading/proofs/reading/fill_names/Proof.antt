@@ -1,5 +1,4 @@
 -- `reading::fill_names` meets its contract: up to each place the names stand in the queue.
--- Assumes nothing.
 use Prim.Native.Nat.{_-_}
 use mathlib.Core.Path.{_≡_, refl}
 use lib.ListN.{length}

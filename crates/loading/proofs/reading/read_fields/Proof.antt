@@ -1,5 +1,4 @@
 -- `reading::read_fields` meets its contract: no head, or a head in a cleared memory and the rest behind it.
--- Assumes nothing.
 use mathlib.Core.Path.{sym, _∙_}
 use borrow.Author.Tests.{not-true, not-false}
 use Rattle.loading.proofs.Cutting.{opens-room}

@@ -1,5 +1,4 @@
 -- `reading::read_head` meets its contract: three changes of the head, one after another.
--- Assumes nothing.
 use mathlib.Core.Path.{_∙_}
 use Rattle.loading.proofs.Filling.{head-written}
 use native.Mathlib.Omega.{arith}

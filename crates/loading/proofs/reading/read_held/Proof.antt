@@ -1,5 +1,4 @@
 -- `reading::read_held` meets its contract: the loop of Filling, over held words.
--- Assumes nothing.
 use Prim.Native.Nat.{_-_}
 use mathlib.Core.Path.{_≡_, refl}
 use mathlib.Core.Bool.{true}

@@ -1,5 +1,4 @@
 -- `reading::read_names` meets its contract: no field, or its names.
--- Assumes nothing.
 use Prim.Native.Nat.{_+_, _-_}
 use lib.ListN.{take, drop}
 use Rattle.loading.proofs.Cutting.{names-none, names-read}

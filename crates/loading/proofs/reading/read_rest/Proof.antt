@@ -1,5 +1,4 @@
 -- `reading::read_rest` meets its contract: the stages together, and a law of Finding for each exit.
--- Assumes nothing.
 use mathlib.Core.Path.{ap, _∙_}
 use borrow.Author.Tests.{not-true}
 use Rattle.rules.specs.Tables.{Tables}

@@ -1,5 +1,4 @@
 -- `reading::read_threads` meets its contract: the loop of Filling, over threads.
--- Assumes nothing.
 use Prim.Native.Nat.{_-_}
 use mathlib.Core.Path.{_≡_, refl, ap}
 use mathlib.Core.Bool.{true}

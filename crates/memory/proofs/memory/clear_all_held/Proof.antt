@@ -1,5 +1,4 @@
 -- `memory::memory::clear_all_held` meets its contract.
--- Assumes nothing.
 use Prim.Native.Nat.{_≤_, _-_}
 use mathlib.Core.Path.{ap}
 use native.Mathlib.Omega.{arith}

@@ -1,5 +1,4 @@
 -- `memory::memory::clear_held` meets its contract.
--- Assumes nothing.
 use native.Mathlib.Omega.{arith}
 use borrow.Author.Needs.{needs}
 use Rattle.memory.specs.Memory.{rows-of}

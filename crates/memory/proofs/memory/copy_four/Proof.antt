@@ -1,5 +1,4 @@
 -- `memory::memory::copy_four` meets its contract.
--- Assumes nothing.
 use Prim.Native.Nat.{_+_, ℕ}
 use mathlib.Core.Path.{sym, ap, _∙_}
 use mathlib.Core.List.{List, _++_}

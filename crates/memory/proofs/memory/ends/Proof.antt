@@ -1,5 +1,4 @@
 -- `memory::memory::ends` meets its contract.
--- Assumes nothing.
 use mathlib.Core.Path.{refl}
 use native.Mathlib.Omega.{arith}
 use Rattle.memory.specs.Memory.{rows-of}

@@ -1,5 +1,4 @@
 -- `memory::memory::held_told` meets its contract.
--- Assumes nothing.
 use Prim.Native.Nat.{ℕ, _≤_, _<_, _-_}
 use mathlib.Core.Path.{sym}
 use native.Mathlib.Omega.{arith}

@@ -1,5 +1,4 @@
 -- `memory::memory::hint_place` meets its contract.
--- Assumes nothing.
 use Prim.Native.Nat.{_+_, _%_}
 use native.Mathlib.Omega.{arith}
 use borrow.Author.Needs.{needs}

@@ -1,5 +1,4 @@
 -- `memory::memory::manager_at` meets its contract.
--- Assumes nothing.
 use Prim.Native.Nat.{ℕ, _+_}
 use mathlib.Core.Path.{ap, _∙_}
 use native.Mathlib.Omega.{arith}

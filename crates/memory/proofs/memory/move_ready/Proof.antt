@@ -1,5 +1,4 @@
 -- `memory::memory::move_ready` meets its contract: the word says the same name at both places.
--- Assumes nothing.
 use Prim.Native.Nat.{_+_}
 use mathlib.Core.Path.{sym}
 use native.Mathlib.Omega.{arith}

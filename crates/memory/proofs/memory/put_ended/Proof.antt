@@ -1,5 +1,4 @@
 -- `memory::memory::put_ended` meets its contract.
--- Assumes nothing.
 use native.Mathlib.Omega.{arith}
 use borrow.Author.Needs.{needs}
 use Rattle.words.proofs.Said.{byte-same}

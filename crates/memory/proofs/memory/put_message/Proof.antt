@@ -1,5 +1,4 @@
 -- `memory::memory::put_message` meets its contract.
--- Assumes nothing.
 use Prim.Native.Nat.{ℕ}
 use mathlib.Core.List.{List}
 use native.Mathlib.Omega.{arith}

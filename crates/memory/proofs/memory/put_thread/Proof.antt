@@ -1,5 +1,4 @@
 -- `memory::memory::put_thread` meets its contract.
--- Assumes nothing.
 use Prim.Native.Nat.{ℕ}
 use mathlib.Core.Path.{_∙_}
 use mathlib.Core.List.{List}

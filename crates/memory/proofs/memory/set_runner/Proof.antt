@@ -1,5 +1,4 @@
 -- `memory::memory::set_runner` meets its contract.
--- Assumes nothing.
 use native.Mathlib.Omega.{arith}
 use lib.ListN.{length-set}
 use borrow.Author.Needs.{needs}

@@ -1,5 +1,4 @@
 -- `memory::shaped` meets its contract: the tests are tried in turn.
--- Assumes nothing.
 use borrow.Author.Needs.{needs}
 use borrow.Author.Tests.{le-leb, lt-leb, eq-eqb, ne-eqb}
 use Rattle.memory.specs.Shape.{shaped}

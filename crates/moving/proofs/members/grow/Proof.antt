@@ -1,5 +1,4 @@
 -- `moving::members::grow` meets its contract. The loop: Growing, of Sets.antt.
--- Assumes nothing.
 use Prim.Native.Nat.{_-_, _<_}
 use mathlib.Core.Path.{_≡_, ap, _∙_}
 use native.Mathlib.Omega.{arith}

@@ -1,5 +1,4 @@
 -- `moving::members::has` meets its contract: it is what the marks tell.
--- Assumes nothing.
 use native.Mathlib.Omega.{arith}
 use Prim.Native.Nat.{ℕ}
 use mathlib.Core.Path.{ap, _∙_}

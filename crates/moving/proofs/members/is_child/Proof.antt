@@ -1,5 +1,4 @@
 -- `moving::members::is_child` meets its contract.
--- Assumes nothing.
 use borrow.Author.Needs.{needs}
 use Rattle.moving.proofs.members.is_child.Statement.{statement}
 use Rattle.moving.proofs.members.is_child.Tie as tie

@@ -1,5 +1,4 @@
 -- `moving::members::is_managed` meets its contract.
--- Assumes nothing.
 use borrow.Author.Needs.{needs}
 use Rattle.moving.proofs.members.is_managed.Statement.{statement}
 use Rattle.moving.proofs.members.is_managed.Tie as tie

@@ -1,5 +1,4 @@
 -- `moving::members::is_member` meets its contract.
--- Assumes nothing.
 use Prim.Native.Nat.{ℕ}
 use mathlib.Core.Path.{ap, _∙_}
 use lib.ListN.{take}

@@ -1,5 +1,4 @@
 -- `moving::members::is_trapped_on` meets its contract. It asks of the one manager that the thread waits for, not of each member.
--- Assumes nothing.
 use mathlib.Core.Path.{sym, _∙_}
 use lib.ListN.{take}
 use borrow.Author.Needs.{needs}

@@ -1,5 +1,4 @@
 -- `moving::members::joins` meets its contract.
--- Assumes nothing.
 use mathlib.Core.Path.{sym, _∙_}
 use lib.ListN.{getD}
 use borrow.Author.Needs.{needs}

@@ -1,5 +1,4 @@
 -- `moving::members::lose` meets its contract.
--- Assumes nothing.
 use mathlib.Core.Path.{sym, _∙_}
 use borrow.Author.Needs.{needs}
 use Rattle.moving.proofs.Sets.{is-gone, lose-none}

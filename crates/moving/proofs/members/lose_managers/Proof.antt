@@ -1,5 +1,4 @@
 -- `moving::members::lose_managers` meets its contract. Three entries are all that a thread has.
--- Assumes nothing.
 use native.Mathlib.Omega.{arith}
 use borrow.Author.Needs.{needs}
 use Rattle.memory.specs.Memory.{rows-of}

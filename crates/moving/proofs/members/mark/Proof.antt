@@ -1,5 +1,4 @@
 -- `moving::members::mark` meets its contract.
--- Assumes nothing.
 use mathlib.Core.Path.{_∙_}
 use Rattle.moving.proofs.Marking.{marked, marked-stays, marked-at}
 use borrow.Author.Needs.{needs}

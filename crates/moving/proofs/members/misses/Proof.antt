@@ -1,5 +1,4 @@
 -- `moving::members::misses` meets its contract.
--- Assumes nothing.
 use borrow.Author.Needs.{needs}
 use Rattle.rules.specs.Ending.{misses}
 use Rattle.moving.proofs.members.misses.Statement.{statement}

@@ -1,5 +1,4 @@
 -- `moving::members::names_member` meets its contract.
--- Assumes nothing.
 use mathlib.Core.Path.{sym, _∙_}
 use borrow.Author.Needs.{needs}
 use Rattle.moving.proofs.members.names_member.Statement.{statement}

@@ -1,5 +1,4 @@
 -- `moving::messages::blocks_used` meets its contract. The loop: what is counted and the count of the rest are the count of all.
--- Assumes nothing.
 use Prim.Native.Nat.{_-_}
 use native.Mathlib.Omega.{arith}
 use borrow.Author.Needs.{needs}

@@ -1,5 +1,4 @@
 -- `moving::messages::close_gap` meets its contract. The loop: what is moved up and the rest are the messages without the one that goes.
--- Assumes nothing.
 use Prim.Native.Nat.{ℕ, _-_}
 use mathlib.Core.Path.{_≡_, refl, ap, _∙_}
 use mathlib.Core.List.{List}

@@ -1,5 +1,4 @@
 -- `moving::messages::drop_notice` meets its contract. The loop: what is kept, and of the rest what is to be kept, are all that is to be kept.
--- Assumes nothing.
 use Prim.Native.Nat.{_-_}
 use mathlib.Core.Path.{refl, ap, _∙_}
 use native.Mathlib.Omega.{arith}

@@ -1,5 +1,4 @@
 -- `moving::messages::is_notice_of` meets its contract. By cases of its kind.
--- Assumes nothing.
 use mathlib.Core.Path.{sym, _∙_}
 use borrow.Author.Needs.{needs}
 use Rattle.moving.proofs.messages.is_notice_of.Statement.{statement}

@@ -1,5 +1,4 @@
 -- `moving::messages::is_wanted` meets its contract. By cases, whether it is in the inbox.
--- Assumes nothing.
 use borrow.Author.Tests.{eq-eqb, ne-eqb}
 use borrow.Author.Needs.{needs}
 use Rattle.moving.proofs.messages.is_wanted.Statement.{statement}

@@ -1,5 +1,4 @@
 -- `moving::messages::seek_end` meets its contract. The loop: no message passed is to a later receiver.
--- Assumes nothing.
 use Prim.Native.Nat.{_-_}
 use mathlib.Core.Bool.{not}
 use native.Mathlib.Omega.{arith}

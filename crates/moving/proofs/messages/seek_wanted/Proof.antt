@@ -1,5 +1,4 @@
 -- `moving::messages::seek_wanted` meets its contract. The loop: no message passed is wanted.
--- Assumes nothing.
 use Prim.Native.Nat.{_-_}
 use mathlib.Core.Path.{sym, _∙_}
 use native.Mathlib.Omega.{arith}

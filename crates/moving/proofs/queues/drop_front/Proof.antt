@@ -1,5 +1,4 @@
 -- `moving::queues::drop_front` meets its contract. The loop: what is moved up and the rest of the queue are the queue without its front.
--- Assumes nothing.
 use Prim.Native.Nat.{ℕ, _-_}
 use mathlib.Core.Path.{_≡_, refl, ap, _∙_}
 use mathlib.Core.List.{List}

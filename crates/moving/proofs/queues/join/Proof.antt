@@ -1,5 +1,4 @@
 -- `moving::queues::join` meets its contract. The name is written behind the last, and the count goes up by one.
--- Assumes nothing.
 use Prim.Native.Nat.{ℕ}
 use mathlib.Core.Path.{ap, _∙_}
 use mathlib.Core.List.{[], _∷_, _++_}

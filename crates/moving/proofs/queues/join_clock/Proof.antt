@@ -1,5 +1,4 @@
 -- `moving::queues::join_clock` meets its contract. The loop: the ready queue and the waiters that are left are the ready queue and all waiters.
--- Assumes nothing.
 use Prim.Native.Nat.{_-_}
 use mathlib.Core.Path.{_≡_, ap}
 use native.Mathlib.Omega.{arith}

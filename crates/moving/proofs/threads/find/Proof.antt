@@ -1,5 +1,4 @@
 -- `moving::threads::find` meets its contract. One thread at most has the name, so the one at the hint is the first.
--- Assumes nothing.
 use native.Mathlib.Omega.{arith}
 use borrow.Author.Tests.{eq-eqb}
 use borrow.Author.Needs.{needs}

@@ -1,5 +1,4 @@
 -- `moving::threads::find_place` meets its contract. The loop: the place is one of those from `low` to `high`.
--- Assumes nothing.
 use Prim.Native.Nat.{_-_}
 use native.Mathlib.Omega.{arith}
 use borrow.Author.Needs.{needs}

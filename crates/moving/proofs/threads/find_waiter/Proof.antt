@@ -1,5 +1,4 @@
 -- `moving::threads::find_waiter` meets its contract. The loop: no thread passed waits for the device.
--- Assumes nothing.
 use Prim.Native.Nat.{_-_}
 use mathlib.Core.Path.{sym, _∙_}
 use native.Mathlib.Omega.{arith}

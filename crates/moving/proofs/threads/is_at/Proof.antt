@@ -1,5 +1,4 @@
 -- `moving::threads::is_at` meets its contract. A place below the count has an entry, and its name is compared.
--- Assumes nothing.
 use mathlib.Core.Path.{_∙_}
 use mathlib.Core.Bool.{false≢true}
 use native.Mathlib.Omega.{arith}

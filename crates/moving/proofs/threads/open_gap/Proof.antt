@@ -1,5 +1,4 @@
 -- `moving::threads::open_gap` meets its contract. The loop: each thread from i on stands one further, and those before are as they were.
--- Assumes nothing.
 use Prim.Native.Nat.{_≤_}
 use mathlib.Core.Path.{_≡_, ap, _∙_}
 use mathlib.Core.List.{List}

@@ -1,5 +1,4 @@
 -- `moving::threads::some_wakes` meets its contract. The thread at the hint is one of the threads.
--- Assumes nothing.
 use mathlib.Core.Path.{sym, _∙_}
 use native.Mathlib.Omega.{arith}
 use borrow.Author.Needs.{needs}

@@ -1,5 +1,4 @@
 -- `moving::threads::wake_clock` meets its contract. The loop: what is written, and the rest as it is to become, are all threads as they are to become.
--- Assumes nothing.
 use Prim.Native.Nat.{_-_}
 use mathlib.Core.Path.{refl, sym, ap, _∙_}
 use mathlib.Core.List.{List}

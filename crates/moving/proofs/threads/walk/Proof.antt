@@ -1,5 +1,4 @@
 -- `moving::threads::walk` meets its contract. The loop: no thread passed has the name.
--- Assumes nothing.
 use Prim.Native.Nat.{_-_}
 use mathlib.Core.Path.{sym, _∙_}
 use native.Mathlib.Omega.{arith}

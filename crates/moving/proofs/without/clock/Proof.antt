@@ -1,5 +1,4 @@
 -- `moving::without::clock` meets its contract. The loop: Keeping, of Steps.antt.
--- Assumes nothing.
 use Prim.Native.Nat.{ℕ, _-_}
 use mathlib.Core.Path.{_≡_, ap, _∙_}
 use native.Mathlib.Omega.{arith}

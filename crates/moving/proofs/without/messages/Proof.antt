@@ -1,5 +1,4 @@
 -- `moving::without::messages` meets its contract. The loop: Keeping, of Steps.antt.
--- Assumes nothing.
 use Prim.Native.Nat.{ℕ, _+_, _-_, _<_, _≤_}
 use mathlib.Core.Path.{_≡_, refl, ap, _∙_}
 use mathlib.Core.Bool.{Bool, _||_}

@@ -1,5 +1,4 @@
 -- `moving::without::receivers` meets its contract. The loop: Freeing, of Sets.antt.
--- Assumes nothing.
 use Prim.Native.Nat.{_-_}
 use mathlib.Core.Path.{_≡_, ap, _∙_}
 use native.Mathlib.Omega.{arith}

@@ -1,5 +1,4 @@
 -- `moving::without::told_gone` meets its contract.
--- Assumes nothing.
 use borrow.Author.Needs.{needs}
 use Rattle.rules.specs.Ending.{told-gone}
 use Rattle.moving.proofs.without.told_gone.Statement.{statement}

@@ -1,6 +1,5 @@
 -- `turn::turn` meets its contract. Whenever the loop's test is reached, the lines of the bytes used so far stand in the buffer, and what is
 -- to be printed is these and then what the rest prints. The measure is how many bytes are left.
--- Assumes nothing.
 use Prim.Native.Nat.{_-_}
 use mathlib.Core.Path.{sym, ap, _∙_}
 use mathlib.Core.Bool.{not}

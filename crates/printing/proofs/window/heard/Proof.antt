@@ -1,5 +1,4 @@
 -- `window::heard` meets its contract: what the code tests are the bits of the answer.
--- Assumes nothing.
 use borrow.Author.Needs.{needs}
 use Rattle.printing.proofs.Moving.{heard-so}
 use Rattle.printing.proofs.window.heard.Statement.{statement}

@@ -1,5 +1,4 @@
 -- `window::refill` meets its contract: what waited stands at the front, and what is read stands behind it.
--- Assumes nothing.
 use borrow.Author.Needs.{needs}
 use Rattle.printing.proofs.Moving.{read-behind}
 use Rattle.printing.proofs.window.refill.Statement.{statement}

@@ -1,5 +1,4 @@
 -- `window::settle` meets its contract. After i turns i bytes stand at the front, and what is still to be moved is as it was.
--- Assumes nothing.
 use Prim.Native.Nat.{_-_}
 use Rattle.printing.proofs.Moving.{Moving, moving-starts, moving-on, moving-ends, stands-already}
 use borrow.Author.Needs.{needs}

@@ -1,5 +1,4 @@
 -- `devices::devices_right` meets its contract. The loop: no device of those passed has two, and the marks say which have one.
--- Assumes nothing.
 use Prim.Native.Nat.{ℕ, _-_}
 use mathlib.Core.Path.{sym, ap, _∙_}
 use native.Mathlib.Omega.{arith}

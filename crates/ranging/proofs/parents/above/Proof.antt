@@ -1,5 +1,4 @@
 -- `parents::above` meets its contract, case by case.
--- Assumes nothing.
 use mathlib.Core.Path.{sym, _∙_}
 use native.Mathlib.Omega.{arith}
 use borrow.Author.Needs.{needs}

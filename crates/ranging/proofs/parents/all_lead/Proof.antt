@@ -1,5 +1,4 @@
 -- `parents::all_lead` meets its contract. The loop: each place passed leads above all.
--- Assumes nothing.
 use Prim.Native.Nat.{_-_}
 use borrow.Author.Needs.{needs}
 use Rattle.ranging.proofs.Leading.{Led, lead-starts, lead-next, lead-fails, lead-ends}

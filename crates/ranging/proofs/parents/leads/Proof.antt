@@ -1,5 +1,4 @@
 -- `parents::leads` meets its contract. The loop: the steps so far led to a place, neither before the start nor above all. n + 1 steps are tried.
--- Assumes nothing.
 use Prim.Native.Nat.{_+_, _-_}
 use mathlib.Core.Logic.{inl, inr}
 use native.Mathlib.Omega.{arith}

@@ -1,5 +1,4 @@
 -- `parents::parents_right` meets its contract: every place leads above all exactly if the rule holds.
--- Assumes nothing.
 use native.Mathlib.Omega.{arith}
 use Rattle.store.specs.Store.{tables}
 use Rattle.ranging.proofs.Climbing.{decided}

@@ -1,5 +1,4 @@
 -- `parents::upward` meets its contract. The loop: there is an entry for each thread passed.
--- Assumes nothing.
 use Prim.Native.Nat.{ℕ, _-_}
 use mathlib.Core.Path.{ap₂, _∙_}
 use native.Mathlib.Omega.{arith}

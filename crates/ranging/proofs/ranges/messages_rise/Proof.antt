@@ -1,5 +1,4 @@
 -- `ranges::messages_rise` meets its contract. The loop: the receivers passed rise.
--- Assumes nothing.
 use Prim.Native.Nat.{_-_}
 use native.Mathlib.Omega.{arith}
 use lib.Dec.{leb}

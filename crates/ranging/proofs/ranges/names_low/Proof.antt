@@ -1,5 +1,4 @@
 -- `ranges::names_low` meets its contract. The loop: the names passed are names of threads.
--- Assumes nothing.
 use Prim.Native.Nat.{_-_}
 use mathlib.Core.Path.{refl}
 use native.Mathlib.Omega.{arith}

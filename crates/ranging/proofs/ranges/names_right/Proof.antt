@@ -1,5 +1,4 @@
 -- `ranges::names_right` meets its contract: there are no more threads than the limit, since the memory is shaped right.
--- Assumes nothing.
 use mathlib.Core.Path.{sym, _∙_}
 use Rattle.laws.proofs.Tests.{and-true}
 use Rattle.indexing.proofs.Passing.{names-within}

@@ -1,5 +1,4 @@
 -- `ranges::names_rise` meets its contract. The loop: the names passed rise.
--- Assumes nothing.
 use Prim.Native.Nat.{_-_}
 use native.Mathlib.Omega.{arith}
 use lib.Dec.{ltb}

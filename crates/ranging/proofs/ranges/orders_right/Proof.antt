@@ -1,5 +1,4 @@
 -- `ranges::orders_right` meets its contract: held words rise by themselves where each is held for a device.
--- Assumes nothing.
 use mathlib.Core.Path.{sym, _∙_}
 use Rattle.laws.proofs.Tests.{and-true}
 use Rattle.store.specs.Store.{tables}

@@ -1,5 +1,4 @@
 -- `ranges::ranges` meets its contract: words are in their range by their type, and the rest is tested.
--- Assumes nothing.
 use mathlib.Core.Path.{refl, sym, _∙_}
 use native.Mathlib.Omega.{arith}
 use Rattle.store.specs.Store.{tables}

@@ -1,5 +1,4 @@
 -- `ranges::state_in_range` answers as the rule, state by state.
--- Assumes nothing.
 use borrow.Author.Needs.{needs}
 use Rattle.rules.specs.TableRules.{state-in-range}
 use Rattle.ranging.proofs.ranges.state_in_range.Statement.{statement}

@@ -1,5 +1,4 @@
 -- `ranges::threads_in_range` meets its contract. The loop: the threads passed are in range.
--- Assumes nothing.
 use Prim.Native.Nat.{_-_}
 use mathlib.Core.Path.{refl, sym, ap, _∙_}
 use native.Mathlib.Omega.{arith}

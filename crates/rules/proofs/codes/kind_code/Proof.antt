@@ -1,5 +1,4 @@
 -- `rules::codes::kind_code` meets its contract: it writes the rule's number, case by case.
--- Assumes nothing.
 use Rattle.rules.specs.Codes.{answer-numbers}
 use borrow.Author.Needs.{needs}
 use Rattle.rules.proofs.codes.kind_code.Statement.{statement}

@@ -1,5 +1,4 @@
 -- `rules::codes::manager_code` meets its contract: it writes the rule's number, case by case.
--- Assumes nothing.
 use Rattle.rules.specs.Codes.{manager-code}
 use borrow.Author.Needs.{needs}
 use Rattle.rules.proofs.codes.manager_code.Statement.{statement}

@@ -1,5 +1,4 @@
 -- `rules::codes::manager_from` meets its contract: each arm is the rule's own test.
--- Assumes nothing.
 use borrow.Author.Tests.{eq-eqb, ne-eqb}
 use Rattle.rules.proofs.codes.manager_from.Statement.{statement}
 use Rattle.rules.proofs.codes.manager_from.Tie as tie

@@ -1,5 +1,4 @@
 -- `rules::codes::message_code` meets its contract: it writes the rule's number, case by case.
--- Assumes nothing.
 use Rattle.rules.specs.Codes.{message-code}
 use borrow.Author.Needs.{needs}
 use Rattle.rules.proofs.codes.message_code.Statement.{statement}

@@ -1,5 +1,4 @@
 -- `rules::codes::message_kind_from` meets its contract: each arm is the rule's own test.
--- Assumes nothing.
 use borrow.Author.Tests.{eq-eqb, ne-eqb}
 use Rattle.rules.proofs.codes.message_kind_from.Statement.{statement}
 use Rattle.rules.proofs.codes.message_kind_from.Tie as tie

@@ -1,5 +1,4 @@
 -- `rules::codes::runner_code` meets its contract: it writes the rule's number, case by case.
--- Assumes nothing.
 use Rattle.rules.specs.Tables.{me}
 use borrow.Author.Needs.{needs}
 use Rattle.rules.proofs.codes.runner_code.Statement.{statement}

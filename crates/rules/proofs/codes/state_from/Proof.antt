@@ -1,5 +1,4 @@
 -- `rules::codes::state_from` meets its contract: each arm is the rule's own test.
--- Assumes nothing.
 use borrow.Author.Tests.{ne-eqb}
 use borrow.Author.Needs.{needs}
 use Rattle.rules.proofs.codes.state_from.Statement.{statement}

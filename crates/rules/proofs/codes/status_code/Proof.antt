@@ -1,5 +1,4 @@
 -- `rules::codes::status_code` meets its contract, status by status.
--- Assumes nothing.
 use Rattle.rules.specs.Codes.{status-code}
 use borrow.Author.Needs.{needs}
 use Rattle.rules.proofs.codes.status_code.Statement.{statement}

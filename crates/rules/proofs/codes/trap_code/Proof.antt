@@ -1,5 +1,4 @@
 -- `rules::codes::trap_code` meets its contract: it writes the rule's number, case by case.
--- Assumes nothing.
 use Rattle.rules.specs.Codes.{trap-code}
 use borrow.Author.Needs.{needs}
 use Rattle.rules.proofs.codes.trap_code.Statement.{statement}

@@ -1,5 +1,4 @@
 -- `rules::codes::trap_kind_from` meets its contract: each arm is the rule's own test.
--- Assumes nothing.
 use borrow.Author.Tests.{ne-eqb}
 use Rattle.rules.proofs.codes.trap_kind_from.Statement.{statement}
 use Rattle.rules.proofs.codes.trap_kind_from.Tie as tie

@@ -1,5 +1,4 @@
 -- `rules::codes::wanted` meets its contract: each arm is the rule's own test.
--- Assumes nothing.
 use borrow.Author.Tests.{eq-eqb, ne-eqb}
 use Rattle.rules.proofs.codes.wanted.Statement.{statement}
 use Rattle.rules.proofs.codes.wanted.Tie as tie

@@ -1,6 +1,5 @@
 -- `rules::pick::pick` meets its contract: each answer is a law of Bits.antt or Masks.antt at the word's size. The `refl`s compute that a mask of
 -- src/pick.rt leaves the devices of its class, and the last one that the three masks leave no device out.
--- Assumes nothing.
 use mathlib.Core.Path.{refl, sym, ap, _∙_}
 use native.Mathlib.Omega.{arith}
 use borrow.Author.Needs.{needs}

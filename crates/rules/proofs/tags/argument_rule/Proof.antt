@@ -1,6 +1,5 @@
 -- `rules::tags::argument_rule` meets its contract: `at` tests the whole table against the rules' table, and
 -- `throughout` the numbers past it. The table is read off the goal, so it stands in src/ alone.
--- Assumes nothing.
 use Prim.Native.Nat.{ℕ, zero, suc, _<_}
 use mathlib.Core.Path.{_≡_, refl, sym, ap, _∙_}
 use mathlib.Core.Bool.{Bool}

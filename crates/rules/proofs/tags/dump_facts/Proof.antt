@@ -1,6 +1,5 @@
 -- `rules::tags::dump_facts` meets its contract: `at` tests the whole table against the rules' table, and
 -- `throughout` the numbers below it and past it. The table is read off the goal, so it stands in src/ alone.
--- Assumes nothing.
 use Prim.Native.Nat.{_+_, _-_, _<_}
 use mathlib.Core.Path.{_≡_, refl}
 use mathlib.Core.Bool.{Bool, true, false, Bool·beq, _&&_}

@@ -1,5 +1,4 @@
 -- `rules::tags::meets` meets its contract: each arm is the rule's own case.
--- Assumes nothing.
 use mathlib.Core.Path.{sym, ap}
 use borrow.Author.Needs.{needs}
 use Rattle.rules.specs.Words.{Argument}

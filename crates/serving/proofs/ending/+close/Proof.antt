@@ -1,5 +1,4 @@
 -- `close` meets its contract. The measure is the number of threads that are not in the set.
--- Assumes nothing.
 use Prim.Native.Nat.{ℕ, _<_}
 use mathlib.Core.Path.{sym, _∙_}
 use native.Mathlib.Omega.{arith}

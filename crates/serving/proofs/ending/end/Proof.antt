@@ -1,5 +1,4 @@
 -- `end` meets its contract: what the ended set leaves, with those released that miss a member.
--- Assumes nothing.
 use mathlib.Core.Path.{_∙_}
 use Rattle.serving.proofs.Ends.{release-room, ended}
 use Rattle.store.proofs.Marking.{no-marks, marks-of}

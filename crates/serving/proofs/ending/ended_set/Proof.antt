@@ -1,5 +1,4 @@
 -- `ended_set` meets its contract: the rounds begin with the named thread alone.
--- Assumes nothing.
 use mathlib.Core.Path.{_∙_}
 use Rattle.serving.proofs.Ends.{some-room, begun-room, begun-closed}
 use Rattle.serving.proofs.ending.ended_set.Statement.{statement}

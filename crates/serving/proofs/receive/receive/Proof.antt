@@ -1,5 +1,4 @@
 -- `receive::receive` meets its contract: the message found is handed over, or the runner waits.
--- Assumes nothing.
 use mathlib.Core.Path.{_∙_}
 use Rattle.serving.proofs.Sending.{taken-hands, missing-waits, taken-holds}
 use borrow.Author.Needs.{needs}

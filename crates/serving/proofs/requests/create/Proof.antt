@@ -1,5 +1,4 @@
 -- `requests::create` meets its contract: a thread of a name that nobody has, at the tail of the ready queue.
--- Assumes nothing.
 use mathlib.Core.Path.{refl}
 use Rattle.serving.proofs.Asking.{newcomer-free, newcomer-room, created}
 use borrow.Author.Needs.{needs}

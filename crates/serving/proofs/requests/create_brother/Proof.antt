@@ -1,5 +1,4 @@
 -- `requests::create_brother` meets its contract: the newcomer has the requester's parent.
--- Assumes nothing.
 use Rattle.serving.proofs.Asking.{brother}
 use borrow.Author.Needs.{needs}
 use Rattle.serving.proofs.requests.create_brother.Statement.{statement}

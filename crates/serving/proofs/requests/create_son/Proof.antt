@@ -1,5 +1,4 @@
 -- `requests::create_son` meets its contract: it is what `create` leaves.
--- Assumes nothing.
 use borrow.Author.Needs.{needs}
 use Rattle.serving.proofs.requests.create_son.Statement.{statement}
 use Rattle.serving.proofs.requests.create_son.Tie as tie

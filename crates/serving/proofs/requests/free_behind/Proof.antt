@@ -1,6 +1,5 @@
 -- `requests::free_behind` meets its contract. The loop: with the name that the walk has come to, the threads that are left give what all of them
 -- give, and have no lower name.
--- Assumes nothing.
 use Prim.Native.Nat.{_-_}
 use native.Mathlib.Omega.{arith}
 use borrow.Author.Needs.{needs}

@@ -1,5 +1,4 @@
 -- `requests::get_cpu_time` meets its contract: the requester's count.
--- Assumes nothing.
 use mathlib.Core.Path.{ap}
 use Rattle.laws.proofs.Words.{Result}
 use Rattle.serving.proofs.requests.get_cpu_time.Statement.{statement}

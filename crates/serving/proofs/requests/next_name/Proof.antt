@@ -1,5 +1,4 @@
 -- `requests::next_name` meets its contract: what is found behind the name given last is the next name, or the walk comes round.
--- Assumes nothing.
 use borrow.Author.Needs.{needs}
 use mathlib.Core.Path.{_∙_}
 use Rattle.serving.proofs.Naming.{found-above, comes-round}

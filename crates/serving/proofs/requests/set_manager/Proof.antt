@@ -1,5 +1,4 @@
 -- `requests::set_manager` meets its contract, by what stands in the entry.
--- Assumes nothing.
 use mathlib.Core.Path.{refl}
 use Rattle.rules.specs.Requests.{set-over}
 use Rattle.serving.proofs.Asking.{by-entry}

@@ -1,5 +1,4 @@
 -- `requests::terminate` meets its contract: a target that is not refused lives.
--- Assumes nothing.
 use mathlib.Core.Path.{refl, sym, ap, _∙_}
 use Rattle.rules.specs.Refusals.{ends-nobody}
 use Rattle.rules.specs.Requests.{terminate}

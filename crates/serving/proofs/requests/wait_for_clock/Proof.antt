@@ -1,5 +1,4 @@
 -- `requests::wait_for_clock` meets its contract: the runner stops and joins the clock queue.
--- Assumes nothing.
 use Rattle.serving.proofs.Asking.{clock-room, clocked}
 use borrow.Author.Needs.{needs}
 use Rattle.serving.proofs.requests.wait_for_clock.Statement.{statement}

@@ -1,5 +1,4 @@
 -- `requests::wait_for_io` meets its contract: a held word is taken at once, else the runner stops.
--- Assumes nothing.
 use mathlib.Core.Path.{sym, _∙_}
 use Rattle.handling.proofs.Interrupting.{held-low}
 use Rattle.serving.proofs.Asking.{word-taken, word-missing}

@@ -1,5 +1,4 @@
 -- `send::decide` meets its contract: the decision 0 wakes the one trapped thread, another ends it.
--- Assumes nothing.
 use mathlib.Core.Path.{_∙_}
 use Rattle.store.specs.Store.{tables}
 use Rattle.handling.proofs.Leaving.{in-words}

@@ -1,5 +1,4 @@
 -- `send::decides` meets its contract: the receiver is asked.
--- Assumes nothing.
 use mathlib.Core.Path.{_∙_}
 use Rattle.store.specs.Store.{tables}
 use Rattle.serving.proofs.Sending.{decides-by}

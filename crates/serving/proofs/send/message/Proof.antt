@@ -1,5 +1,4 @@
 -- `send::message` meets its contract.
--- Assumes nothing.
 use borrow.Author.Needs.{needs}
 use Rattle.serving.proofs.send.message.Statement.{statement}
 use Rattle.serving.proofs.send.message.Tie as tie

@@ -1,5 +1,4 @@
 -- `send::send` meets its contract: a decision, or a message that is delivered.
--- Assumes nothing.
 use mathlib.Core.Path.{sym, ap, _∙_}
 use Rattle.rules.specs.Lists.{any}
 use Rattle.rules.specs.Waking.{accepts}

@@ -1,5 +1,4 @@
 -- `trap::notice` meets its contract.
--- Assumes nothing.
 use borrow.Author.Needs.{needs}
 use Rattle.serving.proofs.trap.notice.Statement.{statement}
 use Rattle.serving.proofs.trap.notice.Tie as tie

@@ -1,5 +1,4 @@
 -- `trap::trap` meets its contract: with a manager the runner stops and its notice has room, else it ends.
--- Assumes nothing.
 use mathlib.Core.Path.{sym, _∙_}
 use Rattle.laws.proofs.Words.{Unset, Set, Gone}
 use Rattle.store.specs.Store.{tables}

@@ -1,5 +1,4 @@
 -- `decode::asked` meets its contract: by the test of the argument.
--- Assumes nothing.
 use borrow.Author.Needs.{needs}
 use Rattle.stepping.proofs.decode.asked.Statement.{statement}
 use Rattle.stepping.proofs.decode.asked.Tie as tie

@@ -1,5 +1,4 @@
 -- `decode::decode` meets its contract: a law for each exit.
--- Assumes nothing.
 use Prim.Native.Nat.{_+_, _*_}
 use mathlib.Core.Path.{sym, _∙_}
 use native.Mathlib.Omega.{arith}

@@ -1,5 +1,4 @@
 -- `decode::interrupt` meets its contract: by the refusal of the pick.
--- Assumes nothing.
 use borrow.Author.Tests.{eq-eqb, ne-eqb}
 use borrow.Author.Needs.{needs}
 use Rattle.rules.specs.Events.{interrupt-of}

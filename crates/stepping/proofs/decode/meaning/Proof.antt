@@ -1,5 +1,4 @@
 -- `decode::meaning` meets its contract: `size` says how many bytes each tag's field has, and a law for each tag what they mean.
--- Assumes nothing.
 use Prim.Native.Nat.{ℕ, _+_}
 use mathlib.Core.Path.{_≡_}
 use native.Mathlib.Omega.{arith}

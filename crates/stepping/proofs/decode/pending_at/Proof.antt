@@ -1,5 +1,4 @@
 -- `decode::pending_at` meets its contract: `eight-at`.
--- Assumes nothing.
 use borrow.Author.Needs.{needs}
 use Rattle.stepping.proofs.Fields.{eight-at}
 use Rattle.stepping.proofs.decode.pending_at.Statement.{statement}

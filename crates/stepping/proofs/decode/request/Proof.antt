@@ -1,5 +1,4 @@
 -- `decode::request` meets its contract: each arm is the rule's own test.
--- Assumes nothing.
 use borrow.Author.Needs.{needs}
 use Rattle.rules.specs.Events.{request as request-of, asked-in}
 use Rattle.stepping.proofs.Fields.{last-service}

@@ -1,5 +1,4 @@
 -- `decode::target` meets its contract: each arm is the rule's own test.
--- Assumes nothing.
 use borrow.Author.Tests.{eq-eqb, ne-eqb}
 use Rattle.stepping.proofs.decode.target.Statement.{statement}
 use Rattle.stepping.proofs.decode.target.Tie as tie

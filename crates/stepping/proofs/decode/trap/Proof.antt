@@ -1,5 +1,4 @@
 -- `decode::trap` meets its contract: each arm is the rule's own test.
--- Assumes nothing.
 use borrow.Author.Tests.{ne-eqb}
 use Rattle.rules.specs.Events.{trap-of}
 use Rattle.stepping.proofs.decode.trap.Statement.{statement}

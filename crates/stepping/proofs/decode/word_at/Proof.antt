@@ -1,5 +1,4 @@
 -- `decode::word_at` meets its contract: `four-at`.
--- Assumes nothing.
 use borrow.Author.Needs.{needs}
 use Rattle.laws.proofs.Bytes.{four-at}
 use Rattle.stepping.proofs.decode.word_at.Statement.{statement}

@@ -1,5 +1,4 @@
 -- `refusals::call_refusal` meets its contract, call by call: the first of its rules that holds.
--- Assumes nothing.
 use mathlib.Core.Path.{sym, _∙_}
 use borrow.Author.Tests.{eq-eqb, ne-eqb}
 use Rattle.rules.specs.Refusals.{first-of, call-rules}

@@ -1,5 +1,4 @@
 -- `refusals::device_refusal` meets its contract: refused where some thread waits for the device.
--- Assumes nothing.
 use Rattle.rules.specs.States.{waits-for}
 use Rattle.rules.specs.Refusals.{first-of, call-rules}
 use Rattle.store.specs.Store.{tables}

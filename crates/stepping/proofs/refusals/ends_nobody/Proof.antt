@@ -1,5 +1,4 @@
 -- `refusals::ends_nobody` meets its contract: oneself is there, and one is refused who is not live.
--- Assumes nothing.
 use mathlib.Core.Path.{ap}
 use mathlib.Core.Bool.{not}
 use Rattle.rules.specs.Refusals.{ends-nobody}

@@ -1,5 +1,4 @@
 -- `refusals::is_over` meets its contract, status by status.
--- Assumes nothing.
 use Rattle.rules.specs.Refusals.{over}
 use borrow.Author.Needs.{needs}
 use Rattle.stepping.proofs.refusals.is_over.Statement.{statement}

@@ -1,5 +1,4 @@
 -- `refusals::manager_refusal` meets its contract: the first of its two rules that holds.
--- Assumes nothing.
 use mathlib.Core.Path.{sym, _∙_}
 use borrow.Author.Tests.{not-true, not-false, eq-eqb, ne-eqb}
 use Rattle.rules.specs.Refusals.{first-of}

@@ -1,5 +1,4 @@
 -- `refusals::refusal` meets its contract: the first of all the rules that holds.
--- Assumes nothing.
 use mathlib.Core.Path.{_≡_, sym, ap, _∙_}
 use mathlib.Core.Bool.{false}
 use Rattle.rules.specs.Tables.{runs}

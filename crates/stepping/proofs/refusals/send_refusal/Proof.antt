@@ -1,5 +1,4 @@
 -- `refusals::send_refusal` meets its contract: the first of its three rules that holds.
--- Assumes nothing.
 use mathlib.Core.Path.{_≡_, sym, ap, _∙_}
 use mathlib.Core.Bool.{true}
 use borrow.Author.Tests.{not-true, not-false, lt-ltb, le-ltb}

@@ -1,5 +1,4 @@
 -- `refusals::wants_nobody` meets its contract: anybody is there, and one is refused who is not live.
--- Assumes nothing.
 use mathlib.Core.Path.{ap}
 use mathlib.Core.Bool.{not}
 use borrow.Author.Needs.{needs}

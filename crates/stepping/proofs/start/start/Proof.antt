@@ -1,5 +1,4 @@
 -- `start::start` meets its contract: the first thread is put in, and runs.
--- Assumes nothing.
 use mathlib.Core.Path.{_∙_}
 use Rattle.stepping.proofs.Stepping.{first-fits, started}
 use borrow.Author.Needs.{needs}

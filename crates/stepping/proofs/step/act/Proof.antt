@@ -1,5 +1,4 @@
 -- `step::act` meets its contract, event by event.
--- Assumes nothing.
 use mathlib.Core.Path.{refl}
 use Rattle.rules.specs.Step.{act}
 use Rattle.laws.proofs.Decoded.{Proper}

@@ -1,5 +1,4 @@
 -- `step::decided` meets its contract: the status and the runner are those of the tables.
--- Assumes nothing.
 use borrow.Author.Needs.{needs}
 use Rattle.stepping.proofs.step.decided.Statement.{statement}
 use Rattle.stepping.proofs.step.decided.Tie as tie

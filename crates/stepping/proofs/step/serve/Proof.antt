@@ -1,5 +1,4 @@
 -- `step::serve` meets its contract, call by call: that nothing refuses the call gives its handler the room that it needs.
--- Assumes nothing.
 use mathlib.Core.Path.{refl, ap}
 use Rattle.rules.specs.Waking.{_handing_}
 use Rattle.rules.specs.Step.{serve}

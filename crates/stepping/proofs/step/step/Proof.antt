@@ -1,5 +1,4 @@
 -- `step::step` meets its contract: the event accepted, or refused.
--- Assumes nothing.
 use mathlib.Core.Path.{refl, sym, _∙_}
 use Rattle.laws.proofs.Decoded.{decode-proper}
 use Rattle.handling.proofs.Leaving.{holds}

@@ -1,5 +1,4 @@
 -- `ended::begin_ended` meets its contract.
--- Assumes nothing.
 use borrow.Author.Needs.{needs}
 use Rattle.store.specs.Store.{limits, found}
 use Rattle.store.proofs.Written.{found-are}

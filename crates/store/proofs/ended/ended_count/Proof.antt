@@ -1,5 +1,4 @@
 -- `ended::ended_count` meets its contract.
--- Assumes nothing.
 use mathlib.Core.Path.{sym, _∙_}
 use Rattle.store.specs.Store.{limits, found}
 use Rattle.memory.proofs.Sizes.{members-count}

@@ -1,5 +1,4 @@
 -- `ended::remove_ended` meets its contract: row by row, and the set stays as it was found.
--- Assumes nothing.
 use mathlib.Core.Path.{sym, _∙_}
 use borrow.Author.Needs.{needs}
 use Rattle.store.specs.Store.{limits, Shaped, found}

@@ -1,5 +1,4 @@
 -- `filling::clear` meets its contract: a lent memory keeps its length.
--- Assumes nothing.
 use mathlib.Core.Path.{_≡_}
 use borrow.Author.Needs.{needs}
 use lib.ListN.{length}

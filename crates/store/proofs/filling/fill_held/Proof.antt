@@ -1,5 +1,4 @@
 -- `filling::fill_held` meets its contract: the memory's own `hold`.
--- Assumes nothing.
 use Rattle.store.specs.Store.{tables, Shaped}
 use Rattle.store.proofs.Written.{held-put}
 use Rattle.store.proofs.filling.fill_held.Statement.{statement}

@@ -1,5 +1,4 @@
 -- `filling::fill_thread` meets its contract.
--- Assumes nothing.
 use native.Mathlib.Omega.{arith}
 use borrow.Author.Needs.{needs}
 use Rattle.memory.specs.Rows.{Roomy}

@@ -1,5 +1,4 @@
 -- `head::runner` meets its contract.
--- Assumes nothing.
 use Rattle.store.specs.Store.{tables}
 use Rattle.store.proofs.Searched.{roomy}
 use Rattle.store.proofs.head.runner.Statement.{statement}

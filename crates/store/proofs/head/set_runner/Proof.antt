@@ -1,5 +1,4 @@
 -- `head::set_runner` meets its contract.
--- Assumes nothing.
 use borrow.Author.Needs.{needs}
 use Rattle.store.proofs.Written.{leaves, runner-put}
 use Rattle.store.proofs.Searched.{roomy}

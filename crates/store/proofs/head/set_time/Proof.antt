@@ -1,5 +1,4 @@
 -- `head::set_time` meets its contract.
--- Assumes nothing.
 use borrow.Author.Needs.{needs}
 use Rattle.memory.specs.Rows.{Roomy}
 use Rattle.moving.proofs.Steps.{by}

@@ -1,5 +1,4 @@
 -- `held::held_word` meets its contract.
--- Assumes nothing.
 use Rattle.store.specs.Store.{tables}
 use Rattle.store.proofs.Searched.{roomy}
 use Rattle.store.proofs.held.held_word.Statement.{statement}

@@ -1,5 +1,4 @@
 -- `held::hold` meets its contract.
--- Assumes nothing.
 use borrow.Author.Needs.{needs}
 use Rattle.store.specs.Store.{tables, Shaped}
 use Rattle.store.proofs.Written.{leaves, held-put}

@@ -1,5 +1,4 @@
 -- `held::is_held` meets its contract.
--- Assumes nothing.
 use Rattle.store.specs.Store.{tables}
 use Rattle.store.proofs.Searched.{roomy}
 use Rattle.store.proofs.held.is_held.Statement.{statement}

@@ -1,5 +1,4 @@
 -- `inboxes::blocks_full` meets its contract: no more blocks are in use than there are messages.
--- Assumes nothing.
 use native.Mathlib.Omega.{arith}
 use lib.Dec.{leb}
 use Rattle.store.specs.Store.{limits, tables}

@@ -1,5 +1,4 @@
 -- `inboxes::discard_notice` meets its contract.
--- Assumes nothing.
 use borrow.Author.Needs.{needs}
 use Rattle.store.specs.Store.{tables}
 use Rattle.store.proofs.Written.{leaves, messages-are}

@@ -1,5 +1,4 @@
 -- `inboxes::message_at` meets its contract.
--- Assumes nothing.
 use mathlib.Core.Path.{_∙_}
 use Rattle.store.proofs.Searched.{messages-within, message-entry}
 use Rattle.store.proofs.inboxes.message_at.Statement.{statement}

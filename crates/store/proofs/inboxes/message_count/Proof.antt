@@ -1,5 +1,4 @@
 -- `inboxes::message_count` meets its contract.
--- Assumes nothing.
 use mathlib.Core.Path.{_∙_}
 use Rattle.store.proofs.Searched.{messages-length, roomy}
 use Rattle.store.proofs.inboxes.message_count.Statement.{statement}

@@ -1,5 +1,4 @@
 -- `inboxes::take_message` meets its contract.
--- Assumes nothing.
 use native.Mathlib.Omega.{arith}
 use borrow.Author.Needs.{needs}
 use Rattle.store.specs.Store.{Shaped}

@@ -1,5 +1,4 @@
 -- `queues::clock_at` meets its contract.
--- Assumes nothing.
 use mathlib.Core.Path.{_∙_}
 use Rattle.store.proofs.Searched.{clock-within, clock-entry}
 use Rattle.store.proofs.queues.clock_at.Statement.{statement}

@@ -1,5 +1,4 @@
 -- `queues::clock_count` meets its contract.
--- Assumes nothing.
 use mathlib.Core.Path.{_∙_}
 use Rattle.store.proofs.Searched.{clock-length, roomy}
 use Rattle.store.proofs.queues.clock_count.Statement.{statement}

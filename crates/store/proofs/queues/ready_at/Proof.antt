@@ -1,5 +1,4 @@
 -- `queues::ready_at` meets its contract.
--- Assumes nothing.
 use mathlib.Core.Path.{_∙_}
 use Rattle.store.proofs.Searched.{ready-within, ready-entry}
 use Rattle.store.proofs.queues.ready_at.Statement.{statement}

@@ -1,5 +1,4 @@
 -- `queues::ready_count` meets its contract.
--- Assumes nothing.
 use mathlib.Core.Path.{_∙_}
 use Rattle.store.proofs.Searched.{ready-length, roomy}
 use Rattle.store.proofs.queues.ready_count.Statement.{statement}

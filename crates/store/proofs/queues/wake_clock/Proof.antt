@@ -1,5 +1,4 @@
 -- `queues::wake_clock` meets its contract: threads, then the ready queue, then nobody waits.
--- Assumes nothing.
 use Prim.Native.Nat.{_+_, _≤_}
 use mathlib.Core.Path.{refl}
 use mathlib.Core.List.{[], _++_}

@@ -1,5 +1,4 @@
 -- `threads::add_thread` meets its contract: nobody has the newcomer's name, so at its place the names rise still.
--- Assumes nothing.
 use native.Mathlib.Omega.{arith}
 use borrow.Author.Needs.{needs}
 use Rattle.store.specs.Store.{limits}

@@ -1,5 +1,4 @@
 -- `threads::is_live` meets its contract.
--- Assumes nothing.
 use Prim.Native.Nat.{ℕ}
 use mathlib.Core.Path.{ap, _∙_}
 use lib.Dec.{ltb}

@@ -1,5 +1,4 @@
 -- `threads::manager_of` meets its contract.
--- Assumes nothing.
 use mathlib.Core.Path.{_∙_}
 use native.Mathlib.Omega.{arith}
 use Rattle.rules.specs.Tables.{manager}

@@ -1,5 +1,4 @@
 -- `threads::name_at` meets its contract.
--- Assumes nothing.
 use mathlib.Core.Path.{ap, _∙_}
 use Rattle.laws.proofs.Words.{Thread}
 use Rattle.store.proofs.Searched.{threads-within, thread-entry}

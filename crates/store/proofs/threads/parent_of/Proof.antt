@@ -1,5 +1,4 @@
 -- `threads::parent_of` meets its contract.
--- Assumes nothing.
 use mathlib.Core.Path.{_∙_}
 use native.Mathlib.Omega.{arith}
 use Rattle.store.proofs.Searched.{of-found, of-nobody, roomy, found-here, can-find}

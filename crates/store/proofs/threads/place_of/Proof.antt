@@ -1,5 +1,4 @@
 -- `threads::place_of` meets its contract.
--- Assumes nothing.
 use Rattle.store.specs.Store.{tables}
 use Rattle.store.proofs.Searched.{can-place}
 use Rattle.store.proofs.threads.place_of.Statement.{statement}

@@ -1,5 +1,4 @@
 -- `threads::receives_from` meets its contract.
--- Assumes nothing.
 use mathlib.Core.Path.{_∙_}
 use native.Mathlib.Omega.{arith}
 use Rattle.rules.specs.States.{receives}

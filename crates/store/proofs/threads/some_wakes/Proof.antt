@@ -1,5 +1,4 @@
 -- `threads::some_wakes` meets its contract.
--- Assumes nothing.
 use Rattle.store.specs.Store.{tables}
 use Rattle.store.proofs.Searched.{few-threads}
 use Rattle.store.proofs.threads.some_wakes.Statement.{statement}

@@ -1,5 +1,4 @@
 -- `threads::thread_at` meets its contract.
--- Assumes nothing.
 use mathlib.Core.Path.{_∙_}
 use Rattle.store.proofs.Searched.{threads-within, thread-entry}
 use Rattle.store.proofs.threads.thread_at.Statement.{statement}

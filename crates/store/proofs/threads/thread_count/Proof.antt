@@ -1,5 +1,4 @@
 -- `threads::thread_count` meets its contract.
--- Assumes nothing.
 use mathlib.Core.Path.{_∙_}
 use Rattle.store.proofs.Searched.{threads-length, roomy}
 use Rattle.store.proofs.threads.thread_count.Statement.{statement}

@@ -1,5 +1,4 @@
 -- `threads::threads_full` meets its contract.
--- Assumes nothing.
 use mathlib.Core.Path.{_∙_, ap₂}
 use lib.Dec.{leb}
 use Rattle.store.specs.Store.{limits}

@@ -1,5 +1,4 @@
 -- `threads::trapped_on` meets its contract.
--- Assumes nothing.
 use mathlib.Core.Path.{_∙_}
 use native.Mathlib.Omega.{arith}
 use Rattle.rules.specs.States.{awaits}

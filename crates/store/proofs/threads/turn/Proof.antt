@@ -1,5 +1,4 @@
 -- `threads::turn` meets its contract: a hint changes no row.
--- Assumes nothing.
 use mathlib.Core.Path.{refl}
 use native.Mathlib.Omega.{arith}
 use borrow.Author.Needs.{needs}

@@ -1,5 +1,4 @@
 -- `threads::waiter` meets its contract.
--- Assumes nothing.
 use mathlib.Core.Path.{_∙_}
 use native.Mathlib.Omega.{arith}
 use Rattle.store.proofs.Searched.{name-found, name-nowhere, roomy, few-threads, found-here}

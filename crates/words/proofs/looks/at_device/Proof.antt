@@ -1,5 +1,4 @@
 -- `looks::at_device` answers as the rule, by the words.
--- Assumes nothing.
 use mathlib.Core.Path.{sym, ap, _∙_}
 use Rattle.rules.specs.States.{at-device}
 use Rattle.words.specs.Saying.{state-in}

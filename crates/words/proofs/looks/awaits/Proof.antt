@@ -1,5 +1,4 @@
 -- `looks::awaits` answers as the rule, by the words.
--- Assumes nothing.
 use mathlib.Core.Path.{sym, ap, _∙_}
 use mathlib.Core.Bool.{false}
 use native.Mathlib.Omega.{arith}

@@ -1,5 +1,4 @@
 -- `looks::on_clock` answers as the rule, by the words.
--- Assumes nothing.
 use mathlib.Core.Path.{sym}
 use Rattle.rules.specs.Lists.{_==_}
 use Rattle.words.specs.Saying.{state-in}

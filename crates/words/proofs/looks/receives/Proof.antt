@@ -1,5 +1,4 @@
 -- `looks::receives` answers as the rule, by the words.
--- Assumes nothing.
 use mathlib.Core.Path.{sym}
 use borrow.Author.Tests.{eq-eqb, ne-eqb}
 use Rattle.rules.specs.States.{receives}

@@ -1,5 +1,4 @@
 -- `looks::wakes_from_outside` answers as the rule, by the words.
--- Assumes nothing.
 use mathlib.Core.Path.{refl, sym}
 use Rattle.rules.specs.Lists.{_==_}
 use Rattle.rules.specs.States.{wakes-from-outside, on-clock}

@@ -1,5 +1,4 @@
 -- `answer_from` reads an answer as it is said, kind by kind.
--- Assumes nothing.
 use borrow.Author.Tests.{eq-eqb, ne-eqb}
 use Rattle.words.specs.Saying.{answer-in}
 use mathlib.Core.Logic.{⊎-elim}

@@ -1,5 +1,4 @@
 -- `answer_words` gives three words that say the answer.
--- Assumes nothing.
 use Rattle.words.proofs.Said.{byte-same}
 use mathlib.Core.Path.{sym}
 use Rattle.words.specs.Saying.{answer-in}

@@ -1,5 +1,4 @@
 -- `byte` answers the word, or 255 where it is no byte.
--- Assumes nothing.
 use borrow.Author.Tests.{lt-ltb, le-ltb}
 use borrow.Author.Needs.{needs}
 use Rattle.words.proofs.saying.byte.Statement.{statement}

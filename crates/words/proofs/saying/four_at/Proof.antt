@@ -1,5 +1,4 @@
 -- `four_at` reads the four words.
--- Assumes nothing.
 use Rattle.words.proofs.Said.{four-said}
 use borrow.Author.Needs.{needs}
 use Rattle.words.proofs.saying.four_at.Statement.{statement}

@@ -1,5 +1,4 @@
 -- `kind_from` reads a kind as it is said.
--- Assumes nothing.
 use borrow.Author.Tests.{lt-ltb, le-ltb}
 use Rattle.words.proofs.saying.kind_from.Statement.{statement}
 use Rattle.words.proofs.saying.kind_from.Tie as tie

@@ -1,5 +1,4 @@
 -- `manager_from` reads a manager as it is said.
--- Assumes nothing.
 use borrow.Author.Tests.{eq-eqb, ne-eqb}
 use borrow.Author.Needs.{needs}
 use Rattle.words.proofs.saying.manager_from.Statement.{statement}

@@ -1,5 +1,4 @@
 -- `manager_word` gives a word that says the manager.
--- Assumes nothing.
 use Rattle.words.proofs.Said.{manager-said}
 use borrow.Author.Needs.{needs}
 use Rattle.words.proofs.saying.manager_word.Statement.{statement}

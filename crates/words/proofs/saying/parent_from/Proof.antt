@@ -1,5 +1,4 @@
 -- `parent_from` reads a parent as it is said.
--- Assumes nothing.
 use borrow.Author.Tests.{eq-eqb, ne-eqb}
 use borrow.Author.Needs.{needs}
 use Rattle.words.proofs.saying.parent_from.Statement.{statement}

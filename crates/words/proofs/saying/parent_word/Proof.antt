@@ -1,5 +1,4 @@
 -- `parent_word` gives a word that says the parent.
--- Assumes nothing.
 use Rattle.words.proofs.Said.{parent-said}
 use borrow.Author.Needs.{needs}
 use Rattle.words.proofs.saying.parent_word.Statement.{statement}

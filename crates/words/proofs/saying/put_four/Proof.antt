@@ -1,5 +1,4 @@
 -- `put_four` writes the four words.
--- Assumes nothing.
 use Rattle.words.proofs.Said.{four-put}
 use borrow.Author.Needs.{needs}
 use Rattle.words.proofs.saying.put_four.Statement.{statement}

@@ -1,5 +1,4 @@
 -- `read_message` reads each field from its words.
--- Assumes nothing.
 use Rattle.words.specs.Saying.{message-in}
 use borrow.Author.Needs.{needs}
 use Rattle.words.proofs.saying.read_message.Statement.{statement}

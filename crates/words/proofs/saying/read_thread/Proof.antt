@@ -1,5 +1,4 @@
 -- `read_thread` reads each field from its words.
--- Assumes nothing.
 use Rattle.words.specs.Saying.{thread-in}
 use borrow.Author.Needs.{needs}
 use Rattle.words.proofs.saying.read_thread.Statement.{statement}

@@ -1,5 +1,4 @@
 -- `runner_from` reads the runner as it is said.
--- Assumes nothing.
 use borrow.Author.Tests.{eq-eqb, ne-eqb}
 use Rattle.words.specs.Saying.{runner-in}
 use mathlib.Core.Logic.{⊎-elim}

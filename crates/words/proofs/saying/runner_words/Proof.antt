@@ -1,5 +1,4 @@
 -- `runner_words` gives two words that say the runner.
--- Assumes nothing.
 use Rattle.words.proofs.Said.{runs-said}
 use Rattle.words.specs.Saying.{runner-in}
 use borrow.Author.Needs.{needs}

@@ -1,5 +1,4 @@
 -- `sender_from` reads a sender as it is said, for both kinds.
--- Assumes nothing.
 use borrow.Author.Tests.{lt-ltb, le-ltb}
 use borrow.Author.Needs.{needs}
 use Rattle.words.proofs.saying.sender_from.Statement.{statement}

@@ -1,5 +1,4 @@
 -- `sender_word` gives a word that says the sender and the kind of message.
--- Assumes nothing.
 use Rattle.words.proofs.Said.{ordinary-said, notice-said}
 use borrow.Author.Needs.{needs}
 use Rattle.words.proofs.saying.sender_word.Statement.{statement}

@@ -1,5 +1,4 @@
 -- `state_from` reads a state as it is said, word by word.
--- Assumes nothing.
 use borrow.Author.Tests.{ne-eqb}
 use Rattle.words.specs.Saying.{state-in}
 use borrow.Author.Needs.{needs}

@@ -1,5 +1,4 @@
 -- `state_words` gives two words that say the state.
--- Assumes nothing.
 use Rattle.words.proofs.Said.{byte-same}
 use mathlib.Core.Path.{sym}
 use Rattle.words.specs.Saying.{state-in}

@@ -1,5 +1,4 @@
 -- `trap_word` gives a word that says the kind of trap.
--- Assumes nothing.
 use borrow.Author.Needs.{needs}
 use Rattle.words.proofs.saying.trap_word.Statement.{statement}
 use Rattle.words.proofs.saying.trap_word.Tie as tie

@@ -1,5 +1,4 @@
 -- `trapped_from` reads a kind of trap as it is said.
--- Assumes nothing.
 use borrow.Author.Tests.{ne-eqb}
 use Rattle.words.proofs.saying.trapped_from.Statement.{statement}
 use Rattle.words.proofs.saying.trapped_from.Tie as tie

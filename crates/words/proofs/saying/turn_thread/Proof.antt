@@ -1,5 +1,4 @@
 -- `turn_thread` writes the words of the state and of the answer, and leaves the others.
--- Assumes nothing.
 use lib.ListN.{length-set}
 use Rattle.words.proofs.Said.{turned-said}
 use native.Mathlib.Omega.{arith}

@@ -1,5 +1,4 @@
 -- `wanted_from` reads who is wanted as it is said.
--- Assumes nothing.
 use borrow.Author.Tests.{eq-eqb, ne-eqb}
 use borrow.Author.Needs.{needs}
 use Rattle.words.proofs.saying.wanted_from.Statement.{statement}

@@ -1,5 +1,4 @@
 -- `wanted_word` gives a word that says who is wanted.
--- Assumes nothing.
 use Rattle.words.proofs.Said.{wanted-said}
 use borrow.Author.Needs.{needs}
 use Rattle.words.proofs.saying.wanted_word.Statement.{statement}

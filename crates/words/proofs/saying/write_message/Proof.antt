@@ -1,5 +1,4 @@
 -- `write_message` writes three words that say the message.
--- Assumes nothing.
 use Rattle.words.proofs.Said.{message-said}
 use borrow.Author.Needs.{needs}
 use Rattle.words.proofs.saying.write_message.Statement.{statement}

@@ -1,5 +1,4 @@
 -- `write_thread` writes eleven words that say the thread.
--- Assumes nothing.
 use lib.ListN.{length-set}
 use Rattle.words.proofs.Said.{thread-said}
 use native.Mathlib.Omega.{arith}

@@ -1,5 +1,4 @@
 -- `at_device` answers as the rule, state by state.
--- Assumes nothing.
 use Rattle.rules.specs.States.{at-device}
 use borrow.Author.Needs.{needs}
 use Rattle.words.proofs.states.at_device.Statement.{statement}

@@ -1,5 +1,4 @@
 -- `handed` gives the answer that the rule gives, for both kinds.
--- Assumes nothing.
 use Rattle.rules.specs.Waking.{handed-as}
 use borrow.Author.Needs.{needs}
 use Rattle.words.proofs.states.handed.Statement.{statement}

@@ -1,5 +1,4 @@
 -- `is_ordinary` answers as the rule, for both kinds.
--- Assumes nothing.
 use Rattle.rules.specs.Waking.{is-ordinary}
 use borrow.Author.Needs.{needs}
 use Rattle.words.proofs.states.is_ordinary.Statement.{statement}

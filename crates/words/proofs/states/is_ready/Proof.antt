@@ -1,5 +1,4 @@
 -- `is_ready` answers as the rule, state by state.
--- Assumes nothing.
 use Rattle.rules.specs.States.{is-ready}
 use borrow.Author.Needs.{needs}
 use Rattle.words.proofs.states.is_ready.Statement.{statement}

@@ -1,5 +1,4 @@
 -- `is_running` answers as the rule, state by state.
--- Assumes nothing.
 use Rattle.rules.specs.States.{is-running}
 use borrow.Author.Needs.{needs}
 use Rattle.words.proofs.states.is_running.Statement.{statement}

@@ -1,5 +1,4 @@
 -- `is_set_to` answers whether an entry is set to a name.
--- Assumes nothing.
 use borrow.Author.Needs.{needs}
 use Rattle.words.proofs.states.is_set_to.Statement.{statement}
 use Rattle.words.proofs.states.is_set_to.Tie as tie

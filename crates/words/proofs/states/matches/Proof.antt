@@ -1,5 +1,4 @@
 -- `matches` answers as the rule, for anybody and for one name.
--- Assumes nothing.
 use borrow.Author.Needs.{needs}
 use Rattle.words.proofs.states.matches.Statement.{statement}
 use Rattle.words.proofs.states.matches.Tie as tie

@@ -1,5 +1,4 @@
 -- `on_clock` answers as the rule, state by state.
--- Assumes nothing.
 use Rattle.rules.specs.States.{on-clock}
 use borrow.Author.Needs.{needs}
 use Rattle.words.proofs.states.on_clock.Statement.{statement}

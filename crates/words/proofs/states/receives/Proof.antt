@@ -1,5 +1,4 @@
 -- `receives` answers as the rule, state by state.
--- Assumes nothing.
 use Rattle.rules.specs.States.{receives}
 use borrow.Author.Needs.{needs}
 use Rattle.words.proofs.states.receives.Statement.{statement}

@@ -1,5 +1,4 @@
 -- `wakes_from_outside` answers as the rule, state by state.
--- Assumes nothing.
 use Rattle.rules.specs.States.{wakes-from-outside, on-clock}
 use borrow.Author.Needs.{needs}
 use Rattle.words.proofs.states.wakes_from_outside.Statement.{statement}
