@@ -15,7 +15,7 @@ use Rattle.rules.specs.Waking.{accepts}
 use Rattle.rules.specs.TableRules.{no-match}
 use Rattle.laws.proofs.Words.{State, Running, Ready, Receiving, Clock, Device, Trapped, Thread, Message}
 use Rattle.laws.proofs.Tests.{and-left, and-right, and-false, not-true, by-if, _&_}
-use Rattle.laws.proofs.Counting.{none-any, not-any, all-of, all-at}
+use Rattle.laws.proofs.Tally.{none-any, not-any, all-of, all-at}
 use Rattle.laws.proofs.Single.{getD-member}
 use Rattle.memory.specs.Rows.{Rows, view, place}
 use Rattle.indexing.specs.Index.{Indexed}

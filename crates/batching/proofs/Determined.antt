@@ -49,7 +49,7 @@ pub batch-determined : {m before a b x y : List ℕ} {s r q : RefT (List ℕ)} {
 batch-determined {s = s} {r = r} {q = q} p o = (
   served-agree (p .served) (o .served),
   same,
-  p .stands ∙ (ap (λ (l : List ℕ). (ptr s .0, (length (now s) - length l) + ptr s .1)) same ∙ sym (o .stands)),
+  p .ends-there ∙ (ap (λ (l : List ℕ). (ptr s .0, (length (now s) - length l) + ptr s .1)) same ∙ sym (o .ends-there)),
 )
   where
     same : now r ≡ now q

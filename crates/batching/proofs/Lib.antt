@@ -1,4 +1,4 @@
-pub mod Counting
+pub mod FieldCount
 pub mod Calling
 pub mod Running
 pub mod Serving

@@ -16,7 +16,7 @@ use Rattle.buffer.specs.Puts.{Puts}
 use Rattle.buffer.proofs.Putting.{rest, back, behind, said, room, puts-none}
 use Rattle.lending.specs.Lent.{valid, Answered}
 use Rattle.laws.proofs.Batch.{complete-first, numbers-append, line-count}
-use Rattle.batching.proofs.Counting.{some-left, behind-it, ends-within}
+use Rattle.batching.proofs.FieldCount.{some-left, behind-it, ends-within}
 use Rattle.batching.proofs.Calling.{stays-valid}
 use Rattle.batching.specs.Batching.{SingleCalls, none, call, RanAll}
 

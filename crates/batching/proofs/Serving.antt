@@ -61,4 +61,4 @@ module _ {m bytes before : List ℕ} {c : Complete} (n : AllCounted bytes c) whe
 -- the end of the caller's bytes behind those that are read
 pub hands-back : {m before m′ after : List ℕ} {s r : RefT (List ℕ)} {used n : ℕ}
     → Serves m (now s) before m′ after used n → EndOf s used r → Batches m s before r m′ after n
-hands-back p e = record { served = p .served; unread = e .bytes ∙ p .unread; stands = e .stands }
+hands-back p e = record { served = p .served; unread = e .bytes ∙ p .unread; ends-there = e .ends-there }

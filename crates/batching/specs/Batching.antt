@@ -72,7 +72,7 @@ pub record Serves (m bytes before m′ after : List ℕ) (used n : ℕ) : Type 0
 pub record Batches (m : List ℕ) (s : RefT (List ℕ)) (before : List ℕ) (r : RefT (List ℕ)) (m′ after : List ℕ) (n : ℕ) : Type 0 where
   pub served : Served m (now s) before m′ after n
   pub unread : now r ≡ taken (length before) (now s) .unread
-  pub stands : EndsWith s r
+  pub ends-there : EndsWith s r
 
 -- the same for a struct that holds the memory
 abbrev pub BatchesValue : Lent → List ℕ → List ℕ → List ℕ → Batched → Type 0

@@ -110,8 +110,8 @@ module _ {a before mid : List ℕ} {k : ℕ} (p : Puts a before mid k) where
           ∙ (drop-drop (length c - length a) (length a) before ∙ ap (λ (j : ℕ). drop j before) (sym more))))
 
   -- They stand at the front of the buffer that they were put in.
-  pub stands : Puts a mid mid k
-  stands =
+  pub at-the-front : Puts a mid mid k
+  at-the-front =
       let same : drop (length a) mid ≡ drop (length a) before =
       ap (drop (length a)) (p .shows) ∙ drop-append-seam a (drop (length a) before) in
       record { counts = p .counts; shows = p .shows ∙ ap (λ (l : List ℕ). a ++ l) (sym same) }

@@ -10,7 +10,7 @@ use Rattle.rules.specs.Tables.{Tables, me}
 use Rattle.rules.specs.Dispatch.{status}
 use Rattle.rules.specs.Codes.{status-code, slice-code}
 use Rattle.rules.specs.Dump.{field, head-value, thread-value, message-value, dump}
-use Rattle.laws.proofs.Counting.{length-each}
+use Rattle.laws.proofs.Tally.{length-each}
 use Rattle.laws.proofs.DumpLength.{head-length, thread-length, message-length, dump-length}
 use Rattle.memory.specs.Layout.{most-blocks}
 use Rattle.store.specs.Store.{tables}

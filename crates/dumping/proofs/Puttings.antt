@@ -12,10 +12,10 @@ use Rattle.rules.specs.Lists.{any, each, two-bytes, four-bytes}
 use Rattle.rules.specs.Interrupt.{held-for}
 use Rattle.rules.specs.Dump.{field, held-value}
 use Rattle.laws.proofs.Words.{Held}
-use Rattle.laws.proofs.Counting.{each-append, length-each}
+use Rattle.laws.proofs.Tally.{each-append, length-each}
 use Rattle.store.specs.Store.{word-for}
 use Rattle.buffer.specs.Puts.{Puts}
-use Rattle.buffer.proofs.Putting.{rest, back, behind, counted, over, said, stands, one-more, room, stays-long, puts-none}
+use Rattle.buffer.proofs.Putting.{rest, back, behind, counted, over, said, at-the-front, one-more, room, stays-long, puts-none}
 use Rattle.dumping.specs.Dumping.{held-at}
 use Rattle.dumping.proofs.Walks.{Walk}
 
@@ -109,7 +109,7 @@ pub record Named (tag n : ℕ) (row before now : List ℕ) (i : ℕ) : Type 0 wh
 
 module _ {tag n : ℕ} {b before : List ℕ} {k : ℕ} (p : Puts (tag ∷ two-bytes n) b before k) where
   pub name-starts : {row : List ℕ} → n ≡ length row → 3 + length row ≤ length b → Named tag n row before before 0
-  name-starts w e = record { whole = w; enough = omega (arith, stays-long p (omega arith)); within = omega arith; so = counted (stands p) 3 refl }
+  name-starts w e = record { whole = w; enough = omega (arith, stays-long p (omega arith)); within = omega arith; so = counted (at-the-front p) 3 refl }
 
 module _ {tag n : ℕ} {row before now : List ℕ} {i : ℕ} (W : Named tag n row before now i) where
   pub named-long : length now ≡ length before

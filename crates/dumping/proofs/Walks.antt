@@ -14,7 +14,7 @@ use Rattle.rules.specs.Lists.{if_then_else_, _==_, all, any, keep, chain}
 use Rattle.rules.specs.Numbers.{devices}
 use Rattle.laws.proofs.Words.{Held}
 use Rattle.laws.proofs.Tests.{same?, and-left, and-right}
-use Rattle.laws.proofs.Counting.{count-length, length-keep, keep-none, none-count, none-any, all-at}
+use Rattle.laws.proofs.Tally.{count-length, length-keep, keep-none, none-count, none-any, all-at}
 use Rattle.laws.proofs.Ordered.{up, chain-tail, up-below, up-few}
 use Rattle.store.specs.Store.{tables, word-for}
 use Rattle.dumping.specs.Dumping.{Dumpable, held-at}

@@ -18,4 +18,4 @@ EndsWith s r = ptr r ≡ (ptr s .0, (length (now s) - length (now r)) + ptr s .1
 -- r is the end of the lent bytes s from a place on
 pub record EndOf (s : RefT (List ℕ)) (place : ℕ) (r : RefT (List ℕ)) : Type 0 where
   pub bytes : now r ≡ drop place (now s)
-  pub stands : EndsWith s r
+  pub ends-there : EndsWith s r

@@ -14,7 +14,7 @@ ghost use Prim.Native.Nat.{_<_, _≤_};
 ghost use lib.ListN.{length};
 ghost use Rattle.rules.specs.Numbers.{small};
 ghost use Rattle.store.specs.Store.{limits};
-ghost use Rattle.handling.specs.Standing.{Stands};
+ghost use Rattle.handling.specs.Standing.{AtRest};
 ghost use Rattle.checking.specs.Stands.{stands};
 ghost use Rattle.memory.specs.Layout.{size};
 
@@ -48,8 +48,8 @@ fn field_end(s: &[u8], at: usize) -> usize
 
 // Every field of s, on a memory that stands: how many are accepted.
 fn run_in(m: &mut [u32], s: &[u8]) -> u64
-    requires { ⌜ Stands (now m) ⌝ }
-    ensures { λ _. ⌜ Stands (now (m .exit)) × (limits (now (m .exit)) ≡ limits (now (m .entry))) ⌝ }
+    requires { ⌜ AtRest (now m) ⌝ }
+    ensures { λ _. ⌜ AtRest (now (m .exit)) × (limits (now (m .exit)) ≡ limits (now (m .entry))) ⌝ }
 {
     let mut accepted: u64 = 0;
     let mut at = 0;

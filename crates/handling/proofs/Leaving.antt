@@ -8,7 +8,7 @@ use Rattle.rules.specs.Waking.{Outcome, _handing_}
 use Rattle.laws.proofs.Words.{Answer}
 use Rattle.laws.proofs.Types.{Inv, Ruled}
 use Rattle.store.specs.Store.{limits, tables, Holding, Leaves, Hands}
-use Rattle.handling.specs.Standing.{Holds, Stands}
+use Rattle.handling.specs.Standing.{Holds, AtRest}
 
 -- nothing changed
 pub as-it-was : {m : List ℕ} → Holding m → Leaves m m (tables m)
@@ -34,9 +34,9 @@ carried P a p = rw (a .same, a .says) p
 pub still-holds : {m m′ : List ℕ} {T : Tables} → Leaves m m′ T → Inv (limits m) T → Holds m′
 still-holds a I = record { holding = a .holding; inv = carried Inv a I }
 
-pub still-stands : {m m′ : List ℕ} {T : Tables} → Leaves m m′ T → Ruled (limits m) T → Stands m′
-still-stands a R = record { holding = a .holding; ruled = carried Ruled a R }
+pub still-at-rest : {m m′ : List ℕ} {T : Tables} → Leaves m m′ T → Ruled (limits m) T → AtRest m′
+still-at-rest a R = record { holding = a .holding; ruled = carried Ruled a R }
 
 -- what stands holds
-pub holds : {m : List ℕ} → Stands m → Holds m
+pub holds : {m : List ℕ} → AtRest m → Holds m
 holds S = record { holding = S .holding; inv = S .ruled .inv }

@@ -12,7 +12,7 @@ use Rattle.rules.specs.States.{is-ready, receives}
 use Rattle.rules.specs.Waking.{accepts, wake, stop}
 use Rattle.laws.proofs.Words.{State, Ready, Answer, Nothing, Thread, Message, NoRunner}
 use Rattle.laws.proofs.Tests.{and-right}
-use Rattle.laws.proofs.Counting.{any-member}
+use Rattle.laws.proofs.Tally.{any-member}
 use Rattle.laws.proofs.Types.{Inv}
 use Rattle.laws.proofs.Places.{asleep}
 use Rattle.laws.proofs.Room.{ready-room}

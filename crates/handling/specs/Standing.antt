@@ -10,6 +10,6 @@ pub record Holds (m : List ℕ) : Type 0 where
   pub inv : Inv (limits m) (tables m)
 
 -- before and after an event: all the table rules hold
-pub record Stands (m : List ℕ) : Type 0 where
+pub record AtRest (m : List ℕ) : Type 0 where
   pub holding : Holding m
   pub ruled : Ruled (limits m) (tables m)

@@ -9,7 +9,7 @@ ghost use Rattle.rules.specs.Numbers.{beat-ticks};
 ghost use Rattle.rules.specs.Tick.{charge as charge-of, beat as beat-of, rotate as rotate-of, tick as tick-of};
 ghost use Rattle.laws.proofs.Types.{Steady};
 ghost use Rattle.store.specs.Store.{tables, Leaves};
-ghost use Rattle.handling.specs.Standing.{Holds, Stands};
+ghost use Rattle.handling.specs.Standing.{Holds, AtRest};
 
 // The runner's count rises, its slice falls.
 fn charge(m: &mut [u32])
@@ -60,7 +60,7 @@ fn rotate(m: &mut [u32])
 }
 
 pub fn tick(m: &mut [u32])
-    requires { ⌜ Stands (now m) ⌝ }
+    requires { ⌜ AtRest (now m) ⌝ }
     ensures { λ _. ⌜ Leaves (now (m .entry)) (now (m .exit)) (tick-of (tables (now (m .entry)))) ⌝ }
 {
     charge(m);

@@ -10,7 +10,7 @@ use lib.ListN.{length, take, drop, getD, set, replicate, length-set, length-repl
 use lib.Seq.{getD-set-same, getD-set-other, take-suc, take-take}
 use Rattle.rules.specs.Lists.{one-if, all, count}
 use Rattle.laws.proofs.Tests.{_&_, clash, same?}
-use Rattle.laws.proofs.Counting.{count-append, all-at}
+use Rattle.laws.proofs.Tally.{count-append, all-at}
 use Rattle.indexing.specs.Marks.{Marked}
 
 -- ---- marks

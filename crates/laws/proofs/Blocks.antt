@@ -26,7 +26,7 @@ use Rattle.rules.specs.Step.{serve, act, step}
 use Rattle.rules.specs.Runs.{Input, run}
 use Rattle.laws.proofs.Words.{Wanted, TrapKind, Trapped, Manager, Unset, Set, Gone, MessageKind, Ordinary, Notice, Message, Held, Oneself, Named, Send, Receive, CreateBrother, CreateSon, Terminate, SetManager, GetCpuTime, WaitForClock, WaitForIo, Trap, Event, Malformed, ByRunner, Tick, Interrupt}
 use Rattle.laws.proofs.Tests.{by-if, by-runs, and-true, and-false}
-use Rattle.laws.proofs.Counting.{count-add, count-same, count-zero, count-keep, count-insert, not-any}
+use Rattle.laws.proofs.Tally.{count-add, count-same, count-zero, count-keep, count-insert, not-any}
 use Rattle.laws.proofs.Ordered.{pull-took}
 use Rattle.laws.proofs.Steps.{by-step, by-dispatch}
 use Rattle.laws.proofs.Refusals.{call-is, is-send, block-needed, lacks-block, the-ten, accepted-exactly}

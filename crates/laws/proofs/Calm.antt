@@ -23,7 +23,7 @@ use Rattle.rules.specs.Requests.{create, terminate, set-over, wait-for-clock, t
 use Rattle.rules.specs.Dispatch.{dispatch}
 use Rattle.rules.specs.Step.{serve, act}
 use Rattle.laws.proofs.Tests.{by-if, by-runs, same?}
-use Rattle.laws.proofs.Counting.{zero-any, none-left}
+use Rattle.laws.proofs.Tally.{zero-any, none-left}
 use Rattle.laws.proofs.Queues.{ahead, ahead-keep, Longer, longer-same, longer-trans, longer-place}
 use Rattle.laws.proofs.Threads.{names-mapped, turned-live, put-name}
 use Rattle.laws.proofs.Steps.{by-dispatch}

@@ -14,7 +14,7 @@ use Rattle.rules.specs.Tables.{named}
 use Rattle.rules.specs.States.{awaits}
 use Rattle.rules.specs.Ending.{depends, grow, ended-set}
 use Rattle.laws.proofs.Tests.{clash, and-left, and-right, _&_, or-cases, or-left, or-right, not-true}
-use Rattle.laws.proofs.Counting.{count-add-le, count-length, keep-none, none-passes, any-member}
+use Rattle.laws.proofs.Tally.{count-add-le, count-length, keep-none, none-passes, any-member}
 use Rattle.laws.proofs.Members.{member-has, kept-has, has-kept, has-left, has-right, has-split, has-any}
 use Rattle.laws.proofs.Threads.{member-live}
 

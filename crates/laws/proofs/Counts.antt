@@ -28,7 +28,7 @@ use Rattle.rules.specs.Runs.{Input, run}
 use Rattle.rules.specs.TableRules.{table-rules}
 use Rattle.laws.proofs.Words.{TrapKind, State, Running, Ready, Receiving, Clock, Device, Trapped, Answer, Nothing, Result, Manager, Unset, Set, Gone, Parent, Thread, Message, Held, Runner, NoRunner, Runs, Oneself, Named, Call, Send, Receive, CreateBrother, CreateSon, Terminate, SetManager, GetCpuTime, WaitForClock, WaitForIo, Trap, Event, Malformed, ByRunner, Tick, Interrupt}
 use Rattle.laws.proofs.Tests.{by-if, by-runs, same?, and-left, and-right, _&_}
-use Rattle.laws.proofs.Counting.{count-insert, none-left, count-any, any-count}
+use Rattle.laws.proofs.Tally.{count-insert, none-left, count-any, any-count}
 use Rattle.laws.proofs.Threads.{names-kept, turned, turned-name, put-name}
 use Rattle.laws.proofs.Steps.{by-step, by-dispatch}
 use Rattle.laws.proofs.Sound.{tested-ruled}

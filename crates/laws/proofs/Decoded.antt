@@ -15,7 +15,7 @@ use Rattle.rules.specs.Pick.{pick}
 use Rattle.rules.specs.Events.{asked-in, request, trap-of, interrupt-of, meaning, field-of, decode}
 use Rattle.laws.proofs.Pick.{pick-foremost}
 use Rattle.laws.proofs.Tests.{by-if, and-left, and-right}
-use Rattle.laws.proofs.Counting.{all-drop}
+use Rattle.laws.proofs.Tally.{all-drop}
 use Rattle.laws.proofs.Bytes.{number-below}
 
 -- ---- words are of 32 bits, devices are 0 to 47

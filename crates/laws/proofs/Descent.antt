@@ -13,7 +13,7 @@ use Rattle.laws.proofs.Words.{Parent, NoParent, ParentIs, Thread}
 use Rattle.rules.specs.Tables.{Tables, named}
 use Rattle.rules.specs.TableRules.{has-parent, climbs, parents-right}
 use Rattle.laws.proofs.Tests.{by-if, same?, and-left, and-right, _&_}
-use Rattle.laws.proofs.Counting.{count-strict, length-count, any-member, member-any, all-of, all-at, any-only}
+use Rattle.laws.proofs.Tally.{count-strict, length-count, any-member, member-any, all-of, all-at, any-only}
 use Rattle.laws.proofs.Types.{Family}
 use Rattle.laws.proofs.Threads.{live-member}
 

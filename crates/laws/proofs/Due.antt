@@ -28,7 +28,7 @@ use Rattle.rules.specs.Step.{serve, act, Stepped, settle, step}
 use Rattle.rules.specs.Runs.{Input}
 use Rattle.rules.specs.TableRules.{table-rules}
 use Rattle.laws.proofs.Tests.{by-if, by-runs, same?, and-false, clash}
-use Rattle.laws.proofs.Counting.{none-any}
+use Rattle.laws.proofs.Tally.{none-any}
 use Rattle.laws.proofs.Members.{map-mem}
 use Rattle.laws.proofs.Types.{Inv, Ruled}
 use Rattle.laws.proofs.Threads.{member-live, of-only, turned-live, here-only}
@@ -42,7 +42,7 @@ use Rattle.laws.proofs.Ending.{survivors, ending-forgets}
 -- ---- what is said
 
 -- Among these threads is one of name n in state s with answer a.
-pub record Stands (ts : List Thread) (n : ℕ) (s : State) (a : Answer) : Type 0 where
+pub record ThereIs (ts : List Thread) (n : ℕ) (s : State) (a : Answer) : Type 0 where
   pub thread : Thread
   pub there : List·Memᴰ thread ts
   pub name : thread .name ≡ n
@@ -52,18 +52,18 @@ pub record Stands (ts : List Thread) (n : ℕ) (s : State) (a : Answer) : Type 0
 -- What an event does to a thread n that is ready with the answer a: it still waits, ready with this answer, and does not run; or it
 -- runs, is handed this answer, and has none of its own any more; or it has ended, and does not run.
 pub data Becomes (L : Limits) (T : Tables) (bytes : List ℕ) (n : ℕ) (a : Answer) : Type 0 where
-  it-waits : Stands (step L T bytes .tables .threads) n Ready a → step L T bytes .decision .runner ≢ n → Becomes L T bytes n a
-  it-runs : step L T bytes .decision .runner ≡ n → step L T bytes .decision .answer ≡ a → Stands (step L T bytes .tables .threads) n Running Nothing → Becomes L T bytes n a
+  it-waits : ThereIs (step L T bytes .tables .threads) n Ready a → step L T bytes .decision .runner ≢ n → Becomes L T bytes n a
+  it-runs : step L T bytes .decision .runner ≡ n → step L T bytes .decision .answer ≡ a → ThereIs (step L T bytes .tables .threads) n Running Nothing → Becomes L T bytes n a
   it-ended : live n (step L T bytes .tables) ≡ false → step L T bytes .decision .runner ≢ n → Becomes L T bytes n a
 
 -- The same along a run, from tables T on: thread n is ready with the answer a, event after event, until an event runs it with this
 -- answer, or ends it, or the events are over.
 pub data Until (L : Limits) (n : ℕ) (a : Answer) : Tables → Input → Type 0 where
-  so-far : (T : Tables) → Stands (T .threads) n Ready a → Until L n a T []
-  longer : (T : Tables) (e : List ℕ) (es : Input) → Stands (T .threads) n Ready a → step L T e .decision .runner ≢ n → Until L n a (step L T e .tables) es → Until L n a T (e ∷ es)
-  is-run : (T : Tables) (e : List ℕ) (es : Input) → Stands (T .threads) n Ready a →
-      step L T e .decision .runner ≡ n → step L T e .decision .answer ≡ a → Stands (step L T e .tables .threads) n Running Nothing → Until L n a T (e ∷ es)
-  ends : (T : Tables) (e : List ℕ) (es : Input) → Stands (T .threads) n Ready a → live n (step L T e .tables) ≡ false → step L T e .decision .runner ≢ n → Until L n a T (e ∷ es)
+  so-far : (T : Tables) → ThereIs (T .threads) n Ready a → Until L n a T []
+  longer : (T : Tables) (e : List ℕ) (es : Input) → ThereIs (T .threads) n Ready a → step L T e .decision .runner ≢ n → Until L n a (step L T e .tables) es → Until L n a T (e ∷ es)
+  is-run : (T : Tables) (e : List ℕ) (es : Input) → ThereIs (T .threads) n Ready a →
+      step L T e .decision .runner ≡ n → step L T e .decision .answer ≡ a → ThereIs (step L T e .tables .threads) n Running Nothing → Until L n a T (e ∷ es)
+  ends : (T : Tables) (e : List ℕ) (es : Input) → ThereIs (T .threads) n Ready a → live n (step L T e .tables) ≡ false → step L T e .decision .runner ≢ n → Until L n a T (e ∷ es)
 
 -- ---- no event touches a ready thread
 
@@ -76,7 +76,7 @@ insert-mem {A} p a (y ∷ xs) {x} (List·Memᴰ·tail m) = by-if (λ (l : List A
 abbrev Apart : ℕ → Tables → Type 0
 Apart n T = (m s : ℕ) → T .runner ≡ Runs m s → m ≢ n
 
-ready-apart : {L : Limits} {T : Tables} {n : ℕ} {a : Answer} → Inv L T → Stands (T .threads) n Ready a → Apart n T
+ready-apart : {L : Limits} {T : Tables} {n : ℕ} {a : Answer} → Inv L T → ThereIs (T .threads) n Ready a → Apart n T
 unfolding is-running
 ready-apart {L} {T} {n} I S m s e i =
     let one : one-if (runs-as m (T .runner)) ≡ 1 = ap (λ (r : Runner). one-if (runs-as m r)) e ∙ ap one-if (runs-self m s) in
@@ -85,10 +85,10 @@ ready-apart {L} {T} {n} I S m s e i =
 module _ (n : ℕ) (a : Answer) where
   -- a thread that is ready with the answer stands there still, or no thread of its name does
   abbrev Lasts : List Thread → Type 0
-  Lasts ts = Stands ts n Ready a ⊎ (any (named n) ts ≡ false)
+  Lasts ts = ThereIs ts n Ready a ⊎ (any (named n) ts ≡ false)
 
-  stands-some : (p : Thread → Bool) (f : Thread → Thread) {ts : List Thread} → ((t : Thread) → t .name ≡ n → t .state ≡ Ready → p t ≡ false) → Stands ts n Ready a → Stands (map (λ t. if p t then f t else t) ts) n Ready a
-  stands-some p f {ts} h S = record {
+  still-some : (p : Thread → Bool) (f : Thread → Thread) {ts : List Thread} → ((t : Thread) → t .name ≡ n → t .state ≡ Ready → p t ≡ false) → ThereIs ts n Ready a → ThereIs (map (λ t. if p t then f t else t) ts) n Ready a
+  still-some p f {ts} h S = record {
     thread = S .thread;
     there = subst (λ (x : Thread). List·Memᴰ x (map (λ t. if p t then f t else t) ts)) (rw (h (S .thread) (S .name) (S .state))) (map-mem (λ t. if p t then f t else t) ts (S .there));
     name = S .name;
@@ -99,26 +99,26 @@ module _ (n : ℕ) (a : Answer) where
   other : (m : ℕ) → m ≢ n → (t : Thread) → t .name ≡ n → named m t ≡ false
   other m d t e = ne-eqb m (t .name) (λ i. d (i ∙ e))
 
-  stands-wake : (p : Thread → Bool) (b : Thread → Answer) (ns : List ℕ) (T : Tables) → ((t : Thread) → t .name ≡ n → t .state ≡ Ready → p t ≡ false) → Stands (T .threads) n Ready a → Stands (wake-those p b ns T .threads) n Ready a
+  still-wake : (p : Thread → Bool) (b : Thread → Answer) (ns : List ℕ) (T : Tables) → ((t : Thread) → t .name ≡ n → t .state ≡ Ready → p t ≡ false) → ThereIs (T .threads) n Ready a → ThereIs (wake-those p b ns T .threads) n Ready a
   unfolding wake-those
-  stands-wake p b ns T h S = stands-some p (λ t. in-state Ready (b t) t) h S
+  still-wake p b ns T h S = still-some p (λ t. in-state Ready (b t) t) h S
 
-  stands-change : (m : ℕ) → m ≢ n → (f : Thread → Thread) (T : Tables) → Stands (T .threads) n Ready a → Stands (change m f T .threads) n Ready a
+  still-change : (m : ℕ) → m ≢ n → (f : Thread → Thread) (T : Tables) → ThereIs (T .threads) n Ready a → ThereIs (change m f T .threads) n Ready a
   unfolding change
-  stands-change m d f T S = stands-some (named m) f (λ t e _. other m d t e) S
+  still-change m d f T S = still-some (named m) f (λ t e _. other m d t e) S
 
-  stands-stop : (m : ℕ) → m ≢ n → (s : State) (T : Tables) → Stands (T .threads) n Ready a → Stands (stop m s T .threads) n Ready a
+  still-stop : (m : ℕ) → m ≢ n → (s : State) (T : Tables) → ThereIs (T .threads) n Ready a → ThereIs (stop m s T .threads) n Ready a
   unfolding stop
-  stands-stop m d s T S = stands-change m d (in-state s Nothing) T S
+  still-stop m d s T S = still-change m d (in-state s Nothing) T S
 
-  stands-deliver : (m : Message) (T : Tables) → Stands (T .threads) n Ready a → Stands (deliver m T .threads) n Ready a
+  still-deliver : (m : Message) (T : Tables) → ThereIs (T .threads) n Ready a → ThereIs (deliver m T .threads) n Ready a
   unfolding deliver queue receives
-  stands-deliver m T S =
-      by-if (λ (U : Tables). Stands (U .threads) n Ready a) (any (accepts m) (T .threads))
-      (λ _. stands-wake (accepts m) (λ t. handed m) _ T (λ t e r. rw r (and-false (named (m .to) t))) S)
+  still-deliver m T S =
+      by-if (λ (U : Tables). ThereIs (U .threads) n Ready a) (any (accepts m) (T .threads))
+      (λ _. still-wake (accepts m) (λ t. handed m) _ T (λ t e r. rw r (and-false (named (m .to) t))) S)
       (λ _. S)
 
-  lasts-end : (x : ℕ) (T : Tables) → Stands (T .threads) n Ready a → Lasts (end x T .threads)
+  lasts-end : (x : ℕ) (T : Tables) → ThereIs (T .threads) n Ready a → Lasts (end x T .threads)
   lasts-end x T S = go (has (S .thread .name) (ended-set (T .threads) x)) refl
     where
       go : (b : Bool) → has (S .thread .name) (ended-set (T .threads) x) ≡ b → Lasts (end x T .threads)
@@ -128,9 +128,9 @@ module _ (n : ℕ) (a : Answer) where
           let k = r .2 .same (λ m i. absurd (let j = S .state in let z : _≡_ {A = ℕ} 0 1 = cc in omega arith)) in
           inl (record { thread = r .0; there = r .1; name = r .2 .name ∙ S .name; state = k .0 ∙ S .state; answer = k .1 ∙ S .answer })
 
-  stands-charge : (T : Tables) → Apart n T → Stands (T .threads) n Ready a → Stands (charge T .threads) n Ready a
+  still-charge : (T : Tables) → Apart n T → ThereIs (T .threads) n Ready a → ThereIs (charge T .threads) n Ready a
   unfolding charge
-  stands-charge T A S = by-runs (λ (U : Tables). Stands (U .threads) n Ready a) (T .runner) (λ _. S) (λ m s e. stands-change m (A m s e) (λ t. with-ticks (one-more (t .ticks)) t) T S)
+  still-charge T A S = by-runs (λ (U : Tables). ThereIs (U .threads) n Ready a) (T .runner) (λ _. S) (λ m s e. still-change m (A m s e) (λ t. with-ticks (one-more (t .ticks)) t) T S)
 
   apart-charge : (T : Tables) → Apart n T → Apart n (charge T)
   unfolding charge change
@@ -139,91 +139,91 @@ module _ (n : ℕ) (a : Answer) where
       one : (m s : ℕ) → T .runner ≡ Runs m s → (x y : ℕ) → Runs m (s - 1) ≡ Runs x y → x ≢ n
       one m s e x y i = let k : m ≡ x = cc in rw (sym k) (A m s e)
 
-  stands-beat : (T : Tables) → Stands (T .threads) n Ready a → Stands (beat T .threads) n Ready a
+  still-beat : (T : Tables) → ThereIs (T .threads) n Ready a → ThereIs (beat T .threads) n Ready a
   unfolding beat on-clock
-  stands-beat T S =
-      by-if (λ (U : Tables). Stands (U .threads) n Ready a) (T .since + 1 == beat-ticks)
-      (λ _. stands-wake (λ t. on-clock (t .state)) (λ t. Result (one-more (T .beats))) (T .clock) (with-clock [] (with-time 0 (one-more (T .beats)) T)) (λ t e r. ap on-clock r) S)
+  still-beat T S =
+      by-if (λ (U : Tables). ThereIs (U .threads) n Ready a) (T .since + 1 == beat-ticks)
+      (λ _. still-wake (λ t. on-clock (t .state)) (λ t. Result (one-more (T .beats))) (T .clock) (with-clock [] (with-time 0 (one-more (T .beats)) T)) (λ t e r. ap on-clock r) S)
       (λ _. S)
 
   apart-beat : (T : Tables) → Apart n T → Apart n (beat T)
   unfolding beat wake-those
   apart-beat T A = by-if (Apart n) (T .since + 1 == beat-ticks) (λ _. A) (λ _. A)
 
-  stands-rotate : (T : Tables) → Apart n T → Stands (T .threads) n Ready a → Stands (rotate T .threads) n Ready a
+  still-rotate : (T : Tables) → Apart n T → ThereIs (T .threads) n Ready a → ThereIs (rotate T .threads) n Ready a
   unfolding rotate
-  stands-rotate T A S =
-      by-runs (λ (U : Tables). Stands (U .threads) n Ready a) (T .runner) (λ _. S)
-      (λ m s e. by-if (λ (U : Tables). Stands (U .threads) n Ready a) (s == 0) (λ _. stands-wake (named m) (λ t. Nothing) (m ∷ []) T (λ t i _. other m (A m s e) t i) S) (λ _. S))
+  still-rotate T A S =
+      by-runs (λ (U : Tables). ThereIs (U .threads) n Ready a) (T .runner) (λ _. S)
+      (λ m s e. by-if (λ (U : Tables). ThereIs (U .threads) n Ready a) (s == 0) (λ _. still-wake (named m) (λ t. Nothing) (m ∷ []) T (λ t i _. other m (A m s e) t i) S) (λ _. S))
 
-  stands-tick : (T : Tables) → Apart n T → Stands (T .threads) n Ready a → Stands (tick T .threads) n Ready a
+  still-tick : (T : Tables) → Apart n T → ThereIs (T .threads) n Ready a → ThereIs (tick T .threads) n Ready a
   unfolding tick
-  stands-tick T A S = stands-rotate (beat (charge T)) (apart-beat (charge T) (apart-charge T A)) (stands-beat (charge T) (stands-charge T A S))
+  still-tick T A S = still-rotate (beat (charge T)) (apart-beat (charge T) (apart-charge T A)) (still-beat (charge T) (still-charge T A S))
 
-  stands-interrupt : (d w : ℕ) (T : Tables) → Stands (T .threads) n Ready a → Stands (interrupt d w T .threads) n Ready a
+  still-interrupt : (d w : ℕ) (T : Tables) → ThereIs (T .threads) n Ready a → ThereIs (interrupt d w T .threads) n Ready a
   unfolding interrupt at-device
-  stands-interrupt d w T S =
-      by-if (λ (U : Tables). Stands (U .threads) n Ready a) (any (waits-for d) (T .threads))
-      (λ _. stands-wake (waits-for d) (λ t. Result w) _ T (λ t e r. ap (at-device d) r) S)
+  still-interrupt d w T S =
+      by-if (λ (U : Tables). ThereIs (U .threads) n Ready a) (any (waits-for d) (T .threads))
+      (λ _. still-wake (waits-for d) (λ t. Result w) _ T (λ t e r. ap (at-device d) r) S)
       (λ _. S)
 
-  stands-create : (p : Parent) (T : Tables) → Stands (T .threads) n Ready a → Stands (create p T .tables .threads) n Ready a
+  still-create : (p : Parent) (T : Tables) → ThereIs (T .threads) n Ready a → ThereIs (create p T .tables .threads) n Ready a
   unfolding create
-  stands-create p T S = record { thread = S .thread; there = insert-mem _ _ (T .threads) (S .there); name = S .name; state = S .state; answer = S .answer }
+  still-create p T S = record { thread = S .thread; there = insert-mem _ _ (T .threads) (S .there); name = S .name; state = S .state; answer = S .answer }
 
-  lasts-send : (s to w : ℕ) (T : Tables) → Stands (T .threads) n Ready a → Lasts (send s to w T .threads)
+  lasts-send : (s to w : ℕ) (T : Tables) → ThereIs (T .threads) n Ready a → Lasts (send s to w T .threads)
   unfolding send trapped-on
-  lasts-send s to w T S = by-if (λ (U : Tables). Lasts (U .threads)) (decides s to T) (λ _. go w) (λ _. inl (stands-deliver (message to s w) T S))
+  lasts-send s to w T S = by-if (λ (U : Tables). Lasts (U .threads)) (decides s to T) (λ _. go w) (λ _. inl (still-deliver (message to s w) T S))
     where
       go : (w : ℕ) → Lasts (decide s to w T .threads)
-      go zero = unfold decide in inl (stands-wake (waits-for-decision s to) (λ t. Nothing) _ (with-messages _ T) (λ t e r. rw r (and-false (named to t))) S)
+      go zero = unfold decide in inl (still-wake (waits-for-decision s to) (λ t. Nothing) _ (with-messages _ T) (λ t e r. rw r (and-false (named to t))) S)
       go (suc w) = unfold decide in lasts-end to T S
 
-  lasts-serve : (s : ℕ) → s ≢ n → (T : Tables) (c : Call) → Stands (T .threads) n Ready a → Lasts (serve s T c .tables .threads)
+  lasts-serve : (s : ℕ) → s ≢ n → (T : Tables) (c : Call) → ThereIs (T .threads) n Ready a → Lasts (serve s T c .tables .threads)
   unfolding serve receive wait-for-clock terminate
   lasts-serve s d T (Send to w) S = lasts-send s to w T S
   lasts-serve s d T (Receive w) S = go (pull (wanted-by s w) (T .messages))
     where
       go : (r : Pulled Message) → Lasts (received s w T r .tables .threads)
-      go missing = unfold received in inl (stands-stop s d (Receiving w) T S)
+      go missing = unfold received in inl (still-stop s d (Receiving w) T S)
       go (pulled m ms) = unfold received in inl S
-  lasts-serve s d T CreateBrother S = inl (stands-create _ T S)
-  lasts-serve s d T CreateSon S = inl (stands-create _ T S)
+  lasts-serve s d T CreateBrother S = inl (still-create _ T S)
+  lasts-serve s d T CreateSon S = inl (still-create _ T S)
   lasts-serve s d T (Terminate Oneself) S = lasts-end s T S
   lasts-serve s d T (Terminate (Named x)) S = lasts-end x T S
   lasts-serve s d T (SetManager k x) S = go (of-thread Unset (λ t. manager k (t .managers)) s (T .threads))
     where
       go : (m : Manager) → Lasts (set-over m s k x T .tables .threads)
-      go Unset = unfold set-over in inl (stands-change s d (λ t. with-managers (set-entry k (Set x) (t .managers)) t) T S)
+      go Unset = unfold set-over in inl (still-change s d (λ t. with-managers (set-entry k (Set x) (t .managers)) t) T S)
       go (Set m) = unfold set-over in lasts-end s T S
       go Gone = unfold set-over in lasts-end s T S
   lasts-serve s d T GetCpuTime S = inl S
-  lasts-serve s d T WaitForClock S = inl (stands-stop s d Clock T S)
+  lasts-serve s d T WaitForClock S = inl (still-stop s d Clock T S)
   lasts-serve s d T (WaitForIo v) S = go (pull (held-for v) (T .held))
     where
       go : (r : Pulled Held) → Lasts (take-held s v T r .tables .threads)
-      go missing = unfold take-held in inl (stands-stop s d (Device v) T S)
+      go missing = unfold take-held in inl (still-stop s d (Device v) T S)
       go (pulled h hs) = unfold take-held in inl S
   lasts-serve s d T (Trap k c) S = unfold trap in go (of-thread Unset (λ t. manager k (t .managers)) s (T .threads))
     where
       go : (m : Manager) → Lasts (by-manager (end s T) (λ x. deliver (notice x s c) (stop s (Trapped k) T)) m .threads)
       go Unset = lasts-end s T S
-      go (Set x) = inl (stands-deliver (notice x s c) (stop s (Trapped k) T) (stands-stop s d (Trapped k) T S))
+      go (Set x) = inl (still-deliver (notice x s c) (stop s (Trapped k) T) (still-stop s d (Trapped k) T S))
       go Gone = lasts-end s T S
 
-  lasts-act : (L : Limits) (T : Tables) (e : Event) → refusal L T e ≡ 0 → Apart n T → Stands (T .threads) n Ready a → Lasts (act T e .tables .threads)
+  lasts-act : (L : Limits) (T : Tables) (e : Event) → refusal L T e ≡ 0 → Apart n T → ThereIs (T .threads) n Ready a → Lasts (act T e .tables .threads)
   unfolding act
   lasts-act L T Malformed r A S = inl S
   lasts-act L T (ByRunner c) r A S = let C = called L T c r in subst (λ (s : ℕ). Lasts (serve s T c .tables .threads)) (sym (C .caller)) (lasts-serve (C .name) (A (C .name) (C .slice) (C .runner)) T c S)
-  lasts-act L T Tick r A S = inl (stands-tick T A S)
-  lasts-act L T (Interrupt d w) r A S = inl (stands-interrupt d w T S)
+  lasts-act L T Tick r A S = inl (still-tick T A S)
+  lasts-act L T (Interrupt d w) r A S = inl (still-interrupt d w T S)
 
   -- ---- dispatch
 
   -- what dispatch leaves: it lasts, or is handed over
   data Left (x : Outcome) : Type 0 where
     lasting : Lasts (x .tables .threads) → Left x
-    running : (s : ℕ) → x .tables .runner ≡ Runs n s → x .answer ≡ a → Stands (x .tables .threads) n Running Nothing → Left x
+    running : (s : ℕ) → x .tables .runner ≡ Runs n s → x .answer ≡ a → ThereIs (x .tables .threads) n Running Nothing → Left x
 
   dispatched : (o : Outcome) → ((m : ℕ) → count (named m) (o .tables .threads) ≤ 1) → Lasts (o .tables .threads) → Left (dispatch o)
   unfolding dispatch
@@ -257,7 +257,7 @@ module _ (n : ℕ) (a : Answer) where
           }))
           (λ d. lasting (inr (gone m d)))
           H)
-          (λ e. ⊎-elim (λ S. lasting (inl (stands-some (named m) run (λ t i _. other m (e .0) t i) S))) (λ d. lasting (inr (gone m d))) H)
+          (λ e. ⊎-elim (λ S. lasting (inl (still-some (named m) run (λ t i _. other m (e .0) t i) S))) (λ d. lasting (inr (gone m d))) H)
           (same? m n)
 
 -- ---- the step
@@ -271,7 +271,7 @@ not-run U n a I low H = go (U .runner) refl
     go NoRunner e i = omega arith
     go (Runs m s) e i = ⊎-elim (λ S. ready-apart I S m s e i) (λ d. clash (runner-live I m s e) (ap (λ (x : ℕ). live x U) i ∙ d)) H
 
-becomes : (L : Limits) (T : Tables) (bytes : List ℕ) (n : ℕ) (a : Answer) → L .threads < names → Ruled L T → Stands (T .threads) n Ready a → Becomes L T bytes n a
+becomes : (L : Limits) (T : Tables) (bytes : List ℕ) (n : ℕ) (a : Answer) → L .threads < names → Ruled L T → ThereIs (T .threads) n Ready a → Becomes L T bytes n a
 unfolding step
 becomes L T bytes n a few R S = go (refusal L T (decode bytes)) refl
   where
@@ -279,7 +279,7 @@ becomes L T bytes n a few R S = go (refusal L T (decode bytes)) refl
     low = R .inv .low n (subst (λ (x : ℕ). live x T ≡ true) (S .name) (member-live (T .threads) (S .thread) (S .there)))
 
     after : Stepped → Type 0
-    after s = (Stands (s .tables .threads) n Ready a × (s .decision .runner ≢ n)) ⊎ (((s .decision .runner ≡ n) × (s .decision .answer ≡ a) × Stands (s .tables .threads) n Running Nothing) ⊎ ((live n (s .tables) ≡ false) × (s .decision .runner ≢ n)))
+    after s = (ThereIs (s .tables .threads) n Ready a × (s .decision .runner ≢ n)) ⊎ (((s .decision .runner ≡ n) × (s .decision .answer ≡ a) × ThereIs (s .tables .threads) n Running Nothing) ⊎ ((live n (s .tables) ≡ false) × (s .decision .runner ≢ n)))
 
     left : (r : ℕ) → refusal L T (decode bytes) ≡ r → Inv L (settle r T (decode bytes) .tables) → after (settle r T (decode bytes))
     left zero e I = unfold settle me in elim (dispatched n a (act T (decode bytes)) (act-inv (decode bytes) few e (R .inv) .agree .once) (lasts-act n a L T (decode bytes) e (ready-apart (R .inv) S) S)) [
@@ -296,14 +296,14 @@ becomes L T bytes n a few R S = go (refusal L T (decode bytes)) refl
 
 -- From tables that meet the rules: a thread that is ready with an answer is, after any event, still ready with it and not running;
 -- or it runs and is handed this answer, and has no answer any more; or it has ended.
-pub answer-is-due : (L : Limits) (T : Tables) (bytes : List ℕ) (n : ℕ) (a : Answer) → L .threads < names → table-rules L T ≡ true → Stands (T .threads) n Ready a → Becomes L T bytes n a
+pub answer-is-due : (L : Limits) (T : Tables) (bytes : List ℕ) (n : ℕ) (a : Answer) → L .threads < names → table-rules L T ≡ true → ThereIs (T .threads) n Ready a → Becomes L T bytes n a
 answer-is-due L T bytes n a few h S = becomes L T bytes n a few (tested-ruled L T h) S
 
 -- So along any run: it keeps the answer until it is next run, and then is handed it, unless it ends first.
-pub due-until-run : (L : Limits) (T : Tables) (es : Input) (n : ℕ) (a : Answer) → L .threads < names → table-rules L T ≡ true → Stands (T .threads) n Ready a → Until L n a T es
+pub due-until-run : (L : Limits) (T : Tables) (es : Input) (n : ℕ) (a : Answer) → L .threads < names → table-rules L T ≡ true → ThereIs (T .threads) n Ready a → Until L n a T es
 due-until-run L T es n a few h S = go T es (tested-ruled L T h) S
   where
-    go : (U : Tables) (fs : Input) → Ruled L U → Stands (U .threads) n Ready a → Until L n a U fs
+    go : (U : Tables) (fs : Input) → Ruled L U → ThereIs (U .threads) n Ready a → Until L n a U fs
     go U [] R X = so-far U X
     go U (f ∷ fs) R X = elim (becomes L U f n a few R X) [
       | it-waits Y d ↦ longer U f fs X d (go (step L U f .tables) fs (step-ruled f few R) Y)

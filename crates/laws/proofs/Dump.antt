@@ -22,7 +22,7 @@ use Rattle.rules.specs.TableRules.{answer-in-range, table-rules}
 use Rattle.rules.specs.Dump.{field, head-value, answer-value, thread-value, message-value, held-value, dump}
 use Rattle.rules.specs.Load.{Field, as-field, fields-of, runner-from, parent-from, manager-from, trap-kind-from, state-from, answer-from, message-kind-from, at, word-at, thread-from, message-from, held-from, values-of, value-of, tables-from, told, Loaded, no-dump, loaded, load}
 use Rattle.laws.proofs.Tests.{by-if, same?, and-left, and-right, _&_}
-use Rattle.laws.proofs.Counting.{all-of, all-both, each-append, all-each}
+use Rattle.laws.proofs.Tally.{all-of, all-both, each-append, all-each}
 use Rattle.laws.proofs.Members.{map-back, member-times, same-refl, same-true}
 use Rattle.laws.proofs.Batch.{one-field, joined, cut-is-the-only-one}
 use Rattle.laws.proofs.Bytes.{two-are-bytes, four-are-bytes, two-back, four-back}

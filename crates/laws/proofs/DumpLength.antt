@@ -16,7 +16,7 @@ use Rattle.rules.specs.TableRules.{table-rules}
 use Rattle.rules.specs.Tags.{head-size, thread-tag, thread-size, message-tag, message-size, held-tag, held-size}
 use Rattle.rules.specs.Dump.{field, head-value, thread-value, message-value, held-value, dump}
 use Rattle.laws.proofs.Tests.{same?, same-turned, and-right}
-use Rattle.laws.proofs.Counting.{count-append, count-map, count-same, count-not, count-keep, length-keep, any-count, count-any, any-member, length-each}
+use Rattle.laws.proofs.Tally.{count-append, count-map, count-same, count-not, count-keep, length-keep, any-count, count-any, any-member, length-each}
 use Rattle.laws.proofs.Ordered.{up-few}
 use Rattle.laws.proofs.Types.{Places, Good, Ruled}
 use Rattle.laws.proofs.Queues.{no-longer}

@@ -27,7 +27,7 @@ use Rattle.rules.specs.Step.{serve, act, step}
 use Rattle.rules.specs.TableRules.{table-rules}
 use Rattle.laws.proofs.Words.{TrapKind, Program, Tlb, SysBp, State, Running, Ready, Receiving, Clock, Device, Trapped, Answer, Nothing, Result, Manager, Unset, Set, Gone, Parent, Thread, Message, Held, Runs, Oneself, Named, Call, Send, Receive, CreateBrother, CreateSon, Terminate, SetManager, GetCpuTime, WaitForClock, WaitForIo, Trap, Event, Malformed, ByRunner, Tick, Interrupt}
 use Rattle.laws.proofs.Tests.{by-if, by-runs, clash, same?}
-use Rattle.laws.proofs.Counting.{none-any}
+use Rattle.laws.proofs.Tally.{none-any}
 use Rattle.laws.proofs.Types.{Entry}
 use Rattle.laws.proofs.Threads.{live-member, of-only, left, turned, turned-name, turned-live}
 use Rattle.laws.proofs.Steps.{by-step, by-dispatch}

@@ -20,7 +20,7 @@ use Rattle.rules.specs.Load.{Field, as-field, fields-of, told, tables-from, at,
 use Rattle.rules.specs.Faults.{Placed, placed-from, placed, wrong-length, faults-15, faults-17, faults-18, is-name, status-fits, runner-fits, state-fits, answer-fits, head-fits, thread-fits, value-fits, out-of-range, wanted-lives, entries-live, head-lives, thread-lives, message-lives, value-lives, names-nobody, verdict}
 use Rattle.laws.proofs.Words.{Thread, Message, Held}
 use Rattle.laws.proofs.Tests.{and-left, and-right, _&_, three, four, not-false}
-use Rattle.laws.proofs.Counting.{all-of, all-drop, all-each}
+use Rattle.laws.proofs.Tally.{all-of, all-drop, all-each}
 use Rattle.laws.proofs.Members.{mem-keep, keep-mem, mem-map, map-mem, has-member}
 use Rattle.laws.proofs.Bytes.{number-below}
 use Rattle.laws.proofs.Batch.{past, by-fields, complete-none, complete-first}

@@ -15,7 +15,7 @@ use Rattle.rules.specs.Events.{asked-in, request, trap-of, interrupt-of, meanin
 use Rattle.laws.proofs.Pick.{NoDevice, by-order}
 use Rattle.laws.proofs.Words.{Picked, Event, Malformed, Argument, ByRunner}
 use Rattle.laws.proofs.Tests.{by-if, clash, same?, and-left, and-right, and-false}
-use Rattle.laws.proofs.Counting.{any-member, all-at, not-any}
+use Rattle.laws.proofs.Tally.{any-member, all-at, not-any}
 use Rattle.laws.proofs.Members.{from-on-mem}
 
 -- ---- the parts of a field: "a tag byte, a two-byte length, then the value"

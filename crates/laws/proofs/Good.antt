@@ -28,7 +28,7 @@ use Rattle.rules.specs.Refusals.{first-of, wants-nobody, ends-nobody, no-block-
 use Rattle.rules.specs.Step.{serve, act, step}
 use Rattle.rules.specs.TableRules.{answer-in-range}
 use Rattle.laws.proofs.Tests.{by-if, by-runs, clash, same?, and-left, and-right, and-false, not-both, not-true, not-false}
-use Rattle.laws.proofs.Counting.{count-cons, count-map, count-le-add, count-zero, count-less, count-insert, count-keep, count-keep-le, any-count, count-any, none-count, any-member, not-any, none-any}
+use Rattle.laws.proofs.Tally.{count-cons, count-map, count-le-add, count-zero, count-less, count-insert, count-keep, count-keep-le, any-count, count-any, none-count, any-member, not-any, none-any}
 use Rattle.laws.proofs.Members.{mem-keep, mem-insert, mem-map}
 use Rattle.laws.proofs.Ordered.{Less, less-refl, keep-less, pull-none, pull-took, up-less, up-insert}
 use Rattle.laws.proofs.Types.{Agree, Inv, Entry, Detail, Post, Family, Good, Fits}
@@ -37,7 +37,7 @@ use Rattle.laws.proofs.Steps.{passed, called, by-step, by-dispatch}
 use Rattle.laws.proofs.Names.{name-free}
 use Rattle.laws.proofs.PlacesKept.{runner-live, act-inv}
 use Rattle.laws.proofs.Right.{less-order, order-insert, Around, entry-around, right-around, nothing-form, new-right, turned-around, some-good}
-use Rattle.laws.proofs.Ends.{zero-lives, end-good}
+use Rattle.laws.proofs.EndingKept.{zero-lives, end-good}
 use Rattle.laws.proofs.Decoded.{ProperCall, Proper, decode-proper}
 
 -- ---- states in which nobody is awaited: those of a test that no trapped thread passes

@@ -29,7 +29,7 @@ use Rattle.rules.specs.Refusals.{refusal}
 use Rattle.rules.specs.Step.{serve, act, Stepped, decided, settle, step}
 use Rattle.rules.specs.Runs.{Input, run}
 use Rattle.laws.proofs.Tests.{by-if, by-runs, clash}
-use Rattle.laws.proofs.Counting.{zero-any}
+use Rattle.laws.proofs.Tally.{zero-any}
 use Rattle.laws.proofs.Members.{mem-insert, mem-map, last-same}
 use Rattle.laws.proofs.Types.{Ruled}
 use Rattle.laws.proofs.Ordered.{pull-took}

@@ -20,7 +20,7 @@ use Rattle.rules.specs.Step.{Stepped, decided, settle, step}
 use Rattle.rules.specs.Runs.{Input, run}
 use Rattle.rules.specs.TableRules.{table-rules}
 use Rattle.laws.proofs.Tests.{clash}
-use Rattle.laws.proofs.Counting.{member-any, not-any, none-any}
+use Rattle.laws.proofs.Tally.{member-any, not-any, none-any}
 use Rattle.laws.proofs.Members.{member-times, times-member}
 use Rattle.laws.proofs.Types.{Agree, Detail, Ruled}
 use Rattle.laws.proofs.Queues.{times-none}

@@ -28,7 +28,7 @@ use Rattle.rules.specs.Step.{serve, act, Stepped, decided, settle, step}
 use Rattle.rules.specs.Runs.{Input, run}
 use Rattle.rules.specs.TableRules.{table-rules}
 use Rattle.laws.proofs.Tests.{by-if, same?, and-left, and-right, and-false, clash}
-use Rattle.laws.proofs.Counting.{any-counts, count-keep, not-any, none-any}
+use Rattle.laws.proofs.Tally.{any-counts, count-keep, not-any, none-any}
 use Rattle.laws.proofs.Members.{mem-map}
 use Rattle.laws.proofs.Threads.{turned}
 use Rattle.laws.proofs.Ordered.{Transitive, chain-tail, chain-before, pull-none}

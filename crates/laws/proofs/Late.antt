@@ -18,7 +18,7 @@ use Rattle.rules.specs.Refusals.{refusal}
 use Rattle.rules.specs.Step.{act, settle, step}
 use Rattle.rules.specs.Runs.{Input, run}
 use Rattle.laws.proofs.Tests.{clash}
-use Rattle.laws.proofs.Counting.{none-any}
+use Rattle.laws.proofs.Tally.{none-any}
 use Rattle.laws.proofs.Members.{last-same, ends-in}
 use Rattle.laws.proofs.Threads.{looked-up}
 use Rattle.laws.proofs.Steps.{run-append, run-last}

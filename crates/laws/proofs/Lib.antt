@@ -1,7 +1,7 @@
 -- The ground: vocabulary, tests, lists, bytes, the table rules as types, queues, threads, steps.
 pub mod Words
 pub mod Tests
-pub mod Counting
+pub mod Tally
 pub mod Members
 pub mod Ordered
 pub mod Bytes
@@ -16,7 +16,7 @@ pub mod PlacesKept
 pub mod Closure
 pub mod Ending
 pub mod Right
-pub mod Ends
+pub mod EndingKept
 pub mod Pick
 pub mod Decoded
 pub mod Good

@@ -19,7 +19,7 @@ use Rattle.rules.specs.Runs.{Input, run}
 use Rattle.rules.specs.TableRules.{table-rules}
 use Rattle.laws.proofs.Words.{Only, TrapKind, State, Ready, Receiving, Device, Trapped, Answer, Nothing, Manager, Unset, Set, Gone, Managers, Parent, ParentIs, Thread, Message, Runs}
 use Rattle.laws.proofs.Tests.{clash, same?}
-use Rattle.laws.proofs.Counting.{count-append, none-count}
+use Rattle.laws.proofs.Tally.{count-append, none-count}
 use Rattle.laws.proofs.Types.{Entry, Detail, Family, Ruled}
 use Rattle.laws.proofs.Threads.{member-live, here-le, here-live}
 use Rattle.laws.proofs.PlacesKept.{runner-live}

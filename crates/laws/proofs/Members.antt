@@ -8,7 +8,7 @@ use native.Mathlib.Omega.{arith}
 use borrow.Author.Tests.{eqb-true, eq-eqb}
 use Rattle.rules.specs.Lists.{if_then_else_, _==_, any, keep, insert, has, times-in, from-on, same}
 use Rattle.laws.proofs.Tests.{by-if, same?, and-left, and-right, _&_, or-cases, or-left, or-right}
-use Rattle.laws.proofs.Counting.{any-count, count-any, any-append, any-member, member-any}
+use Rattle.laws.proofs.Tally.{any-count, count-any, any-append, any-member, member-any}
 
 module _ {A : Type 0} where
   pub mem-keep : (p : A → Bool) (xs : List A) {x : A} → List·Memᴰ x (keep p xs) → List·Memᴰ x xs × (p x ≡ true)

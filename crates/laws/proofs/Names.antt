@@ -13,7 +13,7 @@ use Rattle.rules.specs.Numbers.{Limits, names}
 use Rattle.laws.proofs.Words.{Thread}
 use Rattle.rules.specs.Tables.{Tables, with-threads, named, live}
 use Rattle.rules.specs.Requests.{free-name, next-name}
-use Rattle.laws.proofs.Counting.{count-length, count-not, length-keep, any-count, zero-any, any-counts, all-left}
+use Rattle.laws.proofs.Tally.{count-length, count-not, length-keep, any-count, zero-any, any-counts, all-left}
 
 -- the name i steps behind n
 abbrev after : ℕ → ℕ → ℕ

@@ -17,7 +17,7 @@ use Rattle.laws.proofs.Words.{Thread}
 use Rattle.rules.specs.Tables.{Tables, named, live}
 use Rattle.rules.specs.Requests.{free-name, next-name}
 use Rattle.laws.proofs.Tests.{same?, and-left, and-right, or-false}
-use Rattle.laws.proofs.Counting.{none-any}
+use Rattle.laws.proofs.Tally.{none-any}
 use Rattle.laws.proofs.Ordered.{chain-tail, up-below}
 use Rattle.laws.proofs.Types.{Rising}
 use Rattle.laws.proofs.Names.{name-fresh}

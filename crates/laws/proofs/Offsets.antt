@@ -13,7 +13,7 @@ use Rattle.rules.specs.Fields.{field-size, whole, complete}
 use Rattle.rules.specs.Load.{as-field}
 use Rattle.rules.specs.Faults.{Placed, placed-from, placed, offsets}
 use Rattle.laws.proofs.Tests.{by-if}
-use Rattle.laws.proofs.Counting.{keep-none, none-count, none-any}
+use Rattle.laws.proofs.Tally.{keep-none, none-count, none-any}
 use Rattle.laws.proofs.Members.{mem-keep, keep-mem, mem-map, map-mem}
 use Rattle.laws.proofs.Batch.{whole-within, past, by-fields, complete-none, complete-first}
 
@@ -35,19 +35,19 @@ pub record BeginsAt (bytes : List ℕ) (o : ℕ) : Type 0 where
   pub it : one .field ≡ as-field (take (field-size (drop o bytes)) (drop o bytes))
 
 -- the same of a field that is listed as the bytes' own, wherever they stand
-abbrev Stands : List ℕ → Type 0
-Stands l = (at : ℕ) (before : List ℕ) (f : Placed) → List·Memᴰ f (placed-from at before (complete l))
+abbrev Begins : List ℕ → Type 0
+Begins l = (at : ℕ) (before : List ℕ) (f : Placed) → List·Memᴰ f (placed-from at before (complete l))
     → (k : ℕ) × (f .at ≡ at + k) × Reached l k × (whole (drop k l) ≡ true) × (f .field ≡ as-field (take (field-size (drop k l)) (drop k l)))
 
-stands : (l : List ℕ) → Stands l
+begins : (l : List ℕ) → Begins l
 unfolding placed-from
-stands = by-fields Stands none one
+begins = by-fields Begins none one
   where
-    none : (l : List ℕ) → whole l ≡ false → Stands l
+    none : (l : List ℕ) → whole l ≡ false → Begins l
     none l w at before f m =
         absurd (List·Memᴰ·not-nil (subst (λ (fs : List (List ℕ)). List·Memᴰ f (placed-from at before fs)) (complete-none l w .0) m))
 
-    one : (l : List ℕ) → whole l ≡ true → Stands (past l) → Stands l
+    one : (l : List ℕ) → whole l ≡ true → Begins (past l) → Begins l
     one l w h at before f m = go (subst (λ (fs : List (List ℕ)). List·Memᴰ f (placed-from at before fs)) (complete-first l w .0) m)
       where
         go : List·Memᴰ f (placed-from at before (take (field-size l) l ∷ complete (past l)))
@@ -66,7 +66,7 @@ stands = by-fields Stands none one
 -- Every field that is listed begins where it is listed.
 pub placed-begins : (bytes : List ℕ) (f : Placed) → List·Memᴰ f (placed bytes) → BeginsAt bytes (f .at)
 placed-begins bytes f m =
-    let r = stands bytes 0 [] f m in
+    let r = begins bytes 0 [] f m in
     let e : f .at ≡ r .0 = omega (arith, r .1) in
     subst (BeginsAt bytes) (sym e) (record { reached = r .2; all-there = r .3; one = f; listed = m; there = e; it = r .4 })
 

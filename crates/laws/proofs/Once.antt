@@ -31,7 +31,7 @@ use Rattle.rules.specs.Step.{serve, act, Stepped, decided, settle, step}
 use Rattle.rules.specs.Runs.{Input, run}
 use Rattle.rules.specs.TableRules.{table-rules}
 use Rattle.laws.proofs.Tests.{by-if, and-left, and-false}
-use Rattle.laws.proofs.Counting.{count-add, count-same, count-zero, count-keep, count-insert, count-map, any-counts}
+use Rattle.laws.proofs.Tally.{count-add, count-same, count-zero, count-keep, count-insert, count-map, any-counts}
 use Rattle.laws.proofs.Ordered.{pull-took}
 use Rattle.laws.proofs.Queues.{times-self}
 use Rattle.laws.proofs.Threads.{looked-up, turned, apart}

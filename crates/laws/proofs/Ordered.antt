@@ -10,7 +10,7 @@ use lib.ListN.{length}
 use borrow.Author.Tests.{ltb-true, ltb-false, lt-ltb, ne-eqb}
 use Rattle.rules.specs.Lists.{_==_, one-if, Pulled, missing, pulled, any, keep, count, behind, pull, insert, chain}
 use Rattle.laws.proofs.Tests.{by-if, same?, and-left, and-right, _&_}
-use Rattle.laws.proofs.Counting.{count-cons, count-keep-le, none-count, none-any}
+use Rattle.laws.proofs.Tally.{count-cons, count-keep-le, none-count, none-any}
 use Rattle.laws.proofs.Members.{mem-keep, mem-insert}
 
 module _ {A : Type 0} where

@@ -26,7 +26,7 @@ use Rattle.rules.specs.Refusals.{first-of, over, is-malformed, needs-runner, ow
 use Rattle.rules.specs.Step.{act, settle, step}
 use Rattle.rules.specs.Runs.{run}
 use Rattle.laws.proofs.Tests.{by-if, and-left, and-right, _&_}
-use Rattle.laws.proofs.Counting.{any-member, member-any, not-any, none-any, all-at, all-both, map-same}
+use Rattle.laws.proofs.Tally.{any-member, member-any, not-any, none-any, all-at, all-both, map-same}
 use Rattle.laws.proofs.Members.{mem-keep, keep-mem, mem-map, map-mem, from-on-mem}
 use Rattle.laws.proofs.Bytes.{four-are-bytes, four-back, four-number}
 use Rattle.laws.proofs.Threads.{names-mapped, put-name}

@@ -26,7 +26,7 @@ use Rattle.rules.specs.Events.{decode}
 use Rattle.rules.specs.Refusals.{first-of, call-rules, refusal}
 use Rattle.rules.specs.Step.{serve, act, step}
 use Rattle.laws.proofs.Tests.{by-if, by-runs, and-right}
-use Rattle.laws.proofs.Counting.{count-length, length-count, count-insert, count-keep-le, length-keep, any-count, count-any, none-count}
+use Rattle.laws.proofs.Tally.{count-length, length-count, count-insert, count-keep-le, length-keep, any-count, count-any, none-count}
 use Rattle.laws.proofs.Types.{Places, Agree, Inv}
 use Rattle.laws.proofs.Threads.{names-kept, names-mapped, left, turned, turned-name, put-name}
 use Rattle.laws.proofs.Steps.{passed, called, by-step, by-dispatch}

@@ -9,7 +9,7 @@ use lib.ListN.{length}
 use borrow.Author.Tests.{eq-eqb, ne-eqb}
 use Rattle.rules.specs.Lists.{if_then_else_, _==_, one-if, any, keep, count, has, times-in}
 use Rattle.laws.proofs.Tests.{by-if, same?}
-use Rattle.laws.proofs.Counting.{count-cons, count-append}
+use Rattle.laws.proofs.Tally.{count-cons, count-append}
 use Rattle.laws.proofs.Members.{has-left}
 
 -- ---- how often a name stands in a queue

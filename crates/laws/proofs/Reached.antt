@@ -18,7 +18,7 @@ use Rattle.rules.specs.Benches.{ask}
 use Rattle.rules.specs.Opened.{opened}
 use Rattle.laws.proofs.Words.{ParentIs, Runs}
 use Rattle.laws.proofs.Tests.{clash, same?, or-left}
-use Rattle.laws.proofs.Counting.{length-count, count-insert}
+use Rattle.laws.proofs.Tally.{length-count, count-insert}
 use Rattle.laws.proofs.Members.{from-on-parts}
 use Rattle.laws.proofs.Types.{Ruled}
 use Rattle.laws.proofs.Steps.{run-append}

@@ -20,7 +20,7 @@ use Rattle.rules.specs.Step.{Stepped, serve, act, decided, settle, step}
 use Rattle.rules.specs.TableRules.{table-rules}
 use Rattle.laws.proofs.Words.{TrapKind, Program, Tlb, SysBp, Running, Ready, Device, Answer, Nothing, Result, Manager, Unset, Set, Gone, Managers, Parent, NoParent, ParentIs, Thread, Held, Call, CreateBrother, CreateSon, SetManager, GetCpuTime, WaitForIo, ByRunner}
 use Rattle.laws.proofs.Tests.{clash, same?, or-false, not-true}
-use Rattle.laws.proofs.Counting.{none-passes, count-cons, count-any, none-any}
+use Rattle.laws.proofs.Tally.{none-passes, count-cons, count-any, none-any}
 use Rattle.laws.proofs.Members.{mem-keep, insert-new, insert-old, mem-insert, map-mem}
 use Rattle.laws.proofs.Types.{Places}
 use Rattle.laws.proofs.Queues.{times-self}

@@ -18,7 +18,7 @@ use Rattle.rules.specs.Step.{step}
 use Rattle.rules.specs.Runs.{Input, run}
 use Rattle.rules.specs.TableRules.{table-rules}
 use Rattle.laws.proofs.Words.{Thread}
-use Rattle.laws.proofs.Counting.{count-append, count-zero, count-le-add}
+use Rattle.laws.proofs.Tally.{count-append, count-zero, count-le-add}
 use Rattle.laws.proofs.Members.{from-on-parts}
 use Rattle.laws.proofs.Types.{Ruled}
 use Rattle.laws.proofs.Names.{name-low, name-is-first-free}

@@ -17,7 +17,7 @@ use Rattle.rules.specs.Receive.{wanted-by}
 use Rattle.rules.specs.Interrupt.{held-for}
 use Rattle.rules.specs.TableRules.{answer-in-range}
 use Rattle.laws.proofs.Tests.{by-if}
-use Rattle.laws.proofs.Counting.{any-count, member-any, any-fewer}
+use Rattle.laws.proofs.Tally.{any-count, member-any, any-fewer}
 use Rattle.laws.proofs.Members.{mem-map}
 use Rattle.laws.proofs.Ordered.{Transitive, chain-insert, Less, up-map}
 use Rattle.laws.proofs.Types.{Entry, Detail, Right, Family, Good}

@@ -16,7 +16,7 @@ use Rattle.rules.specs.States.{is-running, is-ready, on-clock, awaits, trapped-
 use Rattle.rules.specs.Waking.{is-ordinary, blocks-used, notice-of}
 use Rattle.rules.specs.Interrupt.{held-for}
 use Rattle.laws.proofs.Tests.{same?, same-turned, and-left, and-right, not-true}
-use Rattle.laws.proofs.Counting.{count-cons, count-map, count-add, count-add-le, count-same, count-keep, count-strict, count-insert, length-count, any-count, count-any, any-member, member-any, not-any, none-any, none-count, length-keep}
+use Rattle.laws.proofs.Tally.{count-cons, count-map, count-add, count-add-le, count-same, count-keep, count-strict, count-insert, length-count, any-count, count-any, any-member, member-any, not-any, none-any, none-count, length-keep}
 use Rattle.laws.proofs.Members.{mem-insert}
 use Rattle.laws.proofs.Ordered.{up-insert, up-few}
 use Rattle.laws.proofs.Types.{here, Inv, Good, Fits}

@@ -13,7 +13,7 @@ use Rattle.laws.proofs.Words.{Thread}
 use Rattle.rules.specs.Tables.{named}
 use Rattle.rules.specs.Ending.{depends, grow, ended-set}
 use Rattle.laws.proofs.Tests.{and-right, not-true, same?}
-use Rattle.laws.proofs.Counting.{count-length, length-count, any-count, only-one, length-keep}
+use Rattle.laws.proofs.Tally.{count-length, length-count, any-count, only-one, length-keep}
 use Rattle.laws.proofs.Members.{kept-has, has-kept, has-left, has-right, has-split}
 use Rattle.laws.proofs.Closure.{joins, outside, falls, rests, closes}
 

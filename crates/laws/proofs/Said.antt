@@ -13,7 +13,7 @@ use Rattle.rules.specs.Pick.{pick}
 use Rattle.rules.specs.Events.{asked-in, request, trap-of, interrupt-of, meaning, field-of, decode}
 use Rattle.laws.proofs.Pick.{Foremost, pick-takes}
 use Rattle.laws.proofs.Words.{Anybody, Only, Program, Tlb, SysBp, Oneself, Named, Send, Receive, CreateBrother, CreateSon, Terminate, SetManager, GetCpuTime, WaitForClock, WaitForIo, Trap, Malformed, ByRunner, Tick, Interrupt, Picked}
-use Rattle.laws.proofs.Counting.{all-both}
+use Rattle.laws.proofs.Tally.{all-both}
 use Rattle.laws.proofs.Bytes.{four-are-bytes, four-back, four-number}
 
 -- "18 request (service 1, argument 1)"

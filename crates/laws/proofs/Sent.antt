@@ -29,7 +29,7 @@ use Rattle.rules.specs.Runs.{Input, run}
 use Rattle.rules.specs.TableRules.{table-rules}
 use Rattle.rules.specs.Tick.{one-more, charge, beat, rotate, tick}
 use Rattle.laws.proofs.Tests.{by-if, by-runs, clash, and-left, and-right, and-true, and-false}
-use Rattle.laws.proofs.Counting.{count-map, count-same, count-zero, count-keep, count-less, count-add, any-count, none-count, member-any, count-insert, count-only}
+use Rattle.laws.proofs.Tally.{count-map, count-same, count-zero, count-keep, count-less, count-add, any-count, none-count, member-any, count-insert, count-only}
 use Rattle.laws.proofs.Members.{mem-map, mem-keep}
 use Rattle.laws.proofs.Threads.{live-member, looked-up, of-only, turned, turned-name, names-kept, here-is, apart, left}
 use Rattle.laws.proofs.Types.{Inv, Ruled}

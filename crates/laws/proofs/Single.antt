@@ -18,7 +18,7 @@ use Rattle.rules.specs.Interrupt.{hold, interrupt}
 use Rattle.rules.specs.Tick.{one-more, charge, beat, rotate}
 use Rattle.rules.specs.Dispatch.{run-next, dispatch}
 use Rattle.laws.proofs.Tests.{and-left, or-false}
-use Rattle.laws.proofs.Counting.{count-less, keep-none, any-count, zero-any, any-member, member-any, not-any, none-any, map-same}
+use Rattle.laws.proofs.Tally.{count-less, keep-none, any-count, zero-any, any-member, member-any, not-any, none-any, map-same}
 
 -- ---- general
 

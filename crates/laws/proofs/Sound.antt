@@ -16,7 +16,7 @@ use Rattle.rules.specs.States.{is-ready, awaits}
 use Rattle.rules.specs.Waking.{is-ordinary, blocks-used, notice-of}
 use Rattle.rules.specs.TableRules.{state-in-range, ranges, names-right, parents-right, places-agree, devices-right, wanted-live, entry-right, entries-right, names-live, manager-set, trapped-right, no-match, inboxes-right, messages-right, notices-right, runner-right, answer-in-range, is-nothing, answers-right, orders-right, table-tests, table-rules}
 use Rattle.laws.proofs.Tests.{clash, and-left, and-right, _&_, three, six, or-cases, not-true}
-use Rattle.laws.proofs.Counting.{none-count, any-member, member-any, none-any, all-of, all-at, any-only}
+use Rattle.laws.proofs.Tally.{none-count, any-member, member-any, none-any, all-of, all-at, any-only}
 use Rattle.laws.proofs.Ordered.{up-once}
 use Rattle.laws.proofs.Types.{Inv, Steady, Entry, Detail, Right, Post, Good, Fits, Ruled}
 use Rattle.laws.proofs.Threads.{member-live, live-member}

@@ -15,7 +15,7 @@ use Rattle.rules.specs.States.{is-running, is-ready, on-clock, at-device, waits
 use Rattle.rules.specs.Interrupt.{held-for}
 use Rattle.rules.specs.TableRules.{state-in-range, places-agree, devices-right}
 use Rattle.laws.proofs.Tests.{clash, _&_, three, four}
-use Rattle.laws.proofs.Counting.{none-count, none-any, all-of, all-at}
+use Rattle.laws.proofs.Tally.{none-count, none-any, all-of, all-at}
 use Rattle.laws.proofs.Members.{member-times, from-on-mem}
 use Rattle.laws.proofs.Types.{here, Agree}
 use Rattle.laws.proofs.Threads.{live-member, here-le, here-live, here-is}

@@ -11,7 +11,7 @@ use Rattle.laws.proofs.Words.{State, Running, Ready, Receiving, Clock, 
 use Rattle.rules.specs.Tables.{in-state, named, of-thread}
 use Rattle.rules.specs.States.{is-running, is-ready, on-clock}
 use Rattle.laws.proofs.Tests.{by-if, and-left, and-right, _&_, and-turned, one-true}
-use Rattle.laws.proofs.Counting.{count-cons, count-map, count-same, count-less, count-keep, any-count, count-any, any-counts, any-member, member-any, count-only}
+use Rattle.laws.proofs.Tally.{count-cons, count-map, count-same, count-less, count-keep, any-count, count-any, any-counts, any-member, member-any, count-only}
 use Rattle.laws.proofs.Types.{here}
 
 -- ---- who lives

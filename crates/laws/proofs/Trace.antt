@@ -24,13 +24,13 @@ use Rattle.rules.specs.Benches.{ask}
 use Rattle.rules.specs.TableRules.{table-rules}
 use Rattle.laws.proofs.Words.{TrapKind, Program, Tlb, SysBp, State, Running, Ready, Receiving, Clock, Device, Trapped, Nothing, Manager, Unset, Set, Gone, Managers, Parent, NoParent, ParentIs, Thread, Runner, NoRunner, Runs, Named, Call, CreateSon, Terminate, ByRunner}
 use Rattle.laws.proofs.Tests.{clash, and-false}
-use Rattle.laws.proofs.Counting.{count-insert, none-count, none-any, map-same}
+use Rattle.laws.proofs.Tally.{count-insert, none-count, none-any, map-same}
 use Rattle.laws.proofs.Members.{member-has}
 use Rattle.laws.proofs.Types.{Ruled}
 use Rattle.laws.proofs.Names.{name-low, name-free}
 use Rattle.laws.proofs.Closure.{joins, rests}
 use Rattle.laws.proofs.Ending.{Forgotten, freed, missed}
-use Rattle.laws.proofs.Ends.{entry-stays}
+use Rattle.laws.proofs.EndingKept.{entry-stays}
 use Rattle.laws.proofs.Sound.{tested-ruled}
 use Rattle.laws.proofs.Inboxes.{keep-append, keep-none-of, keep-insert}
 use Rattle.laws.proofs.Rounds.{stops}

@@ -21,7 +21,7 @@ use Rattle.rules.specs.TableRules.{table-rules}
 use Rattle.rules.specs.Opened.{opened}
 use Rattle.rules.specs.Benches.{ask, ticks, sons}
 use Rattle.laws.proofs.Tests.{and-right, _&_, or-left, or-right, one-at-most}
-use Rattle.laws.proofs.Counting.{count-cons, count-map}
+use Rattle.laws.proofs.Tally.{count-cons, count-map}
 use Rattle.laws.proofs.Types.{here, Ruled}
 use Rattle.laws.proofs.Queues.{no-longer, ahead, ahead-less}
 use Rattle.laws.proofs.Threads.{apart}

@@ -13,7 +13,7 @@ use Rattle.laws.proofs.Types.{Ruled}
 use Rattle.laws.proofs.Sound.{tested-ruled, ruled-tested}
 use Rattle.laws.proofs.Kept.{start-ruled}
 use Rattle.store.specs.Store.{limits, tables, Holding}
-use Rattle.handling.specs.Standing.{Stands}
+use Rattle.handling.specs.Standing.{AtRest}
 use Rattle.stepping.specs.Stepping.{Steps}
 use Rattle.memory.specs.Shape.{shaped}
 use Rattle.checking.specs.Stands.{stands}
@@ -21,7 +21,7 @@ use Rattle.checking.proofs.Shapes.{own-limits, shaped-right, right-shaped}
 use Rattle.lending.specs.Lent.{no-tables, Answered, Started}
 
 -- a memory that passes the check stands, and has the small limits
-pub checked : (m : List ℕ) → stands small m ≡ true → Stands m × (limits m ≡ small)
+pub checked : (m : List ℕ) → stands small m ≡ true → AtRest m × (limits m ≡ small)
 unfolding stands
 checked m e =
     let s : shaped small m ≡ true = and-left (shaped small m) _ e in
@@ -30,7 +30,7 @@ checked m e =
     (record { holding = record { shaped = shaped-right small m s (omega arith) (omega arith); rising = r .fits .rising; once = r .inv .agree .once }; ruled = r }, l)
 
 -- and one that stands with these limits passes
-pub passes : (m : List ℕ) → Stands m → limits m ≡ small → stands small m ≡ true
+pub passes : (m : List ℕ) → AtRest m → limits m ≡ small → stands small m ≡ true
 unfolding stands
 passes m S e = right-shaped small m (S .holding .shaped) e & (rw e at (ruled-tested (S .ruled)))
 
@@ -49,7 +49,7 @@ stepped {m} {bytes} {m′} v S =
     let e : limits m ≡ small = checked m v .1 in
     record {
       decides = λ _. S .decides ∙ ap (λ (L : Limits). step L (tables m) bytes .decision) e;
-      leaves = λ _. (passes m′ (S .stands) (S .same ∙ e), S .leaves ∙ ap (λ (L : Limits). step L (tables m) bytes .tables) e);
+      leaves = λ _. (passes m′ (S .at-rest) (S .same ∙ e), S .leaves ∙ ap (λ (L : Limits). step L (tables m) bytes .tables) e);
       refuses = λ f. absurd (clash v f);
       keeps = S .keeps;
     }

@@ -14,7 +14,7 @@ use Rattle.rules.specs.declared.Thread.{Thread}
 use Rattle.rules.specs.declared.Message.{Message}
 use Rattle.rules.specs.declared.Held.{Held}
 use Rattle.laws.proofs.Tests.{by-if}
-use Rattle.laws.proofs.Counting.{each-append}
+use Rattle.laws.proofs.Tally.{each-append}
 use Rattle.store.specs.Store.{word-for}
 use Rattle.dumping.specs.Dumping.{held-at}
 use Rattle.dumping.proofs.Walks.{Walk}

@@ -7,9 +7,9 @@ use native.Mathlib.Omega.{arith}
 use lib.ListN.{length, getD, take, set, length-append}
 use lib.Seq.{take-suc, take-all, length-take-le}
 use Rattle.rules.specs.Lists.{each}
-use Rattle.laws.proofs.Counting.{each-append}
+use Rattle.laws.proofs.Tally.{each-append}
 use Rattle.buffer.specs.Puts.{Puts}
-use Rattle.buffer.proofs.Putting.{rest, back, behind, over, stands, stays-long, one-more, puts-none, said}
+use Rattle.buffer.proofs.Putting.{rest, back, behind, over, at-the-front, stays-long, one-more, puts-none, said}
 use Rattle.lines.specs.Text.{decimal, numbers-line}
 use Rattle.lines.proofs.Numerals.{few-digits}
 
@@ -87,7 +87,7 @@ pub row-first : {row before mid : List ℕ} {k : ℕ} → 1 + 21 * length row �
     → Puts (decimal (getD row 0 0)) before mid k → Row row mid mid k 1
 row-first {row} {before} {mid} {k} r h p =
     let long : length mid ≡ length before = stays-long p (omega (arith, few-digits 20 (getD row 0 0))) in
-    row-made (omega arith) (omega arith) (omega arith) (said (stands p) (sym (body-first row h)))
+    row-made (omega arith) (omega arith) (omega arith) (said (at-the-front p) (sym (body-first row h)))
 
 pub row-next : {row before mid ys : List ℕ} {at i k : ℕ} → Row row before mid at i → i < length row
     → Puts (32 ∷ decimal (getD row i 0)) (rest at mid) ys k → Row row before (back at mid ys) (at + k) (i + 1)

@@ -17,7 +17,7 @@ use Rattle.rules.specs.Load.{Loaded, no-dump, loaded, load}
 use Rattle.rules.specs.Faults.{where-bad, verdict-on, verdict}
 use Rattle.rules.specs.declared.Verdict.{Verdict}
 use Rattle.laws.proofs.Tests.{clash, and-left, and-right, _&_}
-use Rattle.laws.proofs.Counting.{all-of}
+use Rattle.laws.proofs.Tally.{all-of}
 use Rattle.laws.proofs.Sound.{tested-ruled}
 use Rattle.laws.proofs.DumpLength.{dump-fits-small}
 use Rattle.laws.proofs.Dump.{load-dump, load-is-dump}

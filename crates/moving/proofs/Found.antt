@@ -13,7 +13,7 @@ use borrow.Author.Tests.{lt-ltb, le-ltb, ltb-true, ltb-false}
 use Rattle.rules.specs.Lists.{if_then_else_, one-if, missing, pulled, any, keep, count, behind, pull, insert}
 use Rattle.rules.specs.Tables.{named, of-thread}
 use Rattle.rules.specs.declared.Thread.{Thread}
-use Rattle.laws.proofs.Counting.{keep-none, none-count, zero-any}
+use Rattle.laws.proofs.Tally.{keep-none, none-count, zero-any}
 use Rattle.laws.proofs.Single.{map-none}
 use Rattle.memory.specs.Rows.{place}
 

@@ -9,7 +9,7 @@ use lib.ListN.{length, take, getD, set, replicate, length-set, length-replicate,
 use lib.Seq.{take-all, take-nil, take-append-le, getD-set-same, getD-set-other}
 use borrow.Author.Tests.{ltb-true, ltb-false, le-ltb, eqb-true, eqb-false, eq-eqb}
 use Rattle.rules.specs.Lists.{_==_, any, has}
-use Rattle.laws.proofs.Counting.{any-append}
+use Rattle.laws.proofs.Tally.{any-append}
 use Rattle.moving.specs.Marks.{Marks}
 
 pub no-marks : Marks [] (replicate 256 255)

@@ -185,14 +185,14 @@ sift-turns {A} p g n l₀ l k i x d S h e q =
       so = ap (λ (z : List A). z ++ map g (keep p (drop (i + 1) (take n l₀)))) front ∙ sift-holds p g n l₀ l k i x d S h e q .so;
     }
 
-abbrev stands : Rows → Thread → Bool
-stands r₀ t = not (has (t .name) (members r₀))
+abbrev lives-on : Rows → Thread → Bool
+lives-on r₀ t = not (has (t .name) (members r₀))
 
 abbrev pub Leaving : Rows → Rows → ℕ → ℕ → Type 0
-Leaving r₀ r k i = Only the-threads r₀ (λ (l : List Thread). Sifted (stands r₀) (without-managers (members r₀)) (r₀ .count) (r₀ .threads) l k i) r
+Leaving r₀ r k i = Only the-threads r₀ (λ (l : List Thread). Sifted (lives-on r₀) (without-managers (members r₀)) (r₀ .count) (r₀ .threads) l k i) r
 
 module _ {r₀ r : Rows} {k i x : ℕ} {b : Bool} (U : Leaving r₀ r k i) (h : i < r₀ .count) (z : x ≡ getD (r .threads) i no-thread .name) (t : b ≡ has x (members r)) where
-  leave-tests : stands r₀ (getD (r .threads) i no-thread) ≡ not b
+  leave-tests : lives-on r₀ (getD (r .threads) i no-thread) ≡ not b
   leave-tests = ap not (sym (t ∙ (ap (λ (s : Rows). has x (members s)) (U .only) ∙ ap (λ (y : ℕ). has y (members r₀)) z)))
 
   pub leave-drops : b ≡ true → Leaving r₀ r k (i + 1)

@@ -149,7 +149,7 @@ module _ {m : List ℕ} {k : ℕ} {input : List ℕ} {ended : Bool} {before afte
         → Going m k input ended before (back (t .filled) after ys) (record { line = t .line + 1; used = end; filled = t .filled + n }) m₂
     going-on {end} {n} {d} {m₂} {ys} at-end within s same q kept =
         record {
-          standing = record { stands = s .stands; small = s .same ∙ own };
+          standing = record { at-rest = s .at-rest; small = s .same ∙ own };
           words = same ∙ g .words;
           used = within;
           filled = line-fits q kept;

@@ -11,7 +11,7 @@ use Rattle.rules.specs.Dispatch.{status}
 use Rattle.rules.specs.Step.{step}
 use Rattle.rules.specs.Runs.{Input, run}
 use Rattle.store.specs.Store.{limits, tables}
-use Rattle.handling.specs.Standing.{Stands}
+use Rattle.handling.specs.Standing.{AtRest}
 use Rattle.fields.specs.Fields.{field-size, whole}
 use Rattle.lines.specs.Text.{line, last-line}
 use Rattle.printing.specs.declared.Turned.{Turned}
@@ -44,7 +44,7 @@ fields bytes = fields-in (length bytes) bytes
 
 -- the memory of a program: it stands, and has the document's limits
 pub record Standing (m : List ℕ) : Type 0 where
-  pub stands : Stands m
+  pub at-rest : AtRest m
   pub small : limits m ≡ small
 
 -- One turn of the program: `used` bytes of what was read are served, and `filled` bytes of the buffer hold their lines. Whatever input

@@ -14,7 +14,7 @@ use Rattle.rules.specs.Tables.{Tables, named, new-thread}
 use Rattle.rules.specs.TableRules.{has-parent, climbs, parents-right}
 use Rattle.laws.proofs.Words.{Thread, Parent, NoParent, ParentIs, Running}
 use Rattle.laws.proofs.Tests.{same?, and-left, and-right}
-use Rattle.laws.proofs.Counting.{all-at}
+use Rattle.laws.proofs.Tally.{all-at}
 use Rattle.laws.proofs.Single.{member-place, getD-member, any-one, any-neither, first-fails, rest-once}
 use Rattle.laws.proofs.Types.{Family}
 use Rattle.laws.proofs.Descent.{family-tested}

@@ -17,7 +17,7 @@ use Rattle.laws.proofs.Single.{rest-once, rest-none}
 use Rattle.laws.proofs.Names.{name-free}
 use Rattle.laws.proofs.Room.{queues-room}
 use Rattle.store.specs.Store.{limits, tables, Leaves, Hands, word-for}
-use Rattle.handling.specs.Standing.{Holds, Stands}
+use Rattle.handling.specs.Standing.{Holds, AtRest}
 use Rattle.handling.proofs.Leaving.{and-then, and-hands}
 
 -- ---- a newcomer
@@ -109,7 +109,7 @@ module _ (d : ℕ) where
       go false y later = ap (behind h) (later y)
 
 module _ {m m₁ : List ℕ} (me d : ℕ) where
-  pub word-taken : (w : ℕ) → Stands m → any (held-for d) (tables m .held) ≡ true → w ≡ word-for d (tables m .held) →
+  pub word-taken : (w : ℕ) → AtRest m → any (held-for d) (tables m .held) ≡ true → w ≡ word-for d (tables m .held) →
       Leaves m m₁ (with-held (keep (λ h. not (held-for d h)) (tables m .held)) (tables m)) → Hands m m₁ (Result w) (wait-for-io me d (tables m))
   unfolding take-held
   word-taken w S h e a =

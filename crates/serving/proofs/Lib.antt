@@ -1,4 +1,4 @@
-pub mod Ends
+pub mod EndingRounds
 pub mod Sending
 pub mod Asking
 pub mod Naming

@@ -18,7 +18,7 @@ use Rattle.rules.specs.Receive.{wanted-by, received, receive}
 use Rattle.rules.specs.Trap.{notice, trap}
 use Rattle.laws.proofs.Words.{TrapKind, Wanted, Receiving, Trapped, Answer, Nothing, Manager, Unset, Message, Runs}
 use Rattle.laws.proofs.Tests.{and-left, and-right}
-use Rattle.laws.proofs.Counting.{any-member, member-any}
+use Rattle.laws.proofs.Tally.{any-member, member-any}
 use Rattle.laws.proofs.Places.{asleep}
 use Rattle.laws.proofs.PlacesKept.{runner-live, stop-inv}
 use Rattle.laws.proofs.Single.{any-place, of-at, of-none, decides-at, decides-none, decide-continues}
@@ -26,7 +26,7 @@ use Rattle.laws.proofs.Room.{notice-room}
 use Rattle.store.specs.declared.Taken.{Taken}
 use Rattle.store.specs.declared.Taken.the-variants.{Missing, Took}
 use Rattle.store.specs.Store.{limits, tables, Holding, Leaves, Hands, Takes}
-use Rattle.handling.specs.Standing.{Holds, Stands}
+use Rattle.handling.specs.Standing.{Holds, AtRest}
 use Rattle.handling.proofs.Leaving.{in-words, and-then, and-hands, carried, still-holds, holds}
 use Rattle.handling.proofs.Moving.{woken-room}
 
@@ -132,7 +132,7 @@ pub trap-by : (T : Tables) (me : ℕ) (k : TrapKind) (cause : ℕ) (g : Manager)
 unfolding trap
 trap-by T me k cause g e = rw e
 
-module _ {m : List ℕ} (me s : ℕ) (S : Stands m) (runs : tables m .runner ≡ Runs me s) where
+module _ {m : List ℕ} (me s : ℕ) (S : AtRest m) (runs : tables m .runner ≡ Runs me s) where
   -- where it ends, it lives
   pub runner-ends : Holds m × (live me (tables m) ≡ true)
   runner-ends = (holds S, runner-live (S .ruled .inv) me s runs)

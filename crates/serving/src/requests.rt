@@ -20,7 +20,7 @@ ghost use Rattle.rules.specs.Tables.{live, new-thread as new-thread-of};
 ghost use Rattle.rules.specs.Refusals.{ends-nobody};
 ghost use Rattle.rules.specs.Requests.{free-name, next-name as next-name-of, create as create-of, create-brother as create-brother-of, create-son as create-son-of, terminate as terminate-of, set-manager as set-manager-of, get-cpu-time as get-cpu-time-of, wait-for-clock as wait-for-clock-of, wait-for-io as wait-for-io-of};
 ghost use Rattle.store.specs.Store.{limits, tables, Holding, Hands};
-ghost use Rattle.handling.specs.Standing.{Holds, Stands};
+ghost use Rattle.handling.specs.Standing.{Holds, AtRest};
 
 // The next name modulo 254.
 fn successor(name: u8) -> u8
@@ -159,7 +159,7 @@ pub fn wait_for_clock(m: &mut [u32], me: u8) -> Answer
 
 // A held word is taken at once and cleared, or the requester waits for the device.
 pub fn wait_for_io(m: &mut [u32], me: u8, d: u8) -> Answer
-    requires { ⌜ Stands (now m) × (d < devices) ⌝ }
+    requires { ⌜ AtRest (now m) × (d < devices) ⌝ }
     ensures { λ a. ⌜ Hands (now (m .entry)) (now (m .exit)) a (wait-for-io-of me d (tables (now (m .entry)))) ⌝ }
 {
     if store::is_held(m, d) {

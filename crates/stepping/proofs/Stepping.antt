@@ -26,7 +26,7 @@ use Rattle.laws.proofs.PlacesKept.{runner-live, act-inv}
 use Rattle.laws.proofs.Kept.{step-ruled}
 use Rattle.store.specs.Store.{limits, tables, nothing, Holding, Leaves, Hands}
 use Rattle.store.proofs.Limits.{names-left}
-use Rattle.handling.specs.Standing.{Holds, Stands}
+use Rattle.handling.specs.Standing.{Holds, AtRest}
 use Rattle.stepping.specs.Stepping.{Steps}
 
 -- ---- the start
@@ -110,7 +110,7 @@ module _ (L : Limits) (T : Tables) {e : Event} {r : Runner} (c : Call) (i : e �
 -- ---- a step
 
 -- what an accepted event leaves can be dispatched
-pub acted : {m m′ : List ℕ} {a : Answer} (e : Event) → Stands m → refusal (limits m) (tables m) e ≡ 0 → Hands m m′ a (act (tables m) e) → Holds m′
+pub acted : {m m′ : List ℕ} {a : Answer} (e : Event) → AtRest m → refusal (limits m) (tables m) e ≡ 0 → Hands m m′ a (act (tables m) e) → Holds m′
 acted {m} e S f h = record {
   holding = h .holding;
   inv = rw (h .same, ap (λ (o : Outcome). o .tables) (h .says)) (act-inv e (names-left m (S .holding .shaped)) f (S .ruled .inv));
@@ -122,7 +122,7 @@ refuses zero T e d = absurd (d refl)
 refuses (suc n) T e d = refl
 
 -- the event that the bytes mean, and its refusal
-module _ {m : List ℕ} (S : Stands m) (bytes : List ℕ) (e : Event) (means : e ≡ decode bytes) (n : ℕ) (gets : n ≡ refusal (limits m) (tables m) e) where
+module _ {m : List ℕ} (S : AtRest m) (bytes : List ℕ) (e : Event) (means : e ≡ decode bytes) (n : ℕ) (gets : n ≡ refusal (limits m) (tables m) e) where
   settles : settle n (tables m) e ≡ step (limits m) (tables m) bytes
   unfolding step
   settles = rw (gets, means)
@@ -136,7 +136,7 @@ module _ {m : List ℕ} (S : Stands m) (bytes : List ℕ) (e : Event) (means : e
         decides = x ∙ ap (λ (s : Stepped). s .decision) w;
         leaves = t;
         same = l;
-        stands = record { holding = h; ruled = rw (l, t) (step-ruled bytes (names-left m (S .holding .shaped)) (S .ruled)) };
+        at-rest = record { holding = h; ruled = rw (l, t) (step-ruled bytes (names-left m (S .holding .shaped)) (S .ruled)) };
         keeps = λ i. z (λ j. i (ap (λ (q : Decision). q .refusal) x ∙ j));
       }
 

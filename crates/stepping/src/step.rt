@@ -23,12 +23,12 @@ ghost use Rattle.rules.specs.Refusals.{call-rules, first-of, refusal as refusal
 ghost use Rattle.rules.specs.Step.{serve as serve-of, act as act-of, decided as decided-of, step as step-of};
 ghost use Rattle.laws.proofs.Decoded.{ProperCall, Proper};
 ghost use Rattle.store.specs.Store.{limits, tables, Shaped, Hands};
-ghost use Rattle.handling.specs.Standing.{Stands};
+ghost use Rattle.handling.specs.Standing.{AtRest};
 ghost use Rattle.stepping.specs.Stepping.{Steps};
 
 // A call of the runner that nothing refuses.
 fn serve(m: &mut [u32], me: u8, c: Call) -> Answer
-    requires { ⌜ Stands (now m) × ((s : ℕ) × (tables (now m) .runner ≡ RunsNow me s)) × (first-of (call-rules (limits (now m)) (tables (now m)) me c) ≡ 0) × ProperCall c ⌝ }
+    requires { ⌜ AtRest (now m) × ((s : ℕ) × (tables (now m) .runner ≡ RunsNow me s)) × (first-of (call-rules (limits (now m)) (tables (now m)) me c) ≡ 0) × ProperCall c ⌝ }
     ensures { λ a. ⌜ Hands (now (m .entry)) (now (m .exit)) a (serve-of me (tables (now (m .entry))) c) ⌝ }
 {
     match c {
@@ -53,7 +53,7 @@ fn serve(m: &mut [u32], me: u8, c: Call) -> Answer
 
 // An event that nothing refuses.
 fn act(m: &mut [u32], e: Event) -> Answer
-    requires { ⌜ Stands (now m) × (refusal-of (limits (now m)) (tables (now m)) e ≡ 0) × Proper e ⌝ }
+    requires { ⌜ AtRest (now m) × (refusal-of (limits (now m)) (tables (now m)) e ≡ 0) × Proper e ⌝ }
     ensures { λ a. ⌜ Hands (now (m .entry)) (now (m .exit)) a (act-of (tables (now (m .entry))) e) ⌝ }
 {
     match e {
@@ -95,7 +95,7 @@ fn decided(m: &[u32], refusal: u8, answer: Answer) -> Decision
 
 // One event, given by the bytes of its field, on a memory that stands.
 pub fn step(m: &mut [u32], event: &[u8]) -> Decision
-    requires { ⌜ Stands (now m) ⌝ }
+    requires { ⌜ AtRest (now m) ⌝ }
     ensures { λ d. ⌜ Steps (now (m .entry)) (now (m .exit)) d (step-of (limits (now (m .entry))) (tables (now (m .entry))) (now (event .entry))) ⌝ }
 {
     let e = decode::decode(event);

@@ -12,7 +12,7 @@ use Rattle.rules.specs.Tables.{with-messages}
 use Rattle.rules.specs.Waking.{is-ordinary, blocks-used, queue}
 use Rattle.rules.specs.Refusals.{no-block-free}
 use Rattle.laws.proofs.Words.{Message}
-use Rattle.laws.proofs.Counting.{count-length}
+use Rattle.laws.proofs.Tally.{count-length}
 use Rattle.memory.specs.Rows.{view, place, no-message, MessagesAre}
 use Rattle.memory.specs.Memory.{rows-of}
 use Rattle.memory.proofs.Sizes.{messages-whole}

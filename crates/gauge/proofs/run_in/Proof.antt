@@ -6,12 +6,12 @@ use native.Mathlib.Omega.{arith}
 use lib.ListN.{length}
 use borrow.Author.Needs.{needs}
 use Rattle.store.specs.Store.{limits}
-use Rattle.handling.specs.Standing.{Stands}
+use Rattle.handling.specs.Standing.{AtRest}
 use Rattle.gauge.proofs.run_in.Statement.{statement}
 use Rattle.gauge.proofs.run_in.Tie as tie
 
 abbrev Inv-loop : tie.InvT-loop
-Inv-loop m₀ s accepted₀ at₀ m accepted at = (length m ≡ length m₀) × (at ≤ length s) × (accepted ≤ at) × Stands m × (limits m ≡ limits m₀)
+Inv-loop m₀ s accepted₀ at₀ m accepted at = (length m ≡ length m₀) × (at ≤ length s) × (accepted ≤ at) × AtRest m × (limits m ≡ limits m₀)
 
 abbrev μ-loop : tie.MeasureT-loop
 μ-loop m₀ s accepted₀ at₀ m accepted at = length s - at
@@ -41,13 +41,13 @@ loop-less : tie.Need-loop-less Inv-loop μ-loop
 loop-less c = omega arith
 
 loop-again : tie.Need-loop-again Inv-loop μ-loop
-loop-again c = (c .before .before .before .m .given ∙ c .before .before .before .before .before .before .before .before .before .loop .inv .0, omega arith, omega arith, c .before .before .before .before .step .ensures .stands, c .before .before .before .before .step .ensures .same ∙ c .before .before .before .before .before .before .before .before .before .loop .inv .4)
+loop-again c = (c .before .before .before .m .given ∙ c .before .before .before .before .before .before .before .before .before .loop .inv .0, omega arith, omega arith, c .before .before .before .before .step .ensures .at-rest, c .before .before .before .before .step .ensures .same ∙ c .before .before .before .before .before .before .before .before .before .loop .inv .4)
 
 loop-less-2 : tie.Need-loop-less-2 Inv-loop μ-loop
 loop-less-2 c = omega arith
 
 loop-again-2 : tie.Need-loop-again-2 Inv-loop μ-loop
-loop-again-2 c = (c .before .before .before .m .given ∙ c .before .before .before .before .before .before .before .before .before .loop .inv .0, omega arith, omega arith, c .before .before .before .before .step .ensures .stands, c .before .before .before .before .step .ensures .same ∙ c .before .before .before .before .before .before .before .before .before .loop .inv .4)
+loop-again-2 c = (c .before .before .before .m .given ∙ c .before .before .before .before .before .before .before .before .before .loop .inv .0, omega arith, omega arith, c .before .before .before .before .step .ensures .at-rest, c .before .before .before .before .step .ensures .same ∙ c .before .before .before .before .before .before .before .before .before .loop .inv .4)
 
 same-length : tie.Need-same-length Inv-loop μ-loop
 same-length c = c .before .loop .inv .0

@@ -95,7 +95,7 @@ slice-aggregate-put-last-2 : tie.Need-slice-aggregate-put-last-2 Inv-loop μ-loo
 slice-aggregate-put-last-2 c = search needs
 
 put-last-requires : tie.Need-put-last-requires Inv-loop μ-loop
-put-last-requires c κs = (ends-right (c .before .before .before .before .before .before .before .before .before .before .before .before .loop .inv) (c .before .before .before .before .before .before .before .serve .ensures) .standing .stands .holding .shaped, omega arith)
+put-last-requires c κs = (ends-right (c .before .before .before .before .before .before .before .before .before .before .before .before .loop .inv) (c .before .before .before .before .before .before .before .serve .ensures) .standing .at-rest .holding .shaped, omega arith)
 
 slice-aggregate-print-3 : tie.Need-slice-aggregate-print-3 Inv-loop μ-loop
 slice-aggregate-print-3 c = search needs

@@ -84,7 +84,7 @@ slice-aggregate-write-dump-2 c = search needs
 write-dump-requires : tie.Need-write-dump-requires Inv-loop μ-loop
 write-dump-requires c κs =
     let s = ends-right (c .before .before .before .before .before .before .before .before .before .loop .inv) (c .before .before .before .before .serve .ensures) .standing in
-    let w = writable _ (passes _ (s .stands) (s .small)) in
+    let w = writable _ (passes _ (s .at-rest) (s .small)) in
     (w .0, omega (arith, w .1))
 
 slice-aggregate-print : tie.Need-slice-aggregate-print Inv-loop μ-loop

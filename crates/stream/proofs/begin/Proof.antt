@@ -14,8 +14,8 @@ same-length c = search needs
 returns : tie.Need-returns
 returns c =
     let started = c .before .before .start-in .ensures in
-    let stands = checked _ (started .valid) in
-    record { standing = record { stands = stands .0; small = stands .1 }; says = started .says; first = refl }
+    let held = checked _ (started .valid) in
+    record { standing = record { at-rest = held .0; small = held .1 }; says = started .says; first = refl }
 
 pub begin-spec : {M : Type 1} → statement M
 begin-spec = tie.close (tie.spec start-in-requires same-length returns)

@@ -6,7 +6,7 @@ use lib.ListN.{length}
 use borrow.Author.Tests.{not-true, not-false}
 use native.Mathlib.Omega.{arith}
 use Rattle.fields.proofs.Sizes.{Inside, inside}
-use Rattle.batching.proofs.Counting.{Counted, none-counted, one-more, all-counted, at-the-end}
+use Rattle.batching.proofs.FieldCount.{Counted, none-counted, one-more, all-counted, at-the-end}
 use Rattle.batching.proofs.complete.count_complete.Statement.{statement}
 use Rattle.batching.proofs.complete.count_complete.Tie as tie
 

@@ -28,7 +28,7 @@ part-result-end c = search needs
 returns : tie.Need-returns
 returns c =
     let s = c .before .before .args .input .now in
-    record { bytes = to-the-end s (length s) ∙ (drop-length s ∙ sym (drop-of-length-le s (c .before .if1 .taken))); stands = from (c .before .before .args .input .ptr) s (length s) (omega arith) }
+    record { bytes = to-the-end s (length s) ∙ (drop-length s ∙ sym (drop-of-length-le s (c .before .if1 .taken))); ends-there = from (c .before .before .args .input .ptr) s (length s) (omega arith) }
 
 sub-result-2 : tie.Need-sub-result-2
 sub-result-2 c = search needs
@@ -40,7 +40,7 @@ part-result-end-2 : tie.Need-part-result-end-2
 part-result-end-2 c = search needs
 
 returns-2 : tie.Need-returns-2
-returns-2 c = let a = c .before .before .args in record { bytes = to-the-end (a .input .now) (a .place); stands = from (a .input .ptr) (a .input .now) (a .place) (omega arith) }
+returns-2 c = let a = c .before .before .args in record { bytes = to-the-end (a .input .now) (a .place); ends-there = from (a .input .ptr) (a .input .now) (a .place) (omega arith) }
 
 pub rest-at-spec : {M : Type 1} → statement M
 rest-at-spec =

@@ -15,8 +15,8 @@ use Rattle.lines.proofs.tables.put_tables.Statement.{statement}
 use Rattle.lines.proofs.tables.put_tables.Tie as tie
 
 -- after a call: this much of the text stands in the buffer
-abbrev Stands : tie.Start → (Tables → List ℕ) → List ℕ → ℕ → ℕ → Type 0
-Stands s text out at most = Filled (text (tables (s .args .m .now))) (s .args .out .now) out at most
+abbrev SoFar : tie.Start → (Tables → List ℕ) → List ℕ → ℕ → ℕ → Type 0
+SoFar s text out at most = Filled (text (tables (s .args .m .now))) (s .args .out .now) out at most
 
 -- with the document's limits there are few entries
 limited : (s : tie.Start) → Few (tables (s .args .m .now))
@@ -36,7 +36,7 @@ out1 c = c .before .before .put-head .last .0
 abbrev at1 : tie.After-slice-known2 → ℕ
 at1 c = c .before .before .put-head .result
 
-headed : (c : tie.After-slice-known2) → Stands (start1 c) text1 (out1 c) (at1 c) 148
+headed : (c : tie.After-slice-known2) → SoFar (start1 c) text1 (out1 c) (at1 c) 148
 headed c =
     let s = start1 c in
     filled-first 148 (head-few (tables (s .args .m .now))) (omega (arith, s .pre .2)) (c .before .before .put-head .ensures)
@@ -53,7 +53,7 @@ out2 c = back (at1 (c .before .before .before .before)) (out1 (c .before .before
 abbrev at2 : tie.After-slice-known3 → ℕ
 at2 c = at1 (c .before .before .before .before) + c .before .before .put-threads .result
 
-with-threads : (c : tie.After-slice-known3) → Stands (start2 c) text2 (out2 c) (at2 c) 5208
+with-threads : (c : tie.After-slice-known3) → SoFar (start2 c) text2 (out2 c) (at2 c) 5208
 with-threads c =
     let s = start2 c in
     filled-more 5060 (headed (c .before .before .before .before))
@@ -72,7 +72,7 @@ out3 c = back (at2 (c .before .before .before .before)) (out2 (c .before .before
 abbrev at3 : tie.After-slice-known4 → ℕ
 at3 c = at2 (c .before .before .before .before) + c .before .before .put-ready .result
 
-with-ready : (c : tie.After-slice-known4) → Stands (start3 c) text3 (out3 c) (at3 c) 5650
+with-ready : (c : tie.After-slice-known4) → SoFar (start3 c) text3 (out3 c) (at3 c) 5650
 with-ready c =
     let s = start3 c in
     filled-more 442 (with-threads (c .before .before .before .before))
@@ -91,7 +91,7 @@ out4 c = back (at3 (c .before .before .before .before)) (out3 (c .before .before
 abbrev at4 : tie.After-slice-known5 → ℕ
 at4 c = at3 (c .before .before .before .before) + c .before .before .put-clock .result
 
-with-clock : (c : tie.After-slice-known5) → Stands (start4 c) text4 (out4 c) (at4 c) 6092
+with-clock : (c : tie.After-slice-known5) → SoFar (start4 c) text4 (out4 c) (at4 c) 6092
 with-clock c =
     let s = start4 c in
     filled-more 442 (with-ready (c .before .before .before .before))
@@ -112,7 +112,7 @@ out5 c =
 abbrev at5 : tie.After-slice-known6 → ℕ
 at5 c = at4 (c .before .before .before .before) + c .before .before .put-messages .result
 
-with-messages : (c : tie.After-slice-known6) → Stands (start5 c) text5 (out5 c) (at5 c) 10332
+with-messages : (c : tie.After-slice-known6) → SoFar (start5 c) text5 (out5 c) (at5 c) 10332
 with-messages c =
     let s = start5 c in
     filled-more 4240 (with-clock (c .before .before .before .before))
@@ -131,7 +131,7 @@ out6 c = back (at5 (c .before .before .before .before)) (out5 (c .before .before
 abbrev at6 : tie.After-slice-known7 → ℕ
 at6 c = at5 (c .before .before .before .before) + c .before .before .put-held .result
 
-with-held : (c : tie.After-slice-known7) → Stands (start6 c) text6 (out6 c) (at6 c) 13404
+with-held : (c : tie.After-slice-known7) → SoFar (start6 c) text6 (out6 c) (at6 c) 13404
 with-held c =
     let s = start6 c in
     filled-more 3072 (with-messages (c .before .before .before .before))

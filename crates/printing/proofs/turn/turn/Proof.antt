@@ -65,7 +65,7 @@ part-step-end : tie.Need-part-step-end Inv-loop μ-loop
 part-step-end c = omega (arith, found (c .before .before .before .before) .within)
 
 step-requires : tie.Need-step-requires Inv-loop μ-loop
-step-requires c κs = c .before .before .before .before .before .before .before .loop .inv .standing .stands
+step-requires c κs = c .before .before .before .before .before .before .before .loop .inv .standing .at-rest
 
 sub-put-line : tie.Need-sub-put-line Inv-loop μ-loop
 sub-put-line c =

@@ -5,7 +5,7 @@ use native.Mathlib.Omega.{arith}
 use denote.Ref.{now}
 use Rattle.laws.proofs.Closure.{outside, falls as joins-fall}
 use Rattle.store.specs.Store.{tables, found}
-use Rattle.serving.proofs.Ends.{last-round, fewer-outside, room-stays, round-more}
+use Rattle.serving.proofs.EndingRounds.{last-round, fewer-outside, room-stays, round-more}
 use borrow.Fn.Kinds.{In}
 use borrow.Fn.PlainCycle.{Measures, is, falls, and}
 use Rattle.serving.proofs.ending.close.Reads as close′

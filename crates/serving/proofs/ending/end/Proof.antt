@@ -1,6 +1,6 @@
 -- `end` meets its contract: what the ended set leaves, with those released that miss a member.
 use mathlib.Core.Path.{_∙_}
-use Rattle.serving.proofs.Ends.{release-room, ended}
+use Rattle.serving.proofs.EndingRounds.{release-room, ended}
 use Rattle.store.proofs.Marking.{no-marks, marks-of}
 use Rattle.serving.proofs.ending.end.Statement.{statement}
 use Rattle.serving.proofs.ending.end.Tie as tie

@@ -1,6 +1,6 @@
 -- `ended_set` meets its contract: the rounds begin with the named thread alone.
 use mathlib.Core.Path.{_∙_}
-use Rattle.serving.proofs.Ends.{some-room, begun-room, begun-closed}
+use Rattle.serving.proofs.EndingRounds.{some-room, begun-room, begun-closed}
 use Rattle.serving.proofs.ending.ended_set.Statement.{statement}
 use Rattle.serving.proofs.ending.ended_set.Tie as tie
 

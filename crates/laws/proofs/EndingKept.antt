@@ -17,7 +17,7 @@ use Rattle.rules.specs.Receive.{wanted-by}
 use Rattle.rules.specs.Ending.{ended-set, gone-if, without-managers, remove, misses, told-gone, release, end}
 use Rattle.rules.specs.TableRules.{answer-in-range}
 use Rattle.laws.proofs.Tests.{by-if, clash, same?}
-use Rattle.laws.proofs.Counting.{count-map, count-less, count-keep-le, any-count, count-any, member-any, any-fewer, all-left}
+use Rattle.laws.proofs.Tally.{count-map, count-less, count-keep-le, any-count, count-any, member-any, any-fewer, all-left}
 use Rattle.laws.proofs.Ordered.{keep-less, up-less, up-map}
 use Rattle.laws.proofs.Types.{Inv, Entry, Detail, Right, Family, Good, Fits}
 use Rattle.laws.proofs.Threads.{live-member, names-kept, left, put-name}
