@@ -13,7 +13,7 @@ use Rattle.rules.specs.Tables.{named, live}
 use Rattle.rules.specs.States.{receives}
 use Rattle.rules.specs.Waking.{accepts}
 use Rattle.rules.specs.TableRules.{no-match}
-use Rattle.laws.proofs.Words.{State, Running, Ready, Receiving, Clock, Device, Trapped, Thread, Message}
+use Rattle.laws.specs.Words.{State, Running, Ready, Receiving, Clock, Device, Trapped, Thread, Message}
 use Rattle.laws.proofs.Tests.{and-left, and-right, and-false, not-true, by-if, _&_}
 use Rattle.laws.proofs.Tally.{none-any, not-any, all-of, all-at}
 use Rattle.laws.proofs.Single.{getD-member}

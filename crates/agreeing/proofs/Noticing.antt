@@ -15,7 +15,7 @@ use Rattle.rules.specs.Tables.{named, new-thread}
 use Rattle.rules.specs.States.{awaits}
 use Rattle.rules.specs.Waking.{is-ordinary, notice-of}
 use Rattle.rules.specs.TableRules.{notices-right}
-use Rattle.laws.proofs.Words.{Running, NoParent, Thread, Message}
+use Rattle.laws.specs.Words.{Running, NoParent, Thread, Message}
 use Rattle.laws.proofs.Tests.{and-false, or-left, _&_}
 use Rattle.laws.proofs.Single.{first-fails, rest-once, getD-member}
 use Rattle.memory.specs.Rows.{Rows, view, place}

@@ -19,7 +19,8 @@ use Rattle.laws.proofs.Steps.{run-append}
 use Rattle.store.specs.Store.{tables}
 use Rattle.lending.specs.Lent.{valid, no-tables}
 use Rattle.lending.specs.declared.Tables.{Tables as Lent}
-use Rattle.laws.proofs.Batch.{decisions-append, decisions-count, numbers-append, numbers-count, needed, room-left, taken-twice}
+use Rattle.laws.specs.Batch.{needed}
+use Rattle.laws.proofs.Batch.{decisions-append, decisions-count, numbers-append, numbers-count, room-left, taken-twice}
 use Rattle.batching.proofs.Calling.{calls-leave, calls-decide, calls-keep}
 use Rattle.batching.specs.Batching.{SingleCalls, decided, numbers-after, all-refused, Served, Batches, BatchesValue}
 use Rattle.batching.specs.declared.Batched.{Batched}

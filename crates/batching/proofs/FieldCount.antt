@@ -8,7 +8,8 @@ use lib.ListN.{length, drop, length-drop, drop-of-length-le}
 use lib.Seq.{drop-drop}
 use Rattle.rules.specs.Fields.{field-size, whole}
 use Rattle.rules.specs.Batch.{complete, unread}
-use Rattle.laws.proofs.Batch.{whole-within, complete-none, complete-first, past}
+use Rattle.laws.specs.Batch.{past}
+use Rattle.laws.proofs.Batch.{whole-within, complete-none, complete-first}
 use Rattle.batching.specs.Batching.{AllCounted}
 
 -- ---- one field more

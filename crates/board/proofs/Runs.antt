@@ -17,13 +17,13 @@ use Rattle.rules.specs.Dispatch.{status}
 use Rattle.rules.specs.Step.{step}
 use Rattle.rules.specs.Runs.{Input, run, line, decisions, lines}
 use Rattle.rules.specs.declared.Decision.{Decision}
-use Rattle.laws.proofs.Words.{Status, Working, Idle, Halted, Panicked, Answer, Nothing, FromMessage, FromNotice, SenderGone, Result, NoRunner, Event}
+use Rattle.laws.specs.Words.{Status, Working, Idle, Halted, Panicked, Answer, Nothing, FromMessage, FromNotice, SenderGone, Result, NoRunner, Event}
 use Rattle.laws.proofs.Tests.{clash}
-use Rattle.laws.proofs.Calm.{is-tick}
-use Rattle.laws.proofs.Wait.{tick-accepted, became-ready, ticks-accepted, served-by}
-use Rattle.laws.proofs.Outside.{from-outside, some-ready, outside}
+use Rattle.laws.specs.Calm.{is-tick}
+use Rattle.laws.specs.Wait.{tick-accepted, became-ready, ticks-accepted, served-by}
+use Rattle.laws.specs.Outside.{from-outside, some-ready, outside}
 use Rattle.laws.proofs.Idle.{reported}
-use Rattle.laws.proofs.Handed.{Cause}
+use Rattle.laws.specs.Handed.{Cause}
 use Rattle.store.specs.Store.{tables}
 use Rattle.lending.specs.Lent.{valid, no-tables, Answered, Started}
 use Rattle.lending.proofs.Runs as lent

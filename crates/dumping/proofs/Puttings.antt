@@ -11,7 +11,7 @@ use lib.Seq.{take-all, take-suc}
 use Rattle.rules.specs.Lists.{any, each, two-bytes, four-bytes}
 use Rattle.rules.specs.Interrupt.{held-for}
 use Rattle.rules.specs.Dump.{field, held-value}
-use Rattle.laws.proofs.Words.{Held}
+use Rattle.laws.specs.Words.{Held}
 use Rattle.laws.proofs.Tally.{each-append, length-each}
 use Rattle.store.specs.Store.{word-for}
 use Rattle.buffer.specs.Puts.{Puts}

@@ -12,7 +12,7 @@ use lib.Seq.{length-take-le, take-all, take-suc}
 use borrow.Author.Tests.{ltb-true, ltb-false, lt-ltb, le-ltb}
 use Rattle.rules.specs.Lists.{if_then_else_, _==_, all, any, keep, chain}
 use Rattle.rules.specs.Numbers.{devices}
-use Rattle.laws.proofs.Words.{Held}
+use Rattle.laws.specs.Words.{Held}
 use Rattle.laws.proofs.Tests.{same?, and-left, and-right}
 use Rattle.laws.proofs.Tally.{count-length, length-keep, keep-none, none-count, none-any, all-at}
 use Rattle.laws.proofs.Ordered.{up, chain-tail, up-below, up-few}

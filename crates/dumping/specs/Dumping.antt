@@ -6,7 +6,7 @@ use mathlib.Core.List.{List, [], _∷_}
 use lib.Dec.{ltb}
 use Rattle.rules.specs.Lists.{if_then_else_, all, any, chain}
 use Rattle.rules.specs.Numbers.{devices}
-use Rattle.laws.proofs.Words.{Held}
+use Rattle.laws.specs.Words.{Held}
 use Rattle.rules.specs.Interrupt.{held-for}
 use Rattle.store.specs.Store.{tables, Shaped, word-for}
 

@@ -7,7 +7,7 @@ use Rattle.rules.specs.Lists.{if_then_else_, _==_, two-bytes}
 use Rattle.rules.specs.Numbers.{nobody, service}
 use Rattle.rules.specs.Tags.{thread-tag, thread-size}
 use Rattle.rules.specs.Codes.{state-numbers, manager-code, parent-code}
-use Rattle.laws.proofs.Words.{State, Thread}
+use Rattle.laws.specs.Words.{State, Thread}
 use Rattle.words.specs.Saying.{byte}
 
 -- "state (0 to 5, in the order listed above), detail"

@@ -14,7 +14,7 @@ use Rattle.rules.specs.Tags.{before-value, dump-facts}
 use Rattle.rules.specs.Codes.{status-code, answer-numbers}
 use Rattle.rules.specs.TableRules.{answer-in-range}
 use Rattle.rules.specs.Faults.{wrong-length, status-fits}
-use Rattle.laws.proofs.Words.{Answer, Result}
+use Rattle.laws.specs.Words.{Answer, Result}
 
 pub and-true : (b : Bool) → (b && true) ≡ b
 and-true true = refl

@@ -11,7 +11,8 @@ use Rattle.rules.specs.Lists.{_==_, keep, any, has}
 use Rattle.rules.specs.Fields.{field-size, whole, complete, unread}
 use Rattle.rules.specs.Load.{Field, as-field, fields-of}
 use Rattle.rules.specs.Faults.{Placed, placed-from, placed, offsets, ends-badly}
-use Rattle.laws.proofs.Batch.{whole-within, complete-none, complete-first, past}
+use Rattle.laws.specs.Batch.{past}
+use Rattle.laws.proofs.Batch.{whole-within, complete-none, complete-first}
 use Rattle.faults.specs.declared.Before.{Before}
 use Rattle.faults.specs.Order.{nothing-before, after, missing, Tells}
 use Rattle.faults.specs.Passes.{form-fault, form-behind, value-fault, Firsts, FormPasses, ValuePasses}

@@ -12,7 +12,7 @@ use Rattle.rules.specs.Tables.{Tables, with-runner, with-ready, in-state, of-th
 use Rattle.rules.specs.States.{wakes-from-outside}
 use Rattle.rules.specs.Waking.{Outcome, _handing_}
 use Rattle.rules.specs.Dispatch.{run-next, dispatch, status-without, status}
-use Rattle.laws.proofs.Words.{Running, Answer, Nothing, Thread, NoRunner, Runs, Working, Idle, Halted, Panicked}
+use Rattle.laws.specs.Words.{Running, Answer, Nothing, Thread, NoRunner, Runs, Working, Idle, Halted, Panicked}
 use Rattle.store.specs.Store.{tables, Holding, Leaves}
 use Rattle.handling.proofs.Leaving.{and-then, carried}
 

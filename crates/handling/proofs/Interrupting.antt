@@ -14,10 +14,10 @@ use Rattle.rules.specs.Tables.{Tables}
 use Rattle.rules.specs.States.{at-device, waits-for}
 use Rattle.rules.specs.Waking.{wake}
 use Rattle.rules.specs.Interrupt.{held-for, interrupt}
-use Rattle.laws.proofs.Words.{Result, Thread}
+use Rattle.laws.specs.Words.{Result, Thread}
 use Rattle.laws.proofs.Tests.{clash}
 use Rattle.laws.proofs.Tally.{all-of, any-count, zero-any}
-use Rattle.laws.proofs.Types.{Ruled}
+use Rattle.laws.specs.Types.{Ruled}
 use Rattle.laws.proofs.Places.{asleep}
 use Rattle.laws.proofs.Single.{interrupt-wakes}
 use Rattle.store.specs.Store.{name-where}

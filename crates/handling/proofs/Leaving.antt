@@ -5,8 +5,8 @@ use mathlib.Core.List.{List}
 use Rattle.rules.specs.Numbers.{Limits}
 use Rattle.rules.specs.Tables.{Tables}
 use Rattle.rules.specs.Waking.{Outcome, _handing_}
-use Rattle.laws.proofs.Words.{Answer}
-use Rattle.laws.proofs.Types.{Inv, Ruled}
+use Rattle.laws.specs.Words.{Answer}
+use Rattle.laws.specs.Types.{Inv, Ruled}
 use Rattle.store.specs.Store.{limits, tables, Holding, Leaves, Hands}
 use Rattle.handling.specs.Standing.{Holds, AtRest}
 

@@ -10,10 +10,10 @@ use Rattle.rules.specs.Numbers.{Limits}
 use Rattle.rules.specs.Tables.{Tables, with-runner, with-ready, in-state, named, live, of-thread, change}
 use Rattle.rules.specs.States.{is-ready, receives}
 use Rattle.rules.specs.Waking.{accepts, wake, stop}
-use Rattle.laws.proofs.Words.{State, Ready, Answer, Nothing, Thread, Message, NoRunner}
+use Rattle.laws.specs.Words.{State, Ready, Answer, Nothing, Thread, Message, NoRunner}
 use Rattle.laws.proofs.Tests.{and-right}
 use Rattle.laws.proofs.Tally.{any-member}
-use Rattle.laws.proofs.Types.{Inv}
+use Rattle.laws.specs.Types.{Inv}
 use Rattle.laws.proofs.Places.{asleep}
 use Rattle.laws.proofs.Room.{ready-room}
 use Rattle.laws.proofs.Single.{any-place, of-at, of-none, accepts-at, accepts-none, wake-is, stop-is}

@@ -11,9 +11,9 @@ use Rattle.rules.specs.Tables.{Tables, with-runner, with-time, with-clock, with
 use Rattle.rules.specs.States.{on-clock}
 use Rattle.rules.specs.Waking.{wake-those, wake}
 use Rattle.rules.specs.Tick.{one-more, charge, beat, rotate}
-use Rattle.laws.proofs.Words.{Nothing, Result, Runner, NoRunner, Runs}
+use Rattle.laws.specs.Words.{Nothing, Result, Runner, NoRunner, Runs}
 use Rattle.laws.proofs.Tests.{by-runs}
-use Rattle.laws.proofs.Types.{Inv}
+use Rattle.laws.specs.Types.{Inv}
 use Rattle.laws.proofs.Room.{queues-room}
 use Rattle.laws.proofs.Single.{charge-at, beat-strikes, beat-passes, rotate-turns}
 use Rattle.store.specs.Store.{limits, tables, Holding, Leaves}

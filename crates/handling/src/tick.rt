@@ -7,7 +7,7 @@ use store;
 ghost use Prim.Native.Nat.{_<_};
 ghost use Rattle.rules.specs.Numbers.{beat-ticks};
 ghost use Rattle.rules.specs.Tick.{charge as charge-of, beat as beat-of, rotate as rotate-of, tick as tick-of};
-ghost use Rattle.laws.proofs.Types.{Steady};
+ghost use Rattle.laws.specs.Types.{Steady};
 ghost use Rattle.store.specs.Store.{tables, Leaves};
 ghost use Rattle.handling.specs.Standing.{Holds, AtRest};
 

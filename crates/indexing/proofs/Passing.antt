@@ -17,7 +17,7 @@ use Rattle.memory.proofs.Sizes.{threads-long, messages-long, ready-long, clock-
 use Rattle.moving.proofs.Loops.{Passed, all-starts, all-next, all-fails, all-ends}
 use Rattle.store.specs.Store.{Shaped, tables, limits}
 use Rattle.indexing.specs.Queue.{queue}
-use Rattle.laws.proofs.Words.{Thread}
+use Rattle.laws.specs.Words.{Thread}
 use Rattle.indexing.proofs.Indexing.{Filled, fill-next}
 use Rattle.indexing.proofs.Chains.{Linked, link-starts, link-next, link-fails, link-ends}
 

@@ -9,7 +9,7 @@ use Rattle.rules.specs.Words.{by-runner}
 use Rattle.rules.specs.Tables.{Tables, named, runs-as}
 use Rattle.rules.specs.States.{is-running, is-ready, on-clock}
 use Rattle.rules.specs.TableRules.{entry-right}
-use Rattle.laws.proofs.Words.{Runner, State, Manager, Thread}
+use Rattle.laws.specs.Words.{Runner, State, Manager, Thread}
 use Rattle.memory.specs.Rows.{view}
 use Rattle.memory.specs.Memory.{rows-of}
 

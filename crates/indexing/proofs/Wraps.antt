@@ -10,7 +10,7 @@ use borrow.Author.Tests.{lt-ltb}
 use Rattle.rules.specs.Lists.{_==_, all, each, from-on}
 use Rattle.rules.specs.Numbers.{names, beat-ticks, devices, wrap}
 use Rattle.rules.specs.TableRules.{state-in-range, ranges}
-use Rattle.laws.proofs.Words.{Thread, Message, Held}
+use Rattle.laws.specs.Words.{Thread, Message, Held}
 use Rattle.laws.proofs.Tests.{and-left, and-right, and-true, by-if, _&_}
 use Rattle.words.specs.Saying.{word, thread-in, message-in, held-in}
 use Rattle.memory.specs.Layout.{thread-place, message-place, held-place}

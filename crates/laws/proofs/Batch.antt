@@ -2,7 +2,7 @@
 -- order, and that two batches in a row equal one.
 use Prim.Native.Nat.{ℕ, zero, suc, _+_, _*_, _-_, _≤_, _<_}
 use mathlib.Core.Path.{_≡_, refl, sym, ap, ap₂, _∙_, subst}
-use mathlib.Core.Bool.{Bool, true, false, _&&_, false≢true}
+use mathlib.Core.Bool.{Bool, true, false, false≢true}
 use mathlib.Core.List.{List, [], _∷_, _++_, append-assoc}
 use mathlib.Core.Logic.{_↔_, _≢_, _⊎_, inl, inr}
 use native.Mathlib.Omega.{arith}
@@ -18,6 +18,7 @@ use Rattle.rules.specs.Runs.{Input, run, line, decisions}
 use Rattle.rules.specs.Fields.{field-size, whole}
 use Rattle.rules.specs.declared.Decision.{Decision}
 use Rattle.rules.specs.Batch.{complete-in, unread-in, complete, unread, numbers, Taken, taken, Batched, batch}
+use Rattle.laws.specs.Batch.{one-field, past, joined, needed}
 use Rattle.laws.proofs.Tests.{and-left, and-right, _&_}
 use Rattle.laws.proofs.Steps.{run-append}
 
@@ -47,10 +48,6 @@ whole-more (a ∷ []) more w = absurd (false≢true w)
 whole-more (a ∷ b ∷ []) more w = absurd (false≢true w)
 whole-more (a ∷ b ∷ c ∷ l) more w = le-leb (b * 256 + c) (length (l ++ more)) (omega (arith, leb-true (b * 256 + c) (length l) w, length-append l more))
 
--- exactly one complete field
-abbrev pub one-field : List ℕ → Bool
-one-field f = whole f && (field-size f == length f)
-
 -- the first field, cut off the bytes
 pub first-is-one : (l : List ℕ) → whole l ≡ true → one-field (take (field-size l) l) ≡ true
 unfolding field-size whole
@@ -67,10 +64,6 @@ first-is-one (a ∷ b ∷ c ∷ l) w =
     (le-leb n (length (take n l)) (omega (arith, k)) & eq-eqb (field-size f) (length f) (omega (arith, k)))
 
 -- ---- fields one behind the other: the bounds of `complete-in` and `unread-in` count no field away
-
--- the bytes behind the first field
-abbrev pub past : List ℕ → List ℕ
-past l = drop (field-size l) l
 
 shorter : (l : List ℕ) (k : ℕ) → whole l ≡ true → length l ≤ suc k → length (past l) ≤ k
 shorter l k w h = let s = whole-within l w in omega (arith, s .0, s .1, length-drop (field-size l) l)
@@ -119,10 +112,6 @@ complete-first (a ∷ l) w =
     rw w (ap (λ (t : Input). take (field-size (a ∷ l)) (a ∷ l) ∷ t) (e .0), e .1)
 
 -- ---- the cut: complete fields, and an end that opens with none
-
--- bytes from fields, one behind the other
-abbrev pub joined : Input → List ℕ
-joined fs = each (λ f. f) fs
 
 -- Nothing is lost and nothing is added: the fields and the unread end are the bytes.
 pub nothing-is-lost : (l : List ℕ) → joined (complete l) ++ unread l ≡ l
@@ -232,10 +221,6 @@ numbers-count [] = refl
 numbers-count (d ∷ ds) = omega (arith, length-append (line d) (numbers ds), line-count d, numbers-count ds)
 
 -- ---- the refusal
-
--- how many numbers the decisions of these bytes' complete fields need
-abbrev pub needed : List ℕ → ℕ
-needed bytes = decision-numbers * length (complete bytes)
 
 module _ (room : ℕ) (bytes : List ℕ) where
   pub taken-refused : room < needed bytes → taken room bytes ≡ record { refusal = 14; events = []; unread = bytes }

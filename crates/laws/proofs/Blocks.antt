@@ -1,5 +1,5 @@
 -- Blocks: the ordinary messages queued are those received from inboxes, those discarded and those in inboxes now, and the blocks suffice.
-use Prim.Native.Nat.{ℕ, zero, suc, _+_, _-_, _≤_}
+use Prim.Native.Nat.{ℕ, zero, suc, _+_, _≤_}
 use mathlib.Core.Path.{_≡_, refl, ap, _∙_}
 use mathlib.Core.Logic.{_↔_}
 use mathlib.Core.Bool.{Bool, true, false, _&&_, _||_, not, true≢false}
@@ -10,7 +10,7 @@ use borrow.Author.Tests.{ne-eqb, leb-true, leb-false, le-leb}
 use Rattle.rules.specs.Lists.{if_then_else_, _==_, one-if, any, has, count, Pulled, missing, pulled, pull}
 use Rattle.rules.specs.Numbers.{Limits, beat-ticks}
 use Rattle.rules.specs.Words.{by-manager}
-use Rattle.rules.specs.Tables.{Tables, of-thread, change, manager, me, start}
+use Rattle.rules.specs.Tables.{Tables, change, me, start}
 use Rattle.rules.specs.States.{waits-for}
 use Rattle.rules.specs.Waking.{wake-those, is-ordinary, blocks-used, notice-of, accepts, queue, deliver, stop}
 use Rattle.rules.specs.Ending.{ended-set, remove, release, end}
@@ -24,65 +24,15 @@ use Rattle.rules.specs.Events.{decode}
 use Rattle.rules.specs.Refusals.{_refuses_, needs-block, no-block-free, refusal}
 use Rattle.rules.specs.Step.{serve, act, step}
 use Rattle.rules.specs.Runs.{Input, run}
-use Rattle.laws.proofs.Words.{Wanted, TrapKind, Trapped, Manager, Unset, Set, Gone, MessageKind, Ordinary, Notice, Message, Held, Oneself, Named, Send, Receive, CreateBrother, CreateSon, Terminate, SetManager, GetCpuTime, WaitForClock, WaitForIo, Trap, Event, Malformed, ByRunner, Tick, Interrupt}
+use Rattle.laws.specs.Blocks.{queued-by, is-receive, is-message, received-by, entry-of, is-unset, ends, of-set, discarded-by, queued-in, received-in, discarded-in, blocks-free}
+use Rattle.laws.specs.Words.{Wanted, TrapKind, Trapped, Manager, Unset, Set, Gone, MessageKind, Ordinary, Notice, Message, Held, Oneself, Named, Send, Receive, CreateBrother, CreateSon, Terminate, SetManager, GetCpuTime, WaitForClock, WaitForIo, Trap, Event, Malformed, ByRunner, Tick, Interrupt}
 use Rattle.laws.proofs.Tests.{by-if, by-runs, and-true, and-false}
 use Rattle.laws.proofs.Tally.{count-add, count-same, count-zero, count-keep, count-insert, not-any}
 use Rattle.laws.proofs.Ordered.{pull-took}
 use Rattle.laws.proofs.Steps.{by-step, by-dispatch}
-use Rattle.laws.proofs.Refusals.{call-is, is-send, block-needed, lacks-block, the-ten, accepted-exactly}
-use Rattle.laws.proofs.Counts.{if-accepted, over-run}
-
--- ---- what an accepted event does to ordinary messages
-
--- queued: a send that is no decision, and whose receiver does not wait for it
-unfoldable pub queued-by : Tables → Event → ℕ
-queued-by T e = one-if (block-needed T e)
-
-unfoldable pub is-receive : (Wanted → Bool) → Event → Bool
-is-receive f e = call-is (λ to w. false) f false false (λ n. false) (λ n. false) (λ d. false) e
-
--- is the message or notice that is handed over, if there is one, an ordinary message?
-unfoldable pub is-message : Pulled Message → Bool
-is-message missing = false
-is-message (pulled m ms) = is-ordinary (m .kind)
-
--- received: a receive that hands an ordinary message over
-unfoldable pub received-by : Tables → Event → ℕ
-received-by T e = one-if (is-receive (λ w. is-message (pull (wanted-by (me (T .runner)) w) (T .messages))) e)
-
--- the entry of kind k of thread n
-abbrev pub entry-of : TrapKind → ℕ → Tables → Manager
-entry-of k n T = of-thread Unset (λ t. manager k (t .managers)) n (T .threads)
-
-unfoldable pub is-unset : Manager → Bool
-is-unset Unset = true
-is-unset (Set n) = false
-is-unset Gone = false
-
--- the set that an event ends: a decision 1, TERMINATE, a manager set again, a trap without a manager
-unfoldable pub ends : Tables → Event → List ℕ
-ends T Malformed = []
-ends T (ByRunner (Send to w)) = if decides (me (T .runner)) to T && not (w == 0) then ended-set (T .threads) to else []
-ends T (ByRunner (Receive w)) = []
-ends T (ByRunner CreateBrother) = []
-ends T (ByRunner CreateSon) = []
-ends T (ByRunner (Terminate Oneself)) = ended-set (T .threads) (me (T .runner))
-ends T (ByRunner (Terminate (Named n))) = ended-set (T .threads) n
-ends T (ByRunner (SetManager k n)) = if is-unset (entry-of k (me (T .runner)) T) then [] else ended-set (T .threads) (me (T .runner))
-ends T (ByRunner GetCpuTime) = []
-ends T (ByRunner WaitForClock) = []
-ends T (ByRunner (WaitForIo d)) = []
-ends T (ByRunner (Trap k c)) = by-manager (ended-set (T .threads) (me (T .runner))) (λ n. []) (entry-of k (me (T .runner)) T)
-ends T Tick = []
-ends T (Interrupt d w) = []
-
--- ordinary messages to or from members of a set
-unfoldable pub of-set : List ℕ → Tables → ℕ
-of-set set T = count (λ m. is-ordinary (m .kind) && (has (m .to) set || has (m .from) set)) (T .messages)
-
--- discarded: those to or from members of the ended set
-unfoldable pub discarded-by : Tables → Event → ℕ
-discarded-by T e = of-set (ends T e) T
+use Rattle.laws.specs.Refusals.{call-is, is-send, block-needed, lacks-block, the-ten}
+use Rattle.laws.proofs.Refusals.{accepted-exactly}
+use Rattle.laws.specs.Counts.{if-accepted, over-run}
 
 -- ---- the account of one event
 
@@ -225,15 +175,6 @@ stepped L T bytes =
     acted : refusal L T e ≡ 0 → Accounted L T (act T e .tables) (queued-by T e) (received-by T e) (discarded-by T e)
     acted a = unfold discarded-by in record { balance = act-balance T e; suffice = λ h. omega (arith, act-balance T e, block-free L T e a h) }
 
-abbrev pub queued-in : Limits → Tables → Input → ℕ
-queued-in L T es = over-run queued-by L T es
-
-abbrev pub received-in : Limits → Tables → Input → ℕ
-received-in L T es = over-run received-by L T es
-
-abbrev pub discarded-in : Limits → Tables → Input → ℕ
-discarded-in L T es = over-run discarded-by L T es
-
 -- ---- the laws
 
 -- Over any run: what was there and what is queued are what is received, what is discarded and what is there at the end.
@@ -247,10 +188,6 @@ pub blocks-suffice : (L : Limits) (T : Tables) (es : Input) → blocks-used T �
 unfolding run
 blocks-suffice L T [] h = h
 blocks-suffice L T (e ∷ es) h = blocks-suffice L (step L T e .tables) es (stepped L T e .suffice h)
-
--- the free blocks: the limit less the ordinary messages in inboxes
-abbrev pub blocks-free : Limits → Tables → ℕ
-blocks-free L T = L .blocks - blocks-used T
 
 -- A needed block is refused exactly if none is free.
 pub refused-without-block : (L : Limits) (T : Tables) → (no-block-free L T ≡ true) ↔ (blocks-free L T ≡ 0)

@@ -9,7 +9,8 @@ use borrow.Author.Tests.{eqb-true}
 use Rattle.rules.specs.Lists.{_==_, Pulled, missing, pulled, any, has}
 use Rattle.rules.specs.Numbers.{full-slice, beat-ticks}
 use Rattle.rules.specs.Words.{by-manager, by-runner}
-use Rattle.laws.proofs.Words.{Wanted, TrapKind, State, Running, Ready, Receiving, Clock, Device, Trapped, Answer, Nothing, Manager, Unset, Set, Gone, Parent, Thread, Message, Held, Runner, NoRunner, Runs, Target, Oneself, Named, Call, Send, Receive, CreateBrother, CreateSon, Terminate, SetManager, GetCpuTime, WaitForClock, WaitForIo, Trap, Event, Malformed, ByRunner, Tick, Interrupt}
+use Rattle.laws.specs.Calm.{is-tick}
+use Rattle.laws.specs.Words.{Wanted, TrapKind, State, Running, Ready, Receiving, Clock, Device, Trapped, Answer, Nothing, Manager, Unset, Set, Gone, Parent, Thread, Message, Held, Runner, NoRunner, Runs, Target, Oneself, Named, Call, Send, Receive, CreateBrother, CreateSon, Terminate, SetManager, GetCpuTime, WaitForClock, WaitForIo, Trap, Event, Malformed, ByRunner, Tick, Interrupt}
 use Rattle.rules.specs.Tables.{Tables, in-state, named, live, of-thread, change, manager, runs-as, me}
 use Rattle.rules.specs.States.{waits-for}
 use Rattle.rules.specs.Waking.{Outcome, _handing_, wake-those, accepts, queue, deliver, stop}
@@ -118,12 +119,6 @@ end-calm n T = record { goes = gone (T .runner) refl; queue = λ m h. go m h (ha
         stays (p .0) (omega (arith, k .1, p .1))
 
 -- ---- each event but the tick
-
-unfoldable pub is-tick : Event → Bool
-is-tick Malformed = false
-is-tick (ByRunner c) = false
-is-tick Tick = true
-is-tick (Interrupt d w) = false
 
 abbrev CalmTo : Tables → Outcome → Type 0
 CalmTo T o = Calm T (o .tables)

@@ -9,7 +9,8 @@ use lib.ListN.{length}
 use borrow.Author.Tests.{eqb-true, eq-eqb}
 use Rattle.rules.specs.Lists.{_==_, one-if, any, count, times, has}
 use Rattle.rules.specs.Words.{by-parent}
-use Rattle.laws.proofs.Words.{Parent, NoParent, ParentIs, Thread}
+use Rattle.laws.specs.Closure.{Closed}
+use Rattle.laws.specs.Words.{Parent, NoParent, ParentIs, Thread}
 use Rattle.rules.specs.Tables.{named}
 use Rattle.rules.specs.States.{awaits}
 use Rattle.rules.specs.Ending.{depends, grow, ended-set}
@@ -17,11 +18,6 @@ use Rattle.laws.proofs.Tests.{clash, and-left, and-right, _&_, or-cases
 use Rattle.laws.proofs.Tally.{count-add-le, count-length, keep-none, none-passes, any-member}
 use Rattle.laws.proofs.Members.{member-has, kept-has, has-kept, has-left, has-right, has-split, has-any}
 use Rattle.laws.proofs.Threads.{member-live}
-
--- ---- what the set is to be: a test on names that passes, with each name, its children and those trapped on it
-pub record Closed (p : ℕ → Bool) (ts : List Thread) : Type 0 where
-  pub children : (t : Thread) → List·Memᴰ t ts → by-parent false p (t .parent) ≡ true → p (t .name) ≡ true
-  pub trapped : (t : Thread) → List·Memᴰ t ts → (m : ℕ) → awaits m t ≡ true → p m ≡ true → p (t .name) ≡ true
 
 -- ---- the rounds
 

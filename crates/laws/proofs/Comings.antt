@@ -21,7 +21,8 @@ use Rattle.rules.specs.Interrupt.{interrupt}
 use Rattle.rules.specs.Requests.{next-name, create, terminate, set-over, wait-for-clock, take-held}
 use Rattle.rules.specs.Dispatch.{dispatch}
 use Rattle.rules.specs.Step.{serve, act}
-use Rattle.laws.proofs.Words.{Wanted, TrapKind, State, Running, Ready, Receiving, Clock, Device, Trapped, Answer, Nothing, Manager, Unset, Set, Gone, Parent, Thread, Message, Held, Oneself, Named, Call, Send, Receive, CreateBrother, CreateSon, Terminate, SetManager, GetCpuTime, WaitForClock, WaitForIo, Trap, Event, Malformed, ByRunner, Tick, Interrupt}
+use Rattle.laws.specs.Comings.{creates, NobodyComes}
+use Rattle.laws.specs.Words.{Wanted, TrapKind, State, Running, Ready, Receiving, Clock, Device, Trapped, Answer, Nothing, Manager, Unset, Set, Gone, Parent, Thread, Message, Held, Oneself, Named, Call, Send, Receive, CreateBrother, CreateSon, Terminate, SetManager, GetCpuTime, WaitForClock, WaitForIo, Trap, Event, Malformed, ByRunner, Tick, Interrupt}
 use Rattle.laws.proofs.Tests.{by-if, by-runs}
 use Rattle.laws.proofs.Members.{insert-new, insert-old, mem-insert}
 use Rattle.laws.proofs.Threads.{member-live, live-member, turned-live}
@@ -29,27 +30,6 @@ use Rattle.laws.proofs.Steps.{by-dispatch}
 use Rattle.laws.proofs.Ending.{origins}
 
 -- ---- what is said
-
--- request 1 or 2
-unfoldable pub creates : Event → Bool
-creates Malformed = false
-creates (ByRunner (Send n w)) = false
-creates (ByRunner (Receive w)) = false
-creates (ByRunner CreateBrother) = true
-creates (ByRunner CreateSon) = true
-creates (ByRunner (Terminate n)) = false
-creates (ByRunner (SetManager k n)) = false
-creates (ByRunner GetCpuTime) = false
-creates (ByRunner WaitForClock) = false
-creates (ByRunner (WaitForIo d)) = false
-creates (ByRunner (Trap k c)) = false
-creates Tick = false
-creates (Interrupt d w) = false
-
--- from tables T to U nobody comes, and the name given last stays
-pub record NobodyComes (T U : Tables) : Type 0 where
-  pub last : U .last ≡ T .last
-  pub before : (n : ℕ) → live n U ≡ true → live n T ≡ true
 
 -- where the threads and the name given last are the same
 aside : (T U : Tables) → U .last ≡ T .last → U .threads ≡ T .threads → NobodyComes T U

@@ -22,63 +22,17 @@ use Rattle.rules.specs.Interrupt.{held-for, interrupt}
 use Rattle.rules.specs.Requests.{next-name, create, terminate, set-over, wait-for-clock, take-held}
 use Rattle.rules.specs.Dispatch.{dispatch}
 use Rattle.rules.specs.Events.{decode}
-use Rattle.rules.specs.Refusals.{refusal}
 use Rattle.rules.specs.Step.{serve, act, step}
 use Rattle.rules.specs.Runs.{Input, run}
 use Rattle.rules.specs.TableRules.{table-rules}
-use Rattle.laws.proofs.Words.{TrapKind, State, Running, Ready, Receiving, Clock, Device, Trapped, Answer, Nothing, Result, Manager, Unset, Set, Gone, Parent, Thread, Message, Held, Runner, NoRunner, Runs, Oneself, Named, Call, Send, Receive, CreateBrother, CreateSon, Terminate, SetManager, GetCpuTime, WaitForClock, WaitForIo, Trap, Event, Malformed, ByRunner, Tick, Interrupt}
+use Rattle.laws.specs.Counts.{if-accepted, over-run, beats-by, ticks-by, own-ticks-by, beats-in, ticks-in, ticks-of, ticks-at, lives-through}
+use Rattle.laws.specs.Words.{TrapKind, State, Running, Ready, Receiving, Clock, Device, Trapped, Answer, Nothing, Result, Manager, Unset, Set, Gone, Parent, Thread, Message, Held, Runner, NoRunner, Runs, Oneself, Named, Call, Send, Receive, CreateBrother, CreateSon, Terminate, SetManager, GetCpuTime, WaitForClock, WaitForIo, Trap, Event, Malformed, ByRunner, Tick, Interrupt}
 use Rattle.laws.proofs.Tests.{by-if, by-runs, same?, and-left, and-right, _&_}
 use Rattle.laws.proofs.Tally.{count-insert, none-left, count-any, any-count}
 use Rattle.laws.proofs.Threads.{names-kept, turned, turned-name, put-name}
 use Rattle.laws.proofs.Steps.{by-step, by-dispatch}
 use Rattle.laws.proofs.Sound.{tested-ruled}
 use Rattle.laws.proofs.Kept.{rules-are-kept}
-
--- ---- sums along a run
-
--- what an event adds, if it is accepted
-abbrev pub if-accepted : (Tables → Event → ℕ) → Limits → Tables → List ℕ → ℕ
-if-accepted f L T bytes = if refusal L T (decode bytes) == 0 then f T (decode bytes) else 0
-
-unfoldable pub over-run : (Tables → Event → ℕ) → Limits → Tables → Input → ℕ
-over-run f L T [] = 0
-over-run f L T (e ∷ es) = if-accepted f L T e + over-run f L (step L T e .tables) es
-
--- ---- the counts
-
--- an accepted tick that is a twentieth
-unfoldable pub beats-by : Tables → Event → ℕ
-beats-by T Malformed = 0
-beats-by T (ByRunner c) = 0
-beats-by T Tick = one-if (T .since + 1 == beat-ticks)
-beats-by T (Interrupt d w) = 0
-
--- an accepted tick
-unfoldable pub ticks-by : Tables → Event → ℕ
-ticks-by T Malformed = 0
-ticks-by T (ByRunner c) = 0
-ticks-by T Tick = 1
-ticks-by T (Interrupt d w) = 0
-
--- an accepted tick while n is the runner
-unfoldable pub own-ticks-by : ℕ → Tables → Event → ℕ
-own-ticks-by n T Malformed = 0
-own-ticks-by n T (ByRunner c) = 0
-own-ticks-by n T Tick = one-if (runs-as n (T .runner))
-own-ticks-by n T (Interrupt d w) = 0
-
-abbrev pub beats-in : Limits → Tables → Input → ℕ
-beats-in L T es = over-run beats-by L T es
-
-abbrev pub ticks-in : Limits → Tables → Input → ℕ
-ticks-in L T es = over-run ticks-by L T es
-
-abbrev pub ticks-of : Limits → ℕ → Tables → Input → ℕ
-ticks-of L n T es = over-run (own-ticks-by n) L T es
-
--- the tick count of thread n
-abbrev pub ticks-at : ℕ → List Thread → ℕ
-ticks-at n ts = of-thread 0 (λ t. t .ticks) n ts
 
 -- ---- tick counts in a changed list of threads
 
@@ -347,11 +301,6 @@ ticks-counted L n T (e ∷ es) h l =
     let later = and-right (count (named n) (T .threads) == 1) _ h in
     let C : ticks-at n (step L T e .tables .threads) ≡ (ticks-at n (T .threads) + if-accepted (own-ticks-by n) L T e) % wrap = stepped n L T e .count l (one-first L n T (e ∷ es) h) (one-first L n (step L T e .tables) es later) in
     omega (arith, ticks-counted L n (step L T e .tables) es later (omega arith))
-
--- a thread that is live at every point of a run
-unfoldable pub lives-through : Limits → ℕ → Tables → Input → Bool
-lives-through L n T [] = live n T
-lives-through L n T (e ∷ es) = live n T && lives-through L n (step L T e .tables) es
 
 module _ (L : Limits) (n : ℕ) (l : L .threads < names) where
   one-of : (T : Tables) → table-rules L T ≡ true → live n T ≡ true → (count (named n) (T .threads) == 1) ≡ true

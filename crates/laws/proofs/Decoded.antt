@@ -9,34 +9,14 @@ use lib.ListN.{length, take, drop, getD, length-drop}
 use borrow.Author.Tests.{eqb-true, ltb-true}
 use Rattle.rules.specs.Lists.{_==_, all, is-byte, number}
 use Rattle.rules.specs.Numbers.{devices, wrap}
-use Rattle.laws.proofs.Words.{Call, Send, Receive, CreateBrother, CreateSon, Terminate, SetManager, GetCpuTime, WaitForClock, WaitForIo, Trap, Event, Malformed, ByRunner, Tick, Interrupt}
 use Rattle.rules.specs.Tags.{facts-in, tag-facts, rule-in, argument-rule, meets}
 use Rattle.rules.specs.Pick.{pick}
 use Rattle.rules.specs.Events.{asked-in, request, trap-of, interrupt-of, meaning, field-of, decode}
+use Rattle.laws.specs.Decoded.{ProperCall, Proper}
 use Rattle.laws.proofs.Pick.{pick-foremost}
 use Rattle.laws.proofs.Tests.{by-if, and-left, and-right}
 use Rattle.laws.proofs.Tally.{all-drop}
 use Rattle.laws.proofs.Bytes.{number-below}
-
--- ---- words are of 32 bits, devices are 0 to 47
-
-unfoldable pub ProperCall : Call → Type 0
-ProperCall (Send to w) = w < wrap
-ProperCall (Receive f) = Unit {0}
-ProperCall CreateBrother = Unit {0}
-ProperCall CreateSon = Unit {0}
-ProperCall (Terminate n) = Unit {0}
-ProperCall (SetManager k n) = Unit {0}
-ProperCall GetCpuTime = Unit {0}
-ProperCall WaitForClock = Unit {0}
-ProperCall (WaitForIo d) = d < devices
-ProperCall (Trap k c) = c < wrap
-
-unfoldable pub Proper : Event → Type 0
-Proper Malformed = Unit {0}
-Proper (ByRunner c) = ProperCall c
-Proper Tick = Unit {0}
-Proper (Interrupt d w) = (d < devices) × (w < wrap)
 
 -- ---- four bytes make 32 bits
 

@@ -9,12 +9,12 @@ use lib.Dec.{ltb}
 use lib.ListN.{length}
 use borrow.Author.Tests.{eqb-true, eqb-false, eq-eqb, ne-eqb, ltb-true, lt-ltb, le-ltb}
 use Rattle.rules.specs.Lists.{if_then_else_, _==_, one-if, any, count}
-use Rattle.laws.proofs.Words.{Parent, NoParent, ParentIs, Thread}
+use Rattle.laws.specs.Words.{Parent, NoParent, ParentIs, Thread}
 use Rattle.rules.specs.Tables.{Tables, named}
 use Rattle.rules.specs.TableRules.{has-parent, climbs, parents-right}
 use Rattle.laws.proofs.Tests.{by-if, same?, and-left, and-right, _&_}
 use Rattle.laws.proofs.Tally.{count-strict, length-count, any-member, member-any, all-of, all-at, any-only}
-use Rattle.laws.proofs.Types.{Family}
+use Rattle.laws.specs.Types.{Family}
 use Rattle.laws.proofs.Threads.{live-member}
 
 -- ---- from the type to the test: of the threads nearer to the top there is one fewer at each step

@@ -8,7 +8,7 @@ use Rattle.rules.specs.Pick.{pick}
 use Rattle.rules.specs.Step.{Stepped, step}
 use Rattle.rules.specs.Dump.{dump}
 use Rattle.rules.specs.Load.{Loaded, load}
-use Rattle.laws.proofs.Words.{Picked}
+use Rattle.laws.specs.Words.{Picked}
 
 -- Two results that equal the same thing agree.
 pub determined : {A : Type 0} {x y z : A} → x ≡ z → y ≡ z → x ≡ y

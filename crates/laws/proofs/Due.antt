@@ -9,7 +9,8 @@ use native.Mathlib.Omega.{arith}
 use borrow.Author.Tests.{ne-eqb, eq-eqb}
 use Rattle.rules.specs.Lists.{if_then_else_, _==_, one-if, any, has, count, insert, Pulled, missing, pulled, pull}
 use Rattle.rules.specs.Numbers.{Limits, names, full-slice, beat-ticks}
-use Rattle.laws.proofs.Words.{State, Running, Ready, Receiving, Clock, Device, Trapped, Answer, Nothing, Result, Manager, Unset, Set, Gone, Parent, Thread, Message, Held, Runner, NoRunner, Runs, Oneself, Named, Call, Send, Receive, CreateBrother, CreateSon, Terminate, SetManager, GetCpuTime, WaitForClock, WaitForIo, Trap, Event, Malformed, ByRunner, Tick, Interrupt}
+use Rattle.laws.specs.Due.{ThereIs, Becomes, it-waits, it-runs, it-ended, Until, so-far, longer, is-run, ends}
+use Rattle.laws.specs.Words.{State, Running, Ready, Receiving, Clock, Device, Trapped, Answer, Nothing, Result, Manager, Unset, Set, Gone, Parent, Thread, Message, Held, Runner, NoRunner, Runs, Oneself, Named, Call, Send, Receive, CreateBrother, CreateSon, Terminate, SetManager, GetCpuTime, WaitForClock, WaitForIo, Trap, Event, Malformed, ByRunner, Tick, Interrupt}
 use Rattle.rules.specs.Words.{by-manager, by-runner}
 use Rattle.rules.specs.Tables.{Tables, with-time, with-clock, with-messages, in-state, with-ticks, with-managers, named, live, of-thread, change, manager, set-entry, runs-as, me}
 use Rattle.rules.specs.States.{is-running, on-clock, receives, at-device, waits-for, trapped-on}
@@ -30,7 +31,7 @@ use Rattle.rules.specs.TableRules.{table-rules}
 use Rattle.laws.proofs.Tests.{by-if, by-runs, same?, and-false, clash}
 use Rattle.laws.proofs.Tally.{none-any}
 use Rattle.laws.proofs.Members.{map-mem}
-use Rattle.laws.proofs.Types.{Inv, Ruled}
+use Rattle.laws.specs.Types.{Inv, Ruled}
 use Rattle.laws.proofs.Threads.{member-live, of-only, turned-live, here-only}
 use Rattle.laws.proofs.Steps.{called}
 use Rattle.laws.proofs.Places.{runs-self}
@@ -38,32 +39,6 @@ use Rattle.laws.proofs.PlacesKept.{runner-live, act-inv}
 use Rattle.laws.proofs.Sound.{tested-ruled}
 use Rattle.laws.proofs.Kept.{step-ruled}
 use Rattle.laws.proofs.Ending.{survivors, ending-forgets}
-
--- ---- what is said
-
--- Among these threads is one of name n in state s with answer a.
-pub record ThereIs (ts : List Thread) (n : ℕ) (s : State) (a : Answer) : Type 0 where
-  pub thread : Thread
-  pub there : List·Memᴰ thread ts
-  pub name : thread .name ≡ n
-  pub state : thread .state ≡ s
-  pub answer : thread .answer ≡ a
-
--- What an event does to a thread n that is ready with the answer a: it still waits, ready with this answer, and does not run; or it
--- runs, is handed this answer, and has none of its own any more; or it has ended, and does not run.
-pub data Becomes (L : Limits) (T : Tables) (bytes : List ℕ) (n : ℕ) (a : Answer) : Type 0 where
-  it-waits : ThereIs (step L T bytes .tables .threads) n Ready a → step L T bytes .decision .runner ≢ n → Becomes L T bytes n a
-  it-runs : step L T bytes .decision .runner ≡ n → step L T bytes .decision .answer ≡ a → ThereIs (step L T bytes .tables .threads) n Running Nothing → Becomes L T bytes n a
-  it-ended : live n (step L T bytes .tables) ≡ false → step L T bytes .decision .runner ≢ n → Becomes L T bytes n a
-
--- The same along a run, from tables T on: thread n is ready with the answer a, event after event, until an event runs it with this
--- answer, or ends it, or the events are over.
-pub data Until (L : Limits) (n : ℕ) (a : Answer) : Tables → Input → Type 0 where
-  so-far : (T : Tables) → ThereIs (T .threads) n Ready a → Until L n a T []
-  longer : (T : Tables) (e : List ℕ) (es : Input) → ThereIs (T .threads) n Ready a → step L T e .decision .runner ≢ n → Until L n a (step L T e .tables) es → Until L n a T (e ∷ es)
-  is-run : (T : Tables) (e : List ℕ) (es : Input) → ThereIs (T .threads) n Ready a →
-      step L T e .decision .runner ≡ n → step L T e .decision .answer ≡ a → ThereIs (step L T e .tables .threads) n Running Nothing → Until L n a T (e ∷ es)
-  ends : (T : Tables) (e : List ℕ) (es : Input) → ThereIs (T .threads) n Ready a → live n (step L T e .tables) ≡ false → step L T e .decision .runner ≢ n → Until L n a T (e ∷ es)
 
 -- ---- no event touches a ready thread
 

@@ -11,7 +11,7 @@ use borrow.Author.Tests.{ne-eqb, eq-eqb, le-leb, ltb-true, lt-ltb}
 use Rattle.rules.specs.Lists.{if_then_else_, _==_, all, any, keep, each, times-in, same, is-byte, number, two-bytes, four-bytes}
 use Rattle.rules.specs.Numbers.{Limits, names, service, nobody, devices, wrap}
 use Rattle.rules.specs.Words.{by-state, by-wanted, by-manager, by-parent, by-runner}
-use Rattle.laws.proofs.Words.{Wanted, Anybody, Only, TrapKind, Program, Tlb, SysBp, State, Running, Ready, Receiving, Clock, Device, Trapped, Answer, Nothing, FromMessage, FromNotice, SenderGone, Result, Manager, Unset, Set, Gone, Managers, Parent, NoParent, ParentIs, Thread, MessageKind, Ordinary, Notice, Message, Held, Runner, NoRunner, Runs, Status, Working, Idle, Halted, Panicked}
+use Rattle.laws.specs.Words.{Wanted, Anybody, Only, TrapKind, Program, Tlb, SysBp, State, Running, Ready, Receiving, Clock, Device, Trapped, Answer, Nothing, FromMessage, FromNotice, SenderGone, Result, Manager, Unset, Set, Gone, Managers, Parent, NoParent, ParentIs, Thread, MessageKind, Ordinary, Notice, Message, Held, Runner, NoRunner, Runs, Status, Working, Idle, Halted, Panicked}
 use Rattle.rules.specs.Tables.{Tables, named, manager, me}
 use Rattle.rules.specs.States.{is-ready, on-clock}
 use Rattle.rules.specs.Dispatch.{status}
@@ -24,9 +24,10 @@ use Rattle.rules.specs.Load.{Field, as-field, fields-of, runner-from, parent-fr
 use Rattle.laws.proofs.Tests.{by-if, same?, and-left, and-right, _&_}
 use Rattle.laws.proofs.Tally.{all-of, all-both, each-append, all-each}
 use Rattle.laws.proofs.Members.{map-back, member-times, same-refl, same-true}
-use Rattle.laws.proofs.Batch.{one-field, joined, cut-is-the-only-one}
+use Rattle.laws.specs.Batch.{one-field, joined}
+use Rattle.laws.proofs.Batch.{cut-is-the-only-one}
 use Rattle.laws.proofs.Bytes.{two-are-bytes, four-are-bytes, two-back, four-back}
-use Rattle.laws.proofs.Types.{here, Entry, Detail, Ruled}
+use Rattle.laws.specs.Types.{here, Entry, Detail, Ruled}
 use Rattle.laws.proofs.Threads.{member-live, here-live}
 use Rattle.laws.proofs.PlacesKept.{runner-live}
 use Rattle.laws.proofs.Sound.{tested-ruled}

@@ -9,7 +9,7 @@ use lib.ListN.{length, length-append, length-map}
 use borrow.Author.Tests.{eqb-true}
 use Rattle.rules.specs.Lists.{_==_, keep, count, times-in}
 use Rattle.rules.specs.Numbers.{Limits, small, names, devices}
-use Rattle.laws.proofs.Words.{Thread, Message, Held, Runner}
+use Rattle.laws.specs.Words.{Thread, Message, Held, Runner}
 use Rattle.rules.specs.Tables.{Tables, named}
 use Rattle.rules.specs.Waking.{is-ordinary, notice-of}
 use Rattle.rules.specs.TableRules.{table-rules}
@@ -18,7 +18,7 @@ use Rattle.rules.specs.Dump.{field, head-value, thread-value, message-value, he
 use Rattle.laws.proofs.Tests.{same?, same-turned, and-right}
 use Rattle.laws.proofs.Tally.{count-append, count-map, count-same, count-not, count-keep, length-keep, any-count, count-any, any-member, length-each}
 use Rattle.laws.proofs.Ordered.{up-few}
-use Rattle.laws.proofs.Types.{Places, Good, Ruled}
+use Rattle.laws.specs.Types.{Places, Good, Ruled}
 use Rattle.laws.proofs.Queues.{no-longer}
 use Rattle.laws.proofs.Threads.{member-live, apart}
 use Rattle.laws.proofs.Sound.{tested-ruled}

@@ -7,7 +7,8 @@ use mathlib.Core.List.{List, map, List·Memᴰ, List·Memᴰ·append-cases}
 use native.Mathlib.Omega.{arith}
 use Rattle.rules.specs.Lists.{if_then_else_, keep, has}
 use Rattle.rules.specs.Words.{by-parent, by-runner}
-use Rattle.laws.proofs.Words.{Anybody, Only, TrapKind, Program, Tlb, SysBp, State, Running, Ready, Receiving, Clock, Device, Trapped, SenderGone, Manager, Unset, Set, Gone, Managers, ParentIs, Thread, Message, Runner, NoRunner, Runs}
+use Rattle.laws.specs.Ending.{Forgotten, Survives}
+use Rattle.laws.specs.Words.{Anybody, Only, TrapKind, Program, Tlb, SysBp, State, Running, Ready, Receiving, Clock, Device, Trapped, SenderGone, Manager, Unset, Set, Gone, Managers, ParentIs, Thread, Message, Runner, NoRunner, Runs}
 use Rattle.rules.specs.Tables.{Tables, in-state, manager}
 use Rattle.rules.specs.States.{awaits}
 use Rattle.rules.specs.Waking.{wake-those}
@@ -15,31 +16,8 @@ use Rattle.rules.specs.Ending.{ended-set, gone-if, without-managers, remove, mi
 use Rattle.laws.proofs.Tests.{by-if, clash, or-false, not-true}
 use Rattle.laws.proofs.Members.{mem-keep, keep-mem, mem-map, map-mem}
 use Rattle.laws.proofs.Threads.{left}
-use Rattle.laws.proofs.Closure.{Closed, ended-set-closed}
-
--- ---- what is said of the tables after an ending
-
--- no place of the tables names a member of the set
-pub record Forgotten (set : List ℕ) (T : Tables) : Type 0 where
-  pub threads : (t : Thread) → List·Memᴰ t (T .threads) → has (t .name) set ≡ false
-  pub parents : (t : Thread) → List·Memᴰ t (T .threads) → (n : ℕ) → t .parent ≡ ParentIs n → has n set ≡ false
-  pub wanted : (t : Thread) → List·Memᴰ t (T .threads) → (n : ℕ) → t .state ≡ Receiving (Only n) → has n set ≡ false
-  pub managers : (t : Thread) → List·Memᴰ t (T .threads) → (k : TrapKind) (n : ℕ) → manager k (t .managers) ≡ Set n → has n set ≡ false
-  pub senders : (m : Message) → List·Memᴰ m (T .messages) → has (m .from) set ≡ false
-  pub receivers : (m : Message) → List·Memᴰ m (T .messages) → has (m .to) set ≡ false
-  pub ready : (n : ℕ) → List·Memᴰ n (T .ready) → has n set ≡ false
-  pub clock : (n : ℕ) → List·Memᴰ n (T .clock) → has n set ≡ false
-  pub runner : (n s : ℕ) → T .runner ≡ Runs n s → has n set ≡ false
-
--- u is what has become of thread t, who is no member: a receiver from a member is told so, others are in the same state
--- with the same answer; manager entries that name a member are gone
-pub record Survives (set : List ℕ) (t u : Thread) : Type 0 where
-  pub name : u .name ≡ t .name
-  pub parent : u .parent ≡ t .parent
-  pub ticks : u .ticks ≡ t .ticks
-  pub managers : (k : TrapKind) → manager k (u .managers) ≡ gone-if set (manager k (t .managers))
-  pub same : ((n : ℕ) → t .state ≡ Receiving (Only n) → has n set ≡ false) → (u .state ≡ t .state) × (u .answer ≡ t .answer)
-  pub told : (n : ℕ) → t .state ≡ Receiving (Only n) → has n set ≡ true → (u .state ≡ Ready) × (u .answer ≡ SenderGone n)
+use Rattle.laws.specs.Closure.{Closed}
+use Rattle.laws.proofs.Closure.{ended-set-closed}
 
 -- ---- the threads that stay, for any set
 

@@ -9,7 +9,7 @@ use borrow.Author.Tests.{eqb-true, eq-eqb, lt-ltb}
 use Rattle.rules.specs.Lists.{_==_, any, count, has}
 use Rattle.rules.specs.Numbers.{Limits, names}
 use Rattle.rules.specs.Words.{by-manager}
-use Rattle.laws.proofs.Words.{Anybody, Only, TrapKind, State, Running, Ready, Receiving, Clock, Device, Trapped, Manager, Unset, Set, Gone, Managers, Thread, Message, Held}
+use Rattle.laws.specs.Words.{Anybody, Only, TrapKind, State, Running, Ready, Receiving, Clock, Device, Trapped, Manager, Unset, Set, Gone, Managers, Thread, Message, Held}
 use Rattle.rules.specs.Tables.{Tables, named, live, manager}
 use Rattle.rules.specs.States.{is-ready, at-device, waits-for, trapped-on, awaits}
 use Rattle.rules.specs.Waking.{wake-those, is-ordinary, notice-of}
@@ -19,9 +19,10 @@ use Rattle.rules.specs.TableRules.{answer-in-range}
 use Rattle.laws.proofs.Tests.{by-if, clash, same?}
 use Rattle.laws.proofs.Tally.{count-map, count-less, count-keep-le, any-count, count-any, member-any, any-fewer, all-left}
 use Rattle.laws.proofs.Ordered.{keep-less, up-less, up-map}
-use Rattle.laws.proofs.Types.{Inv, Entry, Detail, Right, Family, Good, Fits}
+use Rattle.laws.specs.Types.{Inv, Entry, Detail, Right, Family, Good, Fits}
 use Rattle.laws.proofs.Threads.{live-member, names-kept, left, put-name}
-use Rattle.laws.proofs.Closure.{Closed, ended-set-closed}
+use Rattle.laws.specs.Closure.{Closed}
+use Rattle.laws.proofs.Closure.{ended-set-closed}
 use Rattle.laws.proofs.Ending.{freed, stay, stay-messages, gone-all, gone-manager, origin, message-left, parent-left, awaited-left}
 use Rattle.laws.proofs.Right.{less-order}
 

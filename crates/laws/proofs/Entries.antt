@@ -25,10 +25,11 @@ use Rattle.rules.specs.Dispatch.{dispatch}
 use Rattle.rules.specs.Events.{decode}
 use Rattle.rules.specs.Step.{serve, act, step}
 use Rattle.rules.specs.TableRules.{table-rules}
-use Rattle.laws.proofs.Words.{TrapKind, Program, Tlb, SysBp, State, Running, Ready, Receiving, Clock, Device, Trapped, Answer, Nothing, Result, Manager, Unset, Set, Gone, Parent, Thread, Message, Held, Runs, Oneself, Named, Call, Send, Receive, CreateBrother, CreateSon, Terminate, SetManager, GetCpuTime, WaitForClock, WaitForIo, Trap, Event, Malformed, ByRunner, Tick, Interrupt}
+use Rattle.laws.specs.Entries.{Fate, stays, goes, is-set}
+use Rattle.laws.specs.Words.{TrapKind, Program, Tlb, SysBp, State, Running, Ready, Receiving, Clock, Device, Trapped, Answer, Nothing, Result, Manager, Unset, Set, Gone, Parent, Thread, Message, Held, Runs, Oneself, Named, Call, Send, Receive, CreateBrother, CreateSon, Terminate, SetManager, GetCpuTime, WaitForClock, WaitForIo, Trap, Event, Malformed, ByRunner, Tick, Interrupt}
 use Rattle.laws.proofs.Tests.{by-if, by-runs, clash, same?}
 use Rattle.laws.proofs.Tally.{none-any}
-use Rattle.laws.proofs.Types.{Entry}
+use Rattle.laws.specs.Types.{Entry}
 use Rattle.laws.proofs.Threads.{live-member, of-only, left, turned, turned-name, turned-live}
 use Rattle.laws.proofs.Steps.{by-step, by-dispatch}
 use Rattle.laws.proofs.Single.{of-none}
@@ -36,7 +37,8 @@ use Rattle.laws.proofs.Names.{name-free}
 use Rattle.laws.proofs.Ending.{gone-all, gone-manager, origins, ending-forgets}
 use Rattle.laws.proofs.Sound.{tested-ruled}
 use Rattle.laws.proofs.Kept.{rules-are-kept}
-use Rattle.laws.proofs.Requests.{entry, requester, put, put-sets, put-keeps}
+use Rattle.laws.specs.Requests.{entry, requester}
+use Rattle.laws.proofs.Requests.{put, put-sets, put-keeps}
 
 -- ---- an ending
 
@@ -105,13 +107,6 @@ module _ (k : TrapKind) (n : ℕ) where
       (λ _. rw d)
 
 -- ---- what becomes of an entry
-
--- the entry of thread n for a kind, over an event: it stays; or it named a thread that has ended, and is gone; or it was unset, and its
--- thread has set it
-pub data Fate (k : TrapKind) (n : ℕ) (T : Tables) (e : Event) (U : Tables) : Type 0 where
-  stays : entry k n (U .threads) ≡ entry k n (T .threads) → Fate k n T e U
-  goes : (m : ℕ) → entry k n (T .threads) ≡ Set m → live m U ≡ false → entry k n (U .threads) ≡ Gone → Fate k n T e U
-  is-set : (x : ℕ) → entry k n (T .threads) ≡ Unset → entry k n (U .threads) ≡ Set x → e ≡ ByRunner (SetManager k x) → requester T ≡ n → Fate k n T e U
 
 -- of a thread that is live before and after
 record Fared (k : TrapKind) (n : ℕ) (T : Tables) (e : Event) (U : Tables) : Type 0 where

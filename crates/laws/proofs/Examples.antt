@@ -1,37 +1,17 @@
 -- Runs of the rules, computed: an answer that is due may name a thread that has ended; and the incident, in which no late answer is handed over.
-use Prim.Native.Nat.{ℕ}
 use mathlib.Core.Path.{_≡_, refl}
 use mathlib.Core.Bool.{false}
-use mathlib.Core.List.{[], _∷_, _++_}
+use mathlib.Core.List.{[], _∷_}
 use Rattle.rules.specs.Lists.{any, has}
 use Rattle.rules.specs.Numbers.{small}
-use Rattle.rules.specs.Tables.{Tables, live, of-thread, start}
-use Rattle.rules.specs.Runs.{Input, run, lines}
-use Rattle.rules.specs.Benches.{to, from, ask, trapping, interrupting}
+use Rattle.rules.specs.Tables.{live, start}
+use Rattle.rules.specs.Runs.{run, lines}
+use Rattle.rules.specs.Benches.{from}
 use Rattle.rules.specs.Opened.{opened}
-use Rattle.laws.proofs.Words.{Answer, Nothing, FromMessage, FromNotice, SenderGone}
+use Rattle.laws.specs.Examples.{due, message-of-the-ended, notice-of-the-ended, end-of-the-sender, incident}
+use Rattle.laws.specs.Words.{FromMessage, FromNotice, SenderGone}
 
 -- ---- "An answer already due to a thread stays, even if its sender has ended."
-
--- the answer that is due to thread n
-abbrev due : ℕ → Tables → Answer
-due n T = of-thread Nothing (λ t. t .answer) n (T .threads)
-
--- thread 0 makes 1 and 2, which wait for the processor in this order
-abbrev two-sons : Input
-two-sons = ask 2 0 ∷ ask 2 0 ∷ []
-
--- 0 receives from anybody; 1 sends it a message and ends. 2 runs, and 0 is ready.
-abbrev message-of-the-ended : Input
-message-of-the-ended = two-sons ++ (from 255 ∷ to 0 7 ∷ ask 3 255 ∷ [])
-
--- 0 receives from anybody; 1 takes it as its manager and traps; 2 ends 1.
-abbrev notice-of-the-ended : Input
-notice-of-the-ended = two-sons ++ (from 255 ∷ ask 4 0 ∷ trapping 0 10 ∷ ask 3 1 ∷ [])
-
--- 0 receives from 1, which ends.
-abbrev end-of-the-sender : Input
-end-of-the-sender = two-sons ++ (from 1 ∷ ask 3 255 ∷ [])
 
 -- The exception of `nothing-names-the-ended` is needed: in each of these runs 1 has ended, and an answer that names it is due to 0. It is handed
 -- over when 2 waits.
@@ -47,23 +27,6 @@ unfolding opened
 answers-due-may-name-the-ended = (refl, refl, refl, refl, refl, refl, refl)
 
 -- ---- the incident
-
--- Thread 0 is the desk. It makes the store, 1, and a fetch, 2, and waits for a key of terminal 0 (device 33).
--- The store waits for a question. The fetch asks for revision 40 and waits for the store's answer. The store takes the question and waits for its disk
--- (device 3). Nobody can run.
-abbrev asked : Input
-asked = ask 2 0 ∷ ask 2 0 ∷ ask 9 33 ∷ from 255 ∷ to 1 40 ∷ from 1 ∷ ask 9 3 ∷ []
-
--- A key is pressed: the desk ends the fetch, makes another, and waits for the next key. The new fetch asks for revision 41 and waits.
-abbrev asked-anew : Input
-asked-anew = interrupting 8589934592 27 ∷ ask 3 2 ∷ ask 2 0 ∷ ask 9 33 ∷ to 1 41 ∷ from 1 ∷ []
-
--- The disk is done: the store answers the first fetch, 2, with the word 4000, takes the next question, answers that with 4100 and waits.
-abbrev answered : Input
-answered = interrupting 8 0 ∷ to 2 4000 ∷ from 255 ∷ to 3 4100 ∷ from 255 ∷ []
-
-abbrev incident : Input
-incident = asked ++ (asked-anew ++ answered)
 
 -- The new fetch has another name than the ended one: 3. The late answer is refused with 4, and nobody is handed it. The new fetch is handed the answer to its own question.
 pub the-incident :

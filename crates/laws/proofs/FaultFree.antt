@@ -21,12 +21,12 @@ use Rattle.rules.specs.Fields.{complete}
 use Rattle.rules.specs.Dump.{head-value, thread-value, message-value, held-value, dump}
 use Rattle.rules.specs.Load.{Field, fields-of, at, runner-from, parent-from, state-from, answer-from, thread-from}
 use Rattle.rules.specs.Faults.{Placed, placed, wrong-length, ends-badly, faults-15, faults-16, is-name, status-fits, runner-fits, state-fits, answer-fits, head-fits, thread-fits, message-fits, value-fits, out-of-range, faults-17, entry-lives, wanted-lives, head-lives, thread-lives, message-lives, value-lives, names-nobody, faults-18}
-use Rattle.laws.proofs.Words.{TrapKind, Program, Tlb, SysBp, State, Running, Ready, Receiving, Clock, Device, Trapped, Answer, Nothing, FromMessage, FromNotice, SenderGone, Result, Anybody, Only, Manager, Unset, Set, Gone, Managers, Parent, NoParent, ParentIs, Thread, Message, Held, Runner, NoRunner, Runs, Status, Working, Idle, Halted, Panicked}
+use Rattle.laws.specs.Words.{TrapKind, Program, Tlb, SysBp, State, Running, Ready, Receiving, Clock, Device, Trapped, Answer, Nothing, FromMessage, FromNotice, SenderGone, Result, Anybody, Only, Manager, Unset, Set, Gone, Managers, Parent, NoParent, ParentIs, Thread, Message, Held, Runner, NoRunner, Runs, Status, Working, Idle, Halted, Panicked}
 use Rattle.laws.proofs.Tests.{by-runs, and-right, _&_, and-false, same?, not-true}
 use Rattle.laws.proofs.Tally.{all-of, all-at, all-both}
 use Rattle.laws.proofs.Members.{map-mem, member-has, member-times}
 use Rattle.laws.proofs.Bytes.{four-back}
-use Rattle.laws.proofs.Types.{here, Entry, Detail, Ruled}
+use Rattle.laws.specs.Types.{here, Entry, Detail, Ruled}
 use Rattle.laws.proofs.Threads.{here-live}
 use Rattle.laws.proofs.PlacesKept.{runner-live}
 use Rattle.laws.proofs.Sound.{tested-ruled}

@@ -11,19 +11,21 @@ use borrow.Author.Tests.{eqb-true, eq-eqb, lt-ltb}
 use Rattle.rules.specs.Lists.{_==_, all, keep, each, is-byte}
 use Rattle.rules.specs.Numbers.{Limits, names, full-slice, beat-ticks, devices, wrap}
 use Rattle.rules.specs.Words.{by-state, by-wanted, by-manager, by-parent, by-runner}
-use Rattle.rules.specs.Tables.{Tables, live}
+use Rattle.rules.specs.Tables.{live}
 use Rattle.rules.specs.Fields.{whole, complete, field-size}
 use Rattle.rules.specs.Tags.{dump-facts-in, dump-facts}
-use Rattle.rules.specs.TableRules.{state-in-range, answer-in-range, manager-set, ranges, wanted-live, trapped-right}
+use Rattle.rules.specs.TableRules.{state-in-range, answer-in-range, manager-set, wanted-live}
 use Rattle.rules.specs.Codes.{slice-code, answer-numbers, state-numbers}
 use Rattle.rules.specs.Load.{Field, as-field, fields-of, told, tables-from, at, word-at, runner-from, state-from, answer-from, thread-from, message-from, held-from, values-of, value-of}
 use Rattle.rules.specs.Faults.{Placed, placed-from, placed, wrong-length, faults-15, faults-17, faults-18, is-name, status-fits, runner-fits, state-fits, answer-fits, head-fits, thread-fits, value-fits, out-of-range, wanted-lives, entries-live, head-lives, thread-lives, message-lives, value-lives, names-nobody, verdict}
-use Rattle.laws.proofs.Words.{Thread, Message, Held}
+use Rattle.laws.specs.FaultTold.{InRange, Alive}
+use Rattle.laws.specs.Words.{Thread, Message, Held}
 use Rattle.laws.proofs.Tests.{and-left, and-right, _&_, three, four, not-false}
 use Rattle.laws.proofs.Tally.{all-of, all-drop, all-each}
 use Rattle.laws.proofs.Members.{mem-keep, keep-mem, mem-map, map-mem, has-member}
 use Rattle.laws.proofs.Bytes.{number-below}
-use Rattle.laws.proofs.Batch.{past, by-fields, complete-none, complete-first}
+use Rattle.laws.specs.Batch.{past}
+use Rattle.laws.proofs.Batch.{by-fields, complete-none, complete-first}
 use Rattle.laws.proofs.Offsets.{none-exactly}
 use Rattle.laws.proofs.Faults.{free-of-15, refused-18, refused-19}
 
@@ -146,13 +148,6 @@ answer-fit kind sender w h =
     let a = answer-from kind sender w in
     four (kind == answer-numbers a .kind) (sender == answer-numbers a .sender) (w == answer-numbers a .word) (answer-in-range a) h .3
 
--- "every value is in its range": names, slice and answers too
-pub record InRange (T : Tables) : Type 0 where
-  pub values : ranges T ≡ true
-  pub known : all (λ t. ltb (t .name) names) (T .threads) ≡ true
-  pub slice : by-runner true (λ n s. ltb n names && leb 1 s && leb s full-slice) (T .runner) ≡ true
-  pub answers : all (λ t. answer-in-range (t .answer)) (T .threads) ≡ true
-
 module _ (bytes : List ℕ) (b : all is-byte bytes ≡ true) (none-15 : faults-15 bytes ≡ []) (none-17 : faults-17 bytes ≡ []) where
   value-bytes : (n : ℕ) (v : List ℕ) → List·Memᴰ v (values-of n (fields-of bytes)) → all is-byte v ≡ true
   unfolding fields-of
@@ -220,19 +215,6 @@ module _ (bytes : List ℕ) (b : all is-byte bytes ≡ true) (none-15 : faults-1
   }
 
 -- ---- live names
-
--- "a name not live where 01 asks for one": the runner and the queues, parents, names wanted and set, a trapped thread's manager, senders and receivers
-pub record Alive (T : Tables) : Type 0 where
-  pub runner : by-runner true (λ n s. live n T) (T .runner) ≡ true
-  pub ready : all (λ n. live n T) (T .ready) ≡ true
-  pub clock : all (λ n. live n T) (T .clock) ≡ true
-  pub parents : all (λ t. by-parent true (λ n. live n T) (t .parent)) (T .threads) ≡ true
-  pub wanted : all (λ t. wanted-live T (t .state)) (T .threads) ≡ true
-  pub program : all (λ t. by-manager true (λ n. live n T) (t .managers .program)) (T .threads) ≡ true
-  pub tlb : all (λ t. by-manager true (λ n. live n T) (t .managers .tlb)) (T .threads) ≡ true
-  pub sysbp : all (λ t. by-manager true (λ n. live n T) (t .managers .sysbp)) (T .threads) ≡ true
-  pub trapped : trapped-right T ≡ true
-  pub messages : all (λ m. live (m .to) T && live (m .from) T) (T .messages) ≡ true
 
 module _ (bytes : List ℕ) (none-15 : faults-15 bytes ≡ []) (none-18 : faults-18 bytes ≡ []) where
   abbrev lives : ℕ → Bool

@@ -22,7 +22,8 @@ use Rattle.laws.proofs.Tests.{or-false, not-false}
 use Rattle.laws.proofs.Members.{has-member}
 use Rattle.laws.proofs.Batch.{complete-none, complete-first}
 use Rattle.laws.proofs.Dump.{load-is-dump, accepted-exactly-dumps}
-use Rattle.laws.proofs.Offsets.{BeginsAt, placed-begins, begins-within, offset-begins, offset-below, First, offsets-rise, first-and-end, Earliest, first-is-earliest, none-exactly}
+use Rattle.laws.specs.Offsets.{BeginsAt, Earliest}
+use Rattle.laws.proofs.Offsets.{placed-begins, begins-within, offset-begins, offset-below, First, offsets-rise, first-and-end, first-is-earliest, none-exactly}
 use Rattle.laws.proofs.FaultFree.{no-fault-in-a-dump}
 
 -- ---- the lists rise

@@ -11,7 +11,7 @@ use borrow.Author.Tests.{eqb-true, eqb-false, eq-eqb, ne-eqb, leb-false, lt-ltb}
 use Rattle.rules.specs.Lists.{if_then_else_, _==_, one-if, Pulled, missing, pulled, any, keep, count, pull, insert, times-in}
 use Rattle.rules.specs.Numbers.{Limits, names, beat-ticks, devices, wrap}
 use Rattle.rules.specs.Words.{by-wanted, by-manager}
-use Rattle.laws.proofs.Words.{Wanted, Anybody, Only, TrapKind, Program, Tlb, SysBp, State, Running, Ready, Receiving, Clock, Device, Trapped, Answer, Nothing, Result, Manager, Unset, Set, Gone, Managers, NoParent, ParentIs, Thread, MessageKind, Ordinary, Notice, Message, Held, Runs, Oneself, Named, Call, Send, Receive, CreateBrother, CreateSon, Terminate, SetManager, GetCpuTime, WaitForClock, WaitForIo, Trap, Event, Malformed, ByRunner, Tick, Interrupt}
+use Rattle.laws.specs.Words.{Wanted, Anybody, Only, TrapKind, Program, Tlb, SysBp, State, Running, Ready, Receiving, Clock, Device, Trapped, Answer, Nothing, Result, Manager, Unset, Set, Gone, Managers, NoParent, ParentIs, Thread, MessageKind, Ordinary, Notice, Message, Held, Runs, Oneself, Named, Call, Send, Receive, CreateBrother, CreateSon, Terminate, SetManager, GetCpuTime, WaitForClock, WaitForIo, Trap, Event, Malformed, ByRunner, Tick, Interrupt}
 use Rattle.rules.specs.Tables.{Tables, in-state, with-managers, with-ticks, named, live, of-thread, change, manager, set-entry, new-thread, runs-as, me}
 use Rattle.rules.specs.States.{is-running, is-ready, on-clock, receives, at-device, waits-for, trapped-on, awaits}
 use Rattle.rules.specs.Waking.{Outcome, wake-those, is-ordinary, blocks-used, notice-of, handed-as, handed, accepts, queue, deliver, stop}
@@ -31,14 +31,15 @@ use Rattle.laws.proofs.Tests.{by-if, by-runs, clash, same?, and-left, a
 use Rattle.laws.proofs.Tally.{count-cons, count-map, count-le-add, count-zero, count-less, count-insert, count-keep, count-keep-le, any-count, count-any, none-count, any-member, not-any, none-any}
 use Rattle.laws.proofs.Members.{mem-keep, mem-insert, mem-map}
 use Rattle.laws.proofs.Ordered.{Less, less-refl, keep-less, pull-none, pull-took, up-less, up-insert}
-use Rattle.laws.proofs.Types.{Agree, Inv, Entry, Detail, Post, Family, Good, Fits}
+use Rattle.laws.specs.Types.{Agree, Inv, Entry, Detail, Post, Family, Good, Fits}
 use Rattle.laws.proofs.Threads.{member-live, live-member, of-only, turned-name, turned-live, here-only}
 use Rattle.laws.proofs.Steps.{passed, called, by-step, by-dispatch}
 use Rattle.laws.proofs.Names.{name-free}
 use Rattle.laws.proofs.PlacesKept.{runner-live, act-inv}
 use Rattle.laws.proofs.Right.{less-order, order-insert, Around, entry-around, right-around, nothing-form, new-right, turned-around, some-good}
 use Rattle.laws.proofs.EndingKept.{zero-lives, end-good}
-use Rattle.laws.proofs.Decoded.{ProperCall, Proper, decode-proper}
+use Rattle.laws.specs.Decoded.{ProperCall, Proper}
+use Rattle.laws.proofs.Decoded.{decode-proper}
 
 -- ---- states in which nobody is awaited: those of a test that no trapped thread passes
 

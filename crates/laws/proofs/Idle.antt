@@ -8,7 +8,7 @@ use native.Mathlib.Omega.{arith}
 use Rattle.rules.specs.Lists.{if_then_else_, one-if, all, any, times-in}
 use Rattle.rules.specs.Numbers.{Limits, devices}
 use Rattle.rules.specs.Words.{by-runner}
-use Rattle.laws.proofs.Words.{State, Device, Nothing, Managers, Thread, Message, Runner, NoRunner, Runs, Working, Idle, Halted, Panicked, Event}
+use Rattle.laws.specs.Words.{State, Device, Nothing, Managers, Thread, Message, Runner, NoRunner, Runs, Working, Idle, Halted, Panicked, Event}
 use Rattle.rules.specs.Tables.{Tables, named, runs, runs-as}
 use Rattle.rules.specs.States.{is-running, is-ready, on-clock, wakes-from-outside}
 use Rattle.rules.specs.Waking.{_handing_}
@@ -22,12 +22,13 @@ use Rattle.rules.specs.TableRules.{table-rules}
 use Rattle.laws.proofs.Tests.{clash}
 use Rattle.laws.proofs.Tally.{member-any, not-any, none-any}
 use Rattle.laws.proofs.Members.{member-times, times-member}
-use Rattle.laws.proofs.Types.{Agree, Detail, Ruled}
+use Rattle.laws.specs.Types.{Agree, Detail, Ruled}
 use Rattle.laws.proofs.Queues.{times-none}
 use Rattle.laws.proofs.Threads.{member-here, here-member}
 use Rattle.laws.proofs.PlacesKept.{runner-live}
 use Rattle.laws.proofs.Sound.{tested-ruled}
-use Rattle.laws.proofs.Outside.{from-outside, outside, some-ready, some-waits, waking-series, Still, clock-wakes, outside-still, Resting, series-wakes, bytes-of, series-accepted}
+use Rattle.laws.specs.Outside.{from-outside, outside, some-ready, waking-series, bytes-of}
+use Rattle.laws.proofs.Outside.{some-waits, Still, clock-wakes, outside-still, Resting, series-wakes, series-accepted}
 
 -- ---- what the table rules say of tables in which nobody runs
 

@@ -10,10 +10,11 @@ use lib.Dec.{leb}
 use borrow.Author.Tests.{eqb-true, eq-eqb, ne-eqb, leb-true, leb-false, le-leb}
 use Rattle.rules.specs.Lists.{if_then_else_, _==_, any, has, keep, behind, insert, chain, Pulled, missing, pulled, pull}
 use Rattle.rules.specs.Numbers.{Limits, names}
-use Rattle.laws.proofs.Words.{Wanted, Anybody, Only, TrapKind, Trapped, Nothing, Manager, Unset, Set, Gone, Thread, Message, Held, Runner, Runs, Oneself, Named, Call, Send, Receive, CreateBrother, CreateSon, Terminate, SetManager, GetCpuTime, WaitForClock, WaitForIo, Trap, Event, Malformed, ByRunner, Tick, Interrupt}
+use Rattle.laws.specs.Inboxes.{addressed, inbox, wanted-from, Taken, Moves, unchanged, joined, taken, discarded, decision, Passes, over, stays, comes, goes, Discards, by-ending, by-decision, later, of-sender}
+use Rattle.laws.specs.Words.{Wanted, Anybody, Only, TrapKind, Trapped, Nothing, Manager, Unset, Set, Gone, Thread, Message, Held, Runner, Runs, Oneself, Named, Call, Send, Receive, CreateBrother, CreateSon, Terminate, SetManager, GetCpuTime, WaitForClock, WaitForIo, Trap, Event, Malformed, ByRunner, Tick, Interrupt}
 use Rattle.rules.specs.Words.{by-manager, by-runner}
 use Rattle.rules.specs.Tables.{Tables, in-state, named, of-thread, change, manager, me}
-use Rattle.rules.specs.States.{matches, receives, waits-for}
+use Rattle.rules.specs.States.{receives, waits-for}
 use Rattle.rules.specs.Waking.{Outcome, wake-those, wake-by-name, notice-of, handed-as, handed, accepts, queue, deliver, stop}
 use Rattle.rules.specs.Ending.{ended-set, remove, release, end}
 use Rattle.rules.specs.Send.{message, decides, decide, send}
@@ -32,57 +33,13 @@ use Rattle.laws.proofs.Tally.{any-counts, count-keep, not-any, none-any
 use Rattle.laws.proofs.Members.{mem-map}
 use Rattle.laws.proofs.Threads.{turned}
 use Rattle.laws.proofs.Ordered.{Transitive, chain-tail, chain-before, pull-none}
-use Rattle.laws.proofs.Types.{Ruled}
+use Rattle.laws.specs.Types.{Ruled}
 use Rattle.laws.proofs.Steps.{called, by-dispatch}
 use Rattle.laws.proofs.Sound.{tested-ruled}
 use Rattle.laws.proofs.Kept.{rules-are-kept}
 use Rattle.laws.proofs.Refusals.{decision-gives-it}
 use Rattle.laws.proofs.Blocks.{tick-messages}
-use Rattle.laws.proofs.Late.{Sends, a-message, a-notice}
-
--- ---- what is said
-
--- the messages and notices that wait for thread n, oldest first
-abbrev pub addressed : ℕ → Message → Bool
-addressed n m = m .to == n
-
-abbrev pub inbox : ℕ → Tables → List Message
-inbox n T = keep (addressed n) (T .messages)
-
--- would a receive that wants w take this one?
-abbrev pub wanted-from : Wanted → Message → Bool
-wanted-from w m = matches (m .from) w
-
--- The event is a receive of the runner n. It takes the oldest in the inbox that is wanted, `oldest`: none before it is wanted. The
--- others stay, in their order, and n goes on and is handed the one that was taken.
-pub record Taken (L : Limits) (T : Tables) (bytes : List ℕ) (n : ℕ) : Type 0 where
-  pub wanted : Wanted
-  pub slice : ℕ
-  pub before : List Message
-  pub oldest : Message
-  pub after : List Message
-  pub event : decode bytes ≡ ByRunner (Receive wanted)
-  pub runner : T .runner ≡ Runs n slice
-  pub was : inbox n T ≡ before ++ (oldest ∷ after)
-  pub none : any (wanted-from wanted) before ≡ false
-  pub fits : wanted-from wanted oldest ≡ true
-  pub left : inbox n (step L T bytes .tables) ≡ before ++ after
-  pub runs : step L T bytes .decision .runner ≡ n
-  pub answer : step L T bytes .decision .answer ≡ handed oldest
-
--- What the event with these bytes does to the inbox of thread n in tables T.
--- A message or notice that is sent to n joins its end. A receive of n takes the first that it wants, and n is handed this one.
--- An ending discards what is to or from the ended, a decision the notice of the thread that it is about.
-pub data Moves (L : Limits) (T : Tables) (bytes : List ℕ) (n : ℕ) : Type 0 where
-  unchanged : inbox n (step L T bytes .tables) ≡ inbox n T → Moves L T bytes n
-  joined : (m : Message) → Sends L T bytes n (handed m) → inbox n (step L T bytes .tables) ≡ inbox n T ++ (m ∷ []) → Moves L T bytes n
-  taken : Taken L T bytes n → Moves L T bytes n
-  discarded : (x : ℕ) → act T (decode bytes) .tables ≡ end x T →
-      inbox n (step L T bytes .tables) ≡ keep (λ m. not (has (m .to) (ended-set (T .threads) x) || has (m .from) (ended-set (T .threads) x))) (inbox n T) →
-      Moves L T bytes n
-  decision : (s q x : ℕ) → T .runner ≡ Runs s q → decode bytes ≡ ByRunner (Send x 0) → decides s x T ≡ true →
-      inbox n (step L T bytes .tables) ≡ keep (λ m. not (notice-of x m)) (inbox n T) →
-      Moves L T bytes n
+use Rattle.laws.specs.Late.{Sends, a-message, a-notice}
 
 -- ---- lists
 
@@ -452,26 +409,6 @@ notice-joins-the-end L T bytes s q n c k h a r e g o =
     queued = unfold deliver in ap (λ (b : Bool). if b then wake-by-name (accepts (notice n s c)) (λ t. handed (notice n s c)) U else queue (notice n s c) U) nobody
 
 -- ---- along a run
-
--- Along these events, from tables T on, nothing is discarded from the inbox of thread n: the messages and notices `ins` join it, in
--- this order, and `outs` are taken from it and handed to n, in this order.
-pub data Passes (L : Limits) (n : ℕ) : Tables → Input → List Message → List Message → Type 0 where
-  over : (T : Tables) → Passes L n T [] [] []
-  stays : (T : Tables) (e : List ℕ) (es : Input) {ins outs : List Message} →
-      inbox n (step L T e .tables) ≡ inbox n T → Passes L n (step L T e .tables) es ins outs → Passes L n T (e ∷ es) ins outs
-  comes : (T : Tables) (e : List ℕ) (es : Input) {ins outs : List Message} (m : Message) → Sends L T e n (handed m) →
-      inbox n (step L T e .tables) ≡ inbox n T ++ (m ∷ []) → Passes L n (step L T e .tables) es ins outs → Passes L n T (e ∷ es) (m ∷ ins) outs
-  goes : (T : Tables) (e : List ℕ) (es : Input) {ins outs : List Message} (X : Taken L T e n) →
-      Passes L n (step L T e .tables) es ins outs → Passes L n T (e ∷ es) ins (X .oldest ∷ outs)
-
--- One of these events ends threads, or is a decision that continues one: these alone discard.
-pub data Discards (L : Limits) : Tables → Input → Type 0 where
-  by-ending : (T : Tables) (e : List ℕ) (es : Input) (x : ℕ) → act T (decode e) .tables ≡ end x T → Discards L T (e ∷ es)
-  by-decision : (T : Tables) (e : List ℕ) (es : Input) (s q x : ℕ) → T .runner ≡ Runs s q → decode e ≡ ByRunner (Send x 0) → decides s x T ≡ true → Discards L T (e ∷ es)
-  later : (T : Tables) (e : List ℕ) (es : Input) → Discards L (step L T e .tables) es → Discards L T (e ∷ es)
-
-abbrev pub of-sender : ℕ → List Message → List Message
-of-sender f ms = keep (λ m. m .from == f) ms
 
 -- what is taken is the first of its sender
 first-of-sender : (w : Wanted) (x : Message) (b : List Message) → any (wanted-from w) b ≡ false → wanted-from w x ≡ true → of-sender (x .from) b ≡ []

@@ -5,56 +5,29 @@ use Prim.Native.Nat.{ℕ, _≤_, _<_}
 use mathlib.Core.Path.{_≡_, refl, sym, ap, _∙_, subst}
 use mathlib.Core.Logic.{⊎-elim}
 use mathlib.Core.Bool.{true, false}
-use mathlib.Core.List.{List, [], _∷_, _++_, append-assoc, List·Memᴰ}
+use mathlib.Core.List.{List, [], _∷_, _++_, append-assoc}
 use native.Mathlib.Omega.{arith}
 use Rattle.rules.specs.Numbers.{Limits, small, names}
 use Rattle.rules.specs.Tables.{Tables, live, start}
 use Rattle.rules.specs.Step.{step}
 use Rattle.rules.specs.Runs.{Input, run}
-use Rattle.laws.proofs.Words.{Only, Receiving, Answer, Nothing, FromMessage, FromNotice, SenderGone, Result, Thread}
+use Rattle.laws.specs.Incident.{Gets, a-word, an-end, at-once, by-waking, OfThese, none, one, GivenAgain, ANewLife}
+use Rattle.laws.specs.Words.{Answer, Nothing, FromMessage, FromNotice, SenderGone, Result}
 use Rattle.laws.proofs.Tests.{clash}
-use Rattle.laws.proofs.Types.{Ruled}
+use Rattle.laws.specs.Types.{Ruled}
 use Rattle.laws.proofs.Threads.{member-live}
 use Rattle.laws.proofs.Steps.{run-append, run-last}
 use Rattle.laws.proofs.Names.{name-free}
 use Rattle.laws.proofs.PlacesKept.{runner-live}
 use Rattle.laws.proofs.Kept.{run-ruled, start-ruled}
-use Rattle.laws.proofs.Late.{Sends, SentIn, Told, ended, still-told, receiver-live, last-since, owed-since}
-use Rattle.laws.proofs.Handed.{Answers, WokenBy, AskedIn, asked-since, Cause, a-message, a-notice, sender-gone, a-result, whatever-is-handed}
-use Rattle.laws.proofs.Givings.{given-by, givings, givings-last, by-a-start, gives-it}
-use Rattle.laws.proofs.Rest.{others, rest, a-name-rests}
-
--- ---- what is said
-
--- In tables T the event with these bytes is what the answer of thread n comes from: it sends it the message or notice; it ends the thread that n
--- receives from; it is n's own request and has the result at once; or it wakes n with the result of one.
-pub data Gets (L : Limits) (T : Tables) (bytes : List ℕ) (n : ℕ) : Answer → Type 0 where
-  a-word : {a : Answer} → Sends L T bytes n a → Gets L T bytes n a
-  an-end : {m : ℕ} (t : Thread) → List·Memᴰ t (T .threads) → t .name ≡ n → t .state ≡ Receiving (Only m) →
-      live m T ≡ true → live m (step L T bytes .tables) ≡ false →
-      Gets L T bytes n (SenderGone m)
-  at-once : {w : ℕ} → Answers L T bytes n w → Gets L T bytes n (Result w)
-  by-waking : {w : ℕ} → WokenBy L T bytes n w → Gets L T bytes n (Result w)
-
--- The answer of thread n comes from one of these events, from tables T on. No answer comes from nothing.
-pub data OfThese (L : Limits) (T : Tables) (es : Input) (n : ℕ) : Answer → Type 0 where
-  none : OfThese L T es n Nothing
-  one : (earlier : Input) (event : List ℕ) (later : Input) {a : Answer} → es ≡ earlier ++ (event ∷ later) → Gets L (run L T earlier) event n a → OfThese L T es n a
-
--- From a start: these events have given the name n (the start has, if it is 0), then those between; and the event behind them gives n again.
-pub record GivenAgain (L : Limits) (es : Input) (event : List ℕ) (n : ℕ) : Type 0 where
-  pub earlier : List ℕ
-  pub between : List ℕ
-  pub given : 0 ∷ givings L start es ≡ earlier ++ (n ∷ between)
-  pub again : given-by L (run L start es) event ≡ n ∷ []
-
--- What then holds, with k others at least: the thread that had the name has ended; so many threads of other names have been created since it
--- was given; and whatever a later event e hands to thread n comes from one of the events behind the giving, up to e.
-pub record ANewLife (L : Limits) (k : ℕ) (es : Input) (event : List ℕ) (n : ℕ) (between : List ℕ) : Type 0 where
-  pub ended-before : live n (run L start es) ≡ false
-  pub rested : k ≤ others n between
-  pub own : (fs : Input) (e : List ℕ) → step L (run L start (es ++ (event ∷ fs))) e .decision .runner ≡ n →
-      OfThese L (run L start (es ++ (event ∷ []))) (fs ++ (e ∷ [])) n (step L (run L start (es ++ (event ∷ fs))) e .decision .answer)
+use Rattle.laws.specs.Late.{SentIn, Told, ended, still-told}
+use Rattle.laws.proofs.Late.{receiver-live, last-since, owed-since}
+use Rattle.laws.specs.Handed.{AskedIn, Cause, a-message, a-notice, sender-gone, a-result}
+use Rattle.laws.proofs.Handed.{asked-since, whatever-is-handed}
+use Rattle.laws.specs.Givings.{givings, by-a-start}
+use Rattle.laws.proofs.Givings.{givings-last, gives-it}
+use Rattle.laws.specs.Rest.{others, rest}
+use Rattle.laws.proofs.Rest.{a-name-rests}
 
 -- ---- since a time at which no thread n lived
 

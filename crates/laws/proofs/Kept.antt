@@ -8,14 +8,14 @@ use native.Mathlib.Omega.{arith}
 use borrow.Author.Tests.{eqb-true}
 use Rattle.rules.specs.Lists.{_==_, any, count, chain}
 use Rattle.rules.specs.Numbers.{Limits, names, full-slice}
-use Rattle.laws.proofs.Words.{Running, NoParent, Thread}
+use Rattle.laws.specs.Words.{Running, NoParent, Thread}
 use Rattle.rules.specs.Tables.{Tables, new-thread, runs-as, start}
 use Rattle.rules.specs.States.{is-running, is-ready, on-clock, at-device}
 use Rattle.rules.specs.Step.{step}
 use Rattle.rules.specs.Runs.{Input, run}
 use Rattle.rules.specs.TableRules.{table-rules}
 use Rattle.laws.proofs.Tests.{and-true, and-false, or-cases, one-at-most}
-use Rattle.laws.proofs.Types.{here, Agree, Inv, Steady, Detail, Fits, Ruled}
+use Rattle.laws.specs.Types.{here, Agree, Inv, Steady, Detail, Fits, Ruled}
 use Rattle.laws.proofs.PlacesKept.{step-inv}
 use Rattle.laws.proofs.Right.{new-right}
 use Rattle.laws.proofs.Good.{step-good}

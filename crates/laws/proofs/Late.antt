@@ -8,10 +8,10 @@ use native.Mathlib.Omega.{arith}
 use borrow.Author.Tests.{eqb-true}
 use Rattle.rules.specs.Lists.{has}
 use Rattle.rules.specs.Numbers.{Limits, names}
-use Rattle.laws.proofs.Words.{Only, TrapKind, Receiving, Answer, Nothing, FromMessage, FromNotice, SenderGone, Result, Unset, Set, Thread, Runs, Send, Trap, Event, ByRunner}
-use Rattle.rules.specs.Tables.{Tables, named, live, of-thread, manager, start}
+use Rattle.laws.specs.Late.{from-a-thread, Sends, a-message, a-notice, Owed, sent, still, SentIn, Told, ended, still-told}
+use Rattle.laws.specs.Words.{Answer, Nothing, SenderGone, Unset, Thread, Event}
+use Rattle.rules.specs.Tables.{Tables, named, live, manager, start}
 use Rattle.rules.specs.Ending.{ended-set, end}
-use Rattle.rules.specs.Send.{decides}
 use Rattle.rules.specs.Dispatch.{dispatch}
 use Rattle.rules.specs.Events.{decode}
 use Rattle.rules.specs.Refusals.{refusal}
@@ -22,62 +22,13 @@ use Rattle.laws.proofs.Tally.{none-any}
 use Rattle.laws.proofs.Members.{last-same, ends-in}
 use Rattle.laws.proofs.Threads.{looked-up}
 use Rattle.laws.proofs.Steps.{run-append, run-last}
-use Rattle.laws.proofs.Types.{Entry, Detail, Ruled}
+use Rattle.laws.specs.Types.{Entry, Detail, Ruled}
 use Rattle.laws.proofs.Kept.{run-ruled, start-ruled}
 use Rattle.laws.proofs.Ending.{ending-forgets}
 use Rattle.laws.proofs.Refusals.{decision-gives-it}
 use Rattle.laws.proofs.Passing.{accepted-send, Gives, dispatch-names, After, handed-over}
 
 -- ---- what is said
-
--- a message or a notice: what one thread sent and another is handed
-unfoldable pub from-a-thread : Answer → Bool
-from-a-thread Nothing = false
-from-a-thread (FromMessage n w) = true
-from-a-thread (FromNotice n w) = true
-from-a-thread (SenderGone n) = false
-from-a-thread (Result w) = false
-
--- In tables T the event with these bytes is accepted and sends the answer to thread n: as a message of the runner that is no
--- decision, or as the notice of its trap, where n is its manager for that kind.
-pub data Sends (L : Limits) (T : Tables) (bytes : List ℕ) : ℕ → Answer → Type 0 where
-  a-message : {s q n w : ℕ} → step L T bytes .decision .refusal ≡ 0 → T .runner ≡ Runs s q →
-      decode bytes ≡ ByRunner (Send n w) → decides s n T ≡ false →
-      Sends L T bytes n (FromMessage s w)
-  a-notice : {s q n c : ℕ} {k : TrapKind} → step L T bytes .decision .refusal ≡ 0 → T .runner ≡ Runs s q →
-      decode bytes ≡ ByRunner (Trap k c) → of-thread Unset (λ t. manager k (t .managers)) s (T .threads) ≡ Set n →
-      Sends L T bytes n (FromNotice s c)
-
--- After these events, from a start, the answer has been sent to thread n in its present life: the last event sends it, or it was
--- so before the last event; and n is live after that event. A name that is live before and after an event is that of the same
--- thread: an event that creates a thread ends none, and gives it a name that is not live.
-pub data Owed (L : Limits) : Input → ℕ → Answer → Type 0 where
-  sent : (es : Input) (e : List ℕ) {n : ℕ} {a : Answer} →
-      Sends L (run L start es) e n a → live n (run L start (es ++ (e ∷ []))) ≡ true →
-      Owed L (es ++ (e ∷ [])) n a
-  still : (es : Input) (e : List ℕ) {n : ℕ} {a : Answer} →
-      Owed L es n a → live n (run L start (es ++ (e ∷ []))) ≡ true →
-      Owed L (es ++ (e ∷ [])) n a
-
--- One of these events, from tables T on, sends the answer to thread n.
-pub record SentIn (L : Limits) (T : Tables) (es : Input) (n : ℕ) (a : Answer) : Type 0 where
-  pub earlier : Input
-  pub event : List ℕ
-  pub later : Input
-  pub among : es ≡ earlier ++ (event ∷ later)
-  pub sends : Sends L (run L T earlier) event n a
-
--- After these events, from a start, thread n has been told in its present life that m is gone: the last event ended m while n was
--- receiving from m, or it was so before the last event; and n is live after that event.
-pub data Told (L : Limits) : Input → ℕ → ℕ → Type 0 where
-  ended : (es : Input) (e : List ℕ) (t : Thread) {n m : ℕ} →
-      List·Memᴰ t (run L start es .threads) → t .name ≡ n → t .state ≡ Receiving (Only m) →
-      live m (run L start es) ≡ true → live m (run L start (es ++ (e ∷ []))) ≡ false →
-      live n (run L start (es ++ (e ∷ []))) ≡ true →
-      Told L (es ++ (e ∷ [])) n m
-  still-told : (es : Input) (e : List ℕ) {n m : ℕ} →
-      Told L es n m → live n (run L start (es ++ (e ∷ []))) ≡ true →
-      Told L (es ++ (e ∷ [])) n m
 
 -- who is sent something is live
 pub receiver-live : {L : Limits} (T : Tables) → Ruled L T → (bytes : List ℕ) {n : ℕ} {a : Answer} → Sends L T bytes n a → live n T ≡ true

@@ -1,11 +1,9 @@
 -- The ground: vocabulary, tests, lists, bytes, the table rules as types, queues, threads, steps.
-pub mod Words
 pub mod Tests
 pub mod Tally
 pub mod Members
 pub mod Ordered
 pub mod Bytes
-pub mod Types
 pub mod Queues
 pub mod Threads
 pub mod Steps

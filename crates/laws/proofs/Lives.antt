@@ -15,7 +15,8 @@ use Rattle.rules.specs.Refusals.{refusal}
 use Rattle.rules.specs.Step.{act, step}
 use Rattle.rules.specs.Runs.{Input, run}
 use Rattle.rules.specs.TableRules.{table-rules}
-use Rattle.laws.proofs.Words.{Running, Nothing, Result, Parent, Thread, GetCpuTime, Event}
+use Rattle.laws.specs.Lives.{life-ticks}
+use Rattle.laws.specs.Words.{Running, Nothing, Result, Parent, Thread, GetCpuTime, Event}
 use Rattle.laws.proofs.Tests.{by-if, clash, _&_}
 use Rattle.laws.proofs.Members.{mem-insert, mem-map}
 use Rattle.laws.proofs.Threads.{member-live, looked-up, turned, turned-name}
@@ -23,9 +24,12 @@ use Rattle.laws.proofs.Steps.{called, by-step, by-dispatch}
 use Rattle.laws.proofs.PlacesKept.{runner-live}
 use Rattle.laws.proofs.Sound.{tested-ruled}
 use Rattle.laws.proofs.Kept.{rules-hold-at-the-start, rules-are-kept, rules-hold-in-runs}
-use Rattle.laws.proofs.Counts.{if-accepted, over-run, own-ticks-by, ticks-at, lives-through, ticks-counted-alive}
-use Rattle.laws.proofs.Requests.{Accepted, requester, cpu-time-is-the-count}
-use Rattle.laws.proofs.Comings.{creates, creation, no-other-brings}
+use Rattle.laws.specs.Counts.{if-accepted, over-run, own-ticks-by, ticks-at, lives-through}
+use Rattle.laws.proofs.Counts.{ticks-counted-alive}
+use Rattle.laws.specs.Requests.{Accepted, requester}
+use Rattle.laws.proofs.Requests.{cpu-time-is-the-count}
+use Rattle.laws.specs.Comings.{creates}
+use Rattle.laws.proofs.Comings.{creation, no-other-brings}
 
 -- ---- a newcomer's count is 0
 
@@ -67,11 +71,6 @@ module _ (n : ℕ) where
   newcomer-has-count-0 L T bytes d = ⊎-elim (λ e. e) (λ r. r .3 ∙ stepped L T bytes .at-0 d (r .0) (r .1) (sym (r .2))) (looked-up 0 (λ t. t .ticks) n (step L T bytes .tables .threads))
 
 -- ---- the ticks of a life
-
--- the ticks accepted while n ran, since the thread of that name was made: a before the run. While nobody has the name, none are counted
-unfoldable pub life-ticks : Limits → ℕ → ℕ → Tables → Input → ℕ
-life-ticks L n a T [] = a
-life-ticks L n a T (e ∷ es) = life-ticks L n (if live n T then a + if-accepted (own-ticks-by n) L T e else 0) (step L T e .tables) es
 
 module _ (L : Limits) (n : ℕ) (l : L .threads < names) where
   one-step : (T : Tables) (e : List ℕ) (a : ℕ) → table-rules L T ≡ true → (live n T ≡ true → ticks-at n (T .threads) ≡ a % wrap) →

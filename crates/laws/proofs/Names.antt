@@ -10,7 +10,7 @@ use lib.ListN.{length}
 use borrow.Author.Tests.{eqb-true, ne-eqb}
 use Rattle.rules.specs.Lists.{_==_, any, keep}
 use Rattle.rules.specs.Numbers.{Limits, names}
-use Rattle.laws.proofs.Words.{Thread}
+use Rattle.laws.specs.Words.{Thread}
 use Rattle.rules.specs.Tables.{Tables, with-threads, named, live}
 use Rattle.rules.specs.Requests.{free-name, next-name}
 use Rattle.laws.proofs.Tally.{count-length, count-not, length-keep, any-count, zero-any, any-counts, all-left}

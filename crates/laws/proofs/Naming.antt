@@ -13,13 +13,14 @@ use lib.Seq.{drop-cons}
 use borrow.Author.Tests.{eq-eqb, ne-eqb, ltb-true, ltb-false}
 use Rattle.rules.specs.Lists.{if_then_else_, any, chain}
 use Rattle.rules.specs.Numbers.{names}
-use Rattle.laws.proofs.Words.{Thread}
+use Rattle.laws.specs.Naming.{walked}
+use Rattle.laws.specs.Words.{Thread}
 use Rattle.rules.specs.Tables.{Tables, named, live}
 use Rattle.rules.specs.Requests.{free-name, next-name}
 use Rattle.laws.proofs.Tests.{same?, and-left, and-right, or-false}
 use Rattle.laws.proofs.Tally.{none-any}
 use Rattle.laws.proofs.Ordered.{chain-tail, up-below}
-use Rattle.laws.proofs.Types.{Rising}
+use Rattle.laws.specs.Types.{Rising}
 use Rattle.laws.proofs.Names.{name-fresh}
 
 -- ---- one name after the other: the name given when k names may be tried yet, beginning with m
@@ -57,10 +58,6 @@ by-first (suc k) n T = go (live c T) refl (by-first k c T)
     go false e later = free-stays c T (suc k) e ∙ rw (e, free-name)
 
 -- ---- the walk: each thread that has the name moves it on
-
-unfoldable pub walked : ℕ → List Thread → ℕ
-walked c [] = c
-walked c (t ∷ ts) = walked (if named c t then (c + 1) % names else c) ts
 
 -- the next one's name is higher
 higher : (ts : List Thread) (i : ℕ) (d e : Thread) → Rising ts → suc i < length ts → getD ts i d .name < getD ts (suc i) e .name

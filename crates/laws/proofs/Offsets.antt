@@ -12,27 +12,14 @@ use Rattle.rules.specs.Lists.{if_then_else_, keep}
 use Rattle.rules.specs.Fields.{field-size, whole, complete}
 use Rattle.rules.specs.Load.{as-field}
 use Rattle.rules.specs.Faults.{Placed, placed-from, placed, offsets}
+use Rattle.laws.specs.Offsets.{Reached, front, behind, BeginsAt, Earliest}
 use Rattle.laws.proofs.Tests.{by-if}
 use Rattle.laws.proofs.Tally.{keep-none, none-count, none-any}
 use Rattle.laws.proofs.Members.{mem-keep, keep-mem, mem-map, map-mem}
-use Rattle.laws.proofs.Batch.{whole-within, past, by-fields, complete-none, complete-first}
+use Rattle.laws.specs.Batch.{past}
+use Rattle.laws.proofs.Batch.{whole-within, by-fields, complete-none, complete-first}
 
 -- ---- where fields stand
-
--- going from field to field over complete ones leads to this offset
-pub data Reached : List ℕ → ℕ → Type 0 where
-  front : {l : List ℕ} → Reached l 0
-  behind : {l : List ℕ} {k : ℕ} → whole l ≡ true → Reached (past l) k → Reached l (field-size l + k)
-
--- A complete field begins at an offset: it is reached from field to field, the bytes from there on open with a complete field, and that is listed
--- with this offset.
-pub record BeginsAt (bytes : List ℕ) (o : ℕ) : Type 0 where
-  pub reached : Reached bytes o
-  pub all-there : whole (drop o bytes) ≡ true
-  pub one : Placed
-  pub listed : List·Memᴰ one (placed bytes)
-  pub there : one .at ≡ o
-  pub it : one .field ≡ as-field (take (field-size (drop o bytes)) (drop o bytes))
 
 -- the same of a field that is listed as the bytes' own, wherever they stand
 abbrev Begins : List ℕ → Type 0
@@ -185,11 +172,6 @@ first-and-end n true (o ∷ l) h k =
     λ x m. ⊎-elim (h x) (λ e. omega (arith, List·Memᴰ·eq-of-singleton e, k o (List·Memᴰ·head refl))) (List·Memᴰ·append-cases l m)
 first-and-end n false (o ∷ l) h k =
     λ x m. ⊎-elim (h x) (λ e. absurd (List·Memᴰ·not-nil e)) (List·Memᴰ·append-cases l m)
-
--- "within it the earliest field": it is listed, and nothing that is listed stands before it
-pub record Earliest (o : ℕ) (l : List ℕ) : Type 0 where
-  pub listed : List·Memᴰ o l
-  pub least : (x : ℕ) → List·Memᴰ x l → o ≤ x
 
 pub first-is-earliest : (l : List ℕ) (o : ℕ) (more : List ℕ) → l ≡ o ∷ more → First l → Earliest o l
 unfolding First

@@ -12,7 +12,8 @@ use borrow.Author.Tests.{eqb-true, eq-eqb, ne-eqb, ltb-true, lt-ltb}
 use Rattle.rules.specs.Lists.{if_then_else_, _==_, all, any, keep, from-on, is-byte, number-from, four-bytes}
 use Rattle.rules.specs.Numbers.{Limits, beat-ticks, devices, wrap}
 use Rattle.rules.specs.Words.{by-state}
-use Rattle.laws.proofs.Words.{State, Running, Ready, Receiving, Clock, Device, Trapped, Answer, Nothing, Result, Thread, NoRunner, Event, Malformed, ByRunner, Tick, Interrupt}
+use Rattle.laws.specs.Outside.{from-outside, were-accepted, outside, some-ready, woken-by, first-woken, waking-series, bytes-of}
+use Rattle.laws.specs.Words.{State, Running, Ready, Receiving, Clock, Device, Trapped, Answer, Nothing, Result, Thread, NoRunner, Event, Malformed, ByRunner, Tick, Interrupt}
 use Rattle.rules.specs.Tables.{Tables, with-time, with-clock, in-state, named, live, change}
 use Rattle.rules.specs.States.{is-running, is-ready, on-clock, at-device, waits-for, wakes-from-outside}
 use Rattle.rules.specs.Waking.{Outcome, _handing_, wake-those, wake-by-name}
@@ -30,46 +31,15 @@ use Rattle.laws.proofs.Tally.{any-member, member-any, not-any, none-any
 use Rattle.laws.proofs.Members.{mem-keep, keep-mem, mem-map, map-mem, from-on-mem}
 use Rattle.laws.proofs.Bytes.{four-are-bytes, four-back, four-number}
 use Rattle.laws.proofs.Threads.{names-mapped, put-name}
-use Rattle.laws.proofs.Decoded.{Proper, decode-proper}
+use Rattle.laws.specs.Decoded.{Proper}
+use Rattle.laws.proofs.Decoded.{decode-proper}
 use Rattle.laws.proofs.Calm.{beat-runner}
 
 -- ---- what the laws speak of
 
--- a tick, or an interrupt with a device and a word in their ranges
-unfoldable pub from-outside : Event → Bool
-from-outside Malformed = false
-from-outside (ByRunner c) = false
-from-outside Tick = true
-from-outside (Interrupt d w) = ltb d devices && ltb w wrap
-
--- the tables after an event, were it accepted: what it does and the dispatch, whatever the status
-unfoldable pub were-accepted : Tables → Event → Tables
-were-accepted T e = dispatch (act T e) .tables
-
--- the tables after a series of events, were they accepted
-unfoldable pub outside : Tables → List Event → Tables
-outside T [] = T
-outside T (e ∷ es) = outside (were-accepted T e) es
-
--- some thread is ready, or became ready and runs: the dispatch lets the front of the ready queue run in the same event
-unfoldable pub some-ready : Tables → Bool
-some-ready T = any (λ t. is-ready (t .state) || is-running (t .state)) (T .threads)
-
 -- "some thread waits for clock or device"
 abbrev pub some-waits : List Thread → Bool
 some-waits ts = any (λ t. wakes-from-outside (t .state)) ts
-
--- what wakes a thread that waits for clock or device: the ticks up to the next beat, or an interrupt of its device
-unfoldable pub woken-by : ℕ → State → List Event
-woken-by since s = by-state (replicate (beat-ticks - since) Tick) (λ w. []) (λ d. Interrupt d 0 ∷ []) (λ k. []) s
-
--- the same for the first of some threads that waits for clock or device
-unfoldable pub first-woken : ℕ → List Thread → List Event
-first-woken since [] = []
-first-woken since (t ∷ ts) = if wakes-from-outside (t .state) then woken-by since (t .state) else first-woken since ts
-
-abbrev pub waking-series : Tables → List Event
-waking-series T = first-woken (T .since) (T .threads)
 
 -- ---- when nobody runs
 
@@ -272,12 +242,6 @@ series-wakes T R h = let f = first-is (T .since) (T .threads) h in rw (f .3) (go
     go t m (Trapped x) e i = unfold wakes-from-outside on-clock in absurd (false≢true i)
 
 -- ---- bytes say these events, and an idle node accepts them
-
-unfoldable pub bytes-of : Event → List ℕ
-bytes-of Malformed = []
-bytes-of (ByRunner c) = []
-bytes-of Tick = 20 ∷ 0 ∷ 0 ∷ []
-bytes-of (Interrupt d w) = 21 ∷ 0 ∷ 12 ∷ (four-bytes (2 ^ d / wrap) ++ (four-bytes (2 ^ d) ++ four-bytes w))
 
 -- twelve bytes: the pending devices p and the word w
 word-said : (p w : ℕ) → p / wrap < wrap → w < wrap → decode (21 ∷ 0 ∷ 12 ∷ (four-bytes (p / wrap) ++ (four-bytes p ++ four-bytes w))) ≡ interrupt-of (pick p) w

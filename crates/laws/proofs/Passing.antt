@@ -8,7 +8,7 @@ use lib.Dec.{ltb}
 use borrow.Author.Tests.{eqb-true}
 use Rattle.rules.specs.Lists.{if_then_else_, _==_, any, has, keep, Pulled, missing, pulled, pull}
 use Rattle.rules.specs.Numbers.{Limits, names, beat-ticks}
-use Rattle.laws.proofs.Words.{Wanted, Only, TrapKind, State, Running, Ready, Receiving, Clock, Device, Trapped, Answer, Nothing, FromMessage, FromNotice, SenderGone, Result, Manager, Unset, Set, Gone, Parent, Thread, Message, Held, Runner, NoRunner, Runs, Target, Oneself, Named, Call, Send, Receive, CreateBrother, CreateSon, Terminate, SetManager, GetCpuTime, WaitForClock, WaitForIo, Trap, Event, Malformed, ByRunner, Tick, Interrupt}
+use Rattle.laws.specs.Words.{Wanted, Only, TrapKind, State, Running, Ready, Receiving, Clock, Device, Trapped, Answer, Nothing, FromMessage, FromNotice, SenderGone, Result, Manager, Unset, Set, Gone, Parent, Thread, Message, Held, Runner, NoRunner, Runs, Target, Oneself, Named, Call, Send, Receive, CreateBrother, CreateSon, Terminate, SetManager, GetCpuTime, WaitForClock, WaitForIo, Trap, Event, Malformed, ByRunner, Tick, Interrupt}
 use Rattle.rules.specs.Words.{by-manager}
 use Rattle.rules.specs.Tables.{Tables, with-time, with-clock, with-messages, in-state, with-ticks, with-managers, named, live, of-thread, change, manager, set-entry, new-thread, me, start}
 use Rattle.rules.specs.States.{on-clock, waits-for}
@@ -27,13 +27,14 @@ use Rattle.rules.specs.Step.{serve, act, settle, step}
 use Rattle.rules.specs.Runs.{Input, run}
 use Rattle.laws.proofs.Tests.{by-if, by-runs, and-left, not-false}
 use Rattle.laws.proofs.Members.{mem-keep, mem-insert, mem-map}
-use Rattle.laws.proofs.Types.{Ruled}
+use Rattle.laws.specs.Types.{Ruled}
 use Rattle.laws.proofs.Ordered.{pull-took}
 use Rattle.laws.proofs.Threads.{member-live, looked-up, turned, turned-name}
 use Rattle.laws.proofs.Steps.{passed, called, by-dispatch, run-last}
 use Rattle.laws.proofs.PlacesKept.{runner-live}
 use Rattle.laws.proofs.Kept.{run-ruled, start-ruled}
-use Rattle.laws.proofs.Ending.{Survives, missed, receiver-misses, message-left, origins}
+use Rattle.laws.specs.Ending.{Survives}
+use Rattle.laws.proofs.Ending.{missed, receiver-misses, message-left, origins}
 
 -- the name that an accepted send gives is live
 pub accepted-send : (L : Limits) (T : Tables) (to w : ℕ) → refusal L T (ByRunner (Send to w)) ≡ 0 → live to T ≡ true

@@ -1,5 +1,5 @@
 -- The order of the pick, in the words of document 02, CR 1, and refusal 2.
-use Prim.Native.Nat.{ℕ, zero, suc, _+_, _-_, _*_, _/_, _%_, _^_, _≤_, _<_, zero-le}
+use Prim.Native.Nat.{ℕ, zero, suc, _+_, _-_, _/_, _%_, _^_, _≤_, _<_, zero-le}
 use mathlib.Core.Path.{_≡_, refl, sym, ap, subst, _∙_}
 use mathlib.Core.Logic.{_⊎_, inl, inr, _↔_, ⊎-elim}
 use mathlib.Core.Bool.{Bool, true, false}
@@ -12,7 +12,8 @@ use Rattle.rules.specs.Lists.{if_then_else_, any, from-on}
 use Rattle.rules.specs.Numbers.{nobody, devices, line-devices, terminals, pending-bits}
 use Rattle.rules.specs.Pick.{pending, lines, transmitter, receiver, transmitters, receivers, pick-order, no-pick, first-pending, pick}
 use Rattle.rules.proofs.Bits.{no-bit, trailing-lowest, lowest-lt, high-bit, taken, or-else, first-of-three, spare, ordered, pick-zero, pick-high}
-use Rattle.laws.proofs.Words.{Picked}
+use Rattle.laws.specs.Pick.{Foremost, on-a-line, transmits, receives, Takes, Unservable}
+use Rattle.laws.specs.Words.{Picked}
 use Rattle.laws.proofs.Tests.{clash}
 
 -- ---- the first that is pending
@@ -55,25 +56,6 @@ first-of w f a (suc n) = go (pending w (f a)) refl (first-of w f (suc a) n)
     go false t (inr N) = inr (N .0, more (λ (m : ℕ). m < a + suc n → pending w (f m) ≡ false) (λ _. t) (λ m l h. N .1 m l (omega arith)))
 
 -- ---- the order of the pick
-
--- The device that the pick shall take of those that are pending, in the words of document 02, CR 1; "Terminal d of line 7 transmits as
--- 32 + 2d and receives as 33 + 2d".
-pub data Foremost (w d : ℕ) : Type 0 where
-  -- "the lowest pending number from 0 to 31"
-  on-a-line : d < 32 → ((m : ℕ) → m < d → pending w m ≡ false) → Foremost w d
-  -- "then the lowest transmitter"
-  transmits : (t : ℕ) → t < 8 → d ≡ 32 + 2 * t
-      → ((m : ℕ) → m < 32 → pending w m ≡ false)
-      → ((s : ℕ) → s < t → pending w (32 + 2 * s) ≡ false) → Foremost w d
-  -- "then the lowest receiver"
-  receives : (t : ℕ) → t < 8 → d ≡ 33 + 2 * t
-      → ((m : ℕ) → m < 32 → pending w m ≡ false)
-      → ((s : ℕ) → s < 8 → pending w (32 + 2 * s) ≡ false)
-      → ((s : ℕ) → s < t → pending w (33 + 2 * s) ≡ false) → Foremost w d
-
--- the foremost of the pending devices is taken
-abbrev pub Takes : ℕ → Picked → Type 0
-Takes w p = (d : ℕ) × (p ≡ taken d) × (d < devices) × (pending w d ≡ true) × Foremost w d
 
 -- none of 0 to 47 is pending
 abbrev pub NoDevice : ℕ → Type 0
@@ -131,10 +113,6 @@ pick-takes w p h =
     ⊎-elim (λ T. (T .0, ordered w h ∙ T .1, T .2, T .3, T .4))
     (λ N. absurd (clash (L .set) (N .1 (trailingZeros pending-bits w) (lowest-lt devices w _ h L))))
     (by-order w)
-
--- no device is pending, or one over 47 is
-abbrev pub Unservable : ℕ → Type 0
-Unservable w = ((n : ℕ) → pending w n ≡ false) ⊎ ((n : ℕ) × (devices ≤ n) × (pending w n ≡ true))
 
 decided : (w : ℕ) → w < 2 ^ pending-bits → (Unservable w × (pick w ≡ no-pick)) ⊎ ((Unservable w → ⊥) × (pick w .refusal ≡ 0))
 decided w h = go (eq-zero-or-pos w) (decLt w (2 ^ devices))

@@ -8,13 +8,13 @@ use native.Mathlib.Omega.{arith}
 use borrow.Author.Tests.{eqb-true, eq-eqb, ne-eqb}
 use Rattle.rules.specs.Lists.{if_then_else_, _==_, one-if, keep, count, insert, has, times-in}
 use Rattle.rules.specs.Words.{by-state, by-runner}
-use Rattle.laws.proofs.Words.{Wanted, TrapKind, State, Running, Ready, Receiving, Clock, Device, Trapped, Answer, Thread, Runner, NoRunner, Runs}
+use Rattle.laws.specs.Words.{Wanted, TrapKind, State, Running, Ready, Receiving, Clock, Device, Trapped, Answer, Thread, Runner, NoRunner, Runs}
 use Rattle.rules.specs.Tables.{in-state, named, runs-as}
 use Rattle.rules.specs.States.{is-running, is-ready, on-clock}
 use Rattle.rules.specs.Ending.{without-managers}
 use Rattle.laws.proofs.Tests.{by-if, same?, and-left, and-true, and-false, and-twice, and-self, never}
 use Rattle.laws.proofs.Tally.{count-append, count-map, count-same, count-zero, count-insert, count-keep-le, none-left, all-left}
-use Rattle.laws.proofs.Types.{here, Places}
+use Rattle.laws.specs.Types.{here, Places}
 use Rattle.laws.proofs.Queues.{times-none, times-self, times-other, tail-self, tail-other}
 use Rattle.laws.proofs.Threads.{names-kept, left, put-name, times-kept, apart}
 

@@ -10,7 +10,7 @@ use borrow.Author.Tests.{eqb-true, leb-false}
 use Rattle.rules.specs.Lists.{if_then_else_, _==_, one-if, Pulled, missing, pulled, any, insert, has}
 use Rattle.rules.specs.Numbers.{Limits, names, full-slice, beat-ticks}
 use Rattle.rules.specs.Words.{by-wanted, by-manager}
-use Rattle.laws.proofs.Words.{Wanted, TrapKind, State, Running, Ready, Receiving, Clock, Device, Trapped, Answer, Nothing, Result, Manager, Unset, Set, Gone, Parent, Thread, Message, Held, Runs, Target, Oneself, Named, Call, Send, Receive, CreateBrother, CreateSon, Terminate, SetManager, GetCpuTime, WaitForClock, WaitForIo, Trap, Event, Malformed, ByRunner, Tick, Interrupt}
+use Rattle.laws.specs.Words.{Wanted, TrapKind, State, Running, Ready, Receiving, Clock, Device, Trapped, Answer, Nothing, Result, Manager, Unset, Set, Gone, Parent, Thread, Message, Held, Runs, Target, Oneself, Named, Call, Send, Receive, CreateBrother, CreateSon, Terminate, SetManager, GetCpuTime, WaitForClock, WaitForIo, Trap, Event, Malformed, ByRunner, Tick, Interrupt}
 use Rattle.rules.specs.Tables.{Tables, in-state, with-managers, with-ticks, named, live, of-thread, change, manager, set-entry, new-thread, me}
 use Rattle.rules.specs.States.{is-running, is-ready, on-clock, matches, receives, at-device, waits-for, trapped-on}
 use Rattle.rules.specs.Waking.{Outcome, wake-those, wake-by-name, handed, accepts, queue, deliver, stop}
@@ -27,7 +27,7 @@ use Rattle.rules.specs.Refusals.{first-of, call-rules, refusal}
 use Rattle.rules.specs.Step.{serve, act, step}
 use Rattle.laws.proofs.Tests.{by-if, by-runs, and-right}
 use Rattle.laws.proofs.Tally.{count-length, length-count, count-insert, count-keep-le, length-keep, any-count, count-any, none-count}
-use Rattle.laws.proofs.Types.{Places, Agree, Inv}
+use Rattle.laws.specs.Types.{Places, Agree, Inv}
 use Rattle.laws.proofs.Threads.{names-kept, names-mapped, left, turned, turned-name, put-name}
 use Rattle.laws.proofs.Steps.{passed, called, by-step, by-dispatch}
 use Rattle.laws.proofs.Names.{name-low, name-free}

@@ -16,27 +16,23 @@ use Rattle.rules.specs.Step.{step}
 use Rattle.rules.specs.Runs.{Input, run}
 use Rattle.rules.specs.Benches.{ask}
 use Rattle.rules.specs.Opened.{opened}
-use Rattle.laws.proofs.Words.{ParentIs, Runs}
+use Rattle.laws.specs.Reached.{made-and-ended, a-round}
+use Rattle.laws.specs.Words.{ParentIs, Runs}
 use Rattle.laws.proofs.Tests.{clash, same?, or-left}
 use Rattle.laws.proofs.Tally.{length-count, count-insert}
 use Rattle.laws.proofs.Members.{from-on-parts}
-use Rattle.laws.proofs.Types.{Ruled}
+use Rattle.laws.specs.Types.{Ruled}
 use Rattle.laws.proofs.Steps.{run-append}
 use Rattle.laws.proofs.Names.{name-is-first-free}
 use Rattle.laws.proofs.Sound.{ruled-tested}
 use Rattle.laws.proofs.Kept.{start-ruled, step-ruled}
-use Rattle.laws.proofs.Comings.{creates, creation-brings, creation-keeps, created-last, created-lives}
-use Rattle.laws.proofs.Givings.{result, given-by, givings, givings-append}
-use Rattle.laws.proofs.Rest.{Twice, others, rest, big, all-pass}
+use Rattle.laws.specs.Comings.{creates}
+use Rattle.laws.proofs.Comings.{creation-brings, creation-keeps, created-last, created-lives}
+use Rattle.laws.specs.Givings.{result, given-by, givings}
+use Rattle.laws.proofs.Givings.{givings-append}
+use Rattle.laws.specs.Rest.{Twice, others, rest, big}
+use Rattle.laws.proofs.Rest.{all-pass}
 use Rattle.laws.proofs.Trace.{son-is-made, made-and-ended-leaves-no-trace, made-and-ended-gives-its-name}
-
--- a son made and ended, for each of the k names from n on
-unfoldable pub made-and-ended : ℕ → ℕ → Input
-made-and-ended n k = each (λ m. ask 2 0 ∷ ask 3 m ∷ []) (from-on n k)
-
--- all but one of the n threads that there can be stay; the last one's place goes round, through the names up to 253, and then one more is made
-unfoldable pub a-round : ℕ → Input
-a-round n = replicate (n - 2) (ask 2 0) ++ (made-and-ended (n - 1) (names + 1 - n) ++ (ask 2 0 ∷ []))
 
 -- ---- rounds
 

@@ -8,7 +8,7 @@ use native.Mathlib.Omega.{arith}
 use borrow.Author.Tests.{eqb-true, eq-eqb, ne-eqb}
 use Rattle.rules.specs.Lists.{if_then_else_, _==_, any, has, keep, count, times-in, missing, pulled, behind, pull}
 use Rattle.rules.specs.Numbers.{Limits, names}
-use Rattle.rules.specs.Tables.{Tables, with-threads, with-held, with-managers, in-state, named, live, of-thread, change, manager, set-entry, new-thread, me}
+use Rattle.rules.specs.Tables.{Tables, with-threads, with-held, with-managers, in-state, named, live, of-thread, change, manager, set-entry, new-thread}
 use Rattle.rules.specs.Waking.{Outcome, _handing_, stop}
 use Rattle.rules.specs.Interrupt.{held-for}
 use Rattle.rules.specs.Ending.{ended-set, end}
@@ -18,11 +18,12 @@ use Rattle.rules.specs.Events.{decode}
 use Rattle.rules.specs.Refusals.{refusal}
 use Rattle.rules.specs.Step.{Stepped, serve, act, decided, settle, step}
 use Rattle.rules.specs.TableRules.{table-rules}
-use Rattle.laws.proofs.Words.{TrapKind, Program, Tlb, SysBp, Running, Ready, Device, Answer, Nothing, Result, Manager, Unset, Set, Gone, Managers, Parent, NoParent, ParentIs, Thread, Held, Call, CreateBrother, CreateSon, SetManager, GetCpuTime, WaitForIo, ByRunner}
+use Rattle.laws.specs.Requests.{Accepted, requester, entry, Made}
+use Rattle.laws.specs.Words.{TrapKind, Program, Tlb, SysBp, Running, Ready, Device, Nothing, Result, Manager, Unset, Set, Gone, Managers, Parent, NoParent, ParentIs, Thread, Held, Call, CreateBrother, CreateSon, SetManager, GetCpuTime, WaitForIo}
 use Rattle.laws.proofs.Tests.{clash, same?, or-false, not-true}
 use Rattle.laws.proofs.Tally.{none-passes, count-cons, count-any, none-any}
 use Rattle.laws.proofs.Members.{mem-keep, insert-new, insert-old, mem-insert, map-mem}
-use Rattle.laws.proofs.Types.{Places}
+use Rattle.laws.specs.Types.{Places}
 use Rattle.laws.proofs.Queues.{times-self}
 use Rattle.laws.proofs.Threads.{live-member, of-only, turned, turned-name, turned-live}
 use Rattle.laws.proofs.Steps.{Called, called, by-dispatch}
@@ -33,16 +34,7 @@ use Rattle.laws.proofs.PlacesKept.{runner-live}
 use Rattle.laws.proofs.Closure.{ended-holds}
 use Rattle.laws.proofs.Ending.{ending-forgets}
 use Rattle.laws.proofs.Sound.{tested-ruled}
-use Rattle.laws.proofs.Counts.{ticks-at}
-
--- the bytes are this call of the runner, and it is accepted
-pub record Accepted (L : Limits) (T : Tables) (bytes : List ℕ) (c : Call) : Type 0 where
-  pub asked : decode bytes ≡ ByRunner c
-  pub accepted : refusal L T (decode bytes) ≡ 0
-
--- the requester: the runner's name
-abbrev pub requester : Tables → ℕ
-requester T = me (T .runner)
+use Rattle.laws.specs.Counts.{ticks-at}
 
 module _ {L : Limits} {T : Tables} {bytes : List ℕ} {c : Call} (A : Accepted L T bytes c) where
   served : step L T bytes ≡ decided 0 (dispatch (serve (requester T) T c))
@@ -141,10 +133,6 @@ device-is-waited-for L T bytes d R A none =
         other x q i = rw (ne-eqb x (t .name) (λ k. absurd (omega (arith, times-self n q, sym (ap (λ l. times-in l n) (i ∙ ap (λ y. y ∷ q) (k ∙ sym e))) ∙ z))))
 
 -- ---- "4, 5, 6 set the manager for kinds 0, 1, 2 (result 0; if that entry is set or gone, the requester ends)"
-
--- the manager entry of thread n for a kind
-abbrev pub entry : TrapKind → ℕ → List Thread → Manager
-entry k n ts = of-thread Unset (λ t. manager k (t .managers)) n ts
 
 -- nobody has the name of a thread that ended
 ended-is-dead : (n : ℕ) (T : Tables) → live n (end n T) ≡ false
@@ -267,20 +255,6 @@ first-manager-is-set L T bytes k x R A e =
     )
 
 -- ---- "1 CREATEBROTHER and 2 CREATESON (result: the name; no managers, count 0)"
-
--- one thread more, ready, with a name that nobody had, no managers, count 0 and no answer; a is the requester's answer
-pub record Made (p : Parent) (T U : Tables) (a : Answer) : Type 0 where
-  pub thread : Thread
-  pub there : List·Memᴰ thread (U .threads)
-  pub told : a ≡ Result (thread .name)
-  pub new : live (thread .name) T ≡ false
-  pub parent : thread .parent ≡ p
-  pub state : thread .state ≡ Ready
-  pub managers : (k : TrapKind) → manager k (thread .managers) ≡ Unset
-  pub ticks : thread .ticks ≡ 0
-  pub answer : thread .answer ≡ Nothing
-  pub others : (t : Thread) → List·Memᴰ t (T .threads) → List·Memᴰ t (U .threads)
-  pub only : (t : Thread) → List·Memᴰ t (U .threads) → (t ≡ thread) ⊎ List·Memᴰ t (T .threads)
 
 pub made : (L : Limits) (T : Tables) (p : Parent) → L .threads < names → table-rules L T ≡ true → Made p T (create p T .tables) (create p T .answer)
 unfolding create

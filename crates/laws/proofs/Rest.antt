@@ -10,44 +10,25 @@ use native.Mathlib.Omega.{arith}
 use lib.Dec.{ltb}
 use lib.ListN.{length}
 use borrow.Author.Tests.{eqb-true, ne-eqb, ltb-true, ltb-false}
-use Rattle.rules.specs.Lists.{_==_, one-if, any, count, from-on}
+use Rattle.rules.specs.Lists.{one-if, any, count, from-on}
 use Rattle.rules.specs.Numbers.{Limits, small, names}
 use Rattle.rules.specs.Tables.{Tables, named, live, start}
 use Rattle.rules.specs.Requests.{next-name}
 use Rattle.rules.specs.Step.{step}
 use Rattle.rules.specs.Runs.{Input, run}
 use Rattle.rules.specs.TableRules.{table-rules}
-use Rattle.laws.proofs.Words.{Thread}
+use Rattle.laws.specs.Rest.{Twice, others, rest, big}
+use Rattle.laws.specs.Words.{Thread}
 use Rattle.laws.proofs.Tally.{count-append, count-zero, count-le-add}
 use Rattle.laws.proofs.Members.{from-on-parts}
-use Rattle.laws.proofs.Types.{Ruled}
+use Rattle.laws.specs.Types.{Ruled}
 use Rattle.laws.proofs.Names.{name-low, name-is-first-free}
 use Rattle.laws.proofs.Sound.{tested-ruled}
 use Rattle.laws.proofs.Kept.{start-ruled, step-ruled, run-ruled, rules-hold-at-the-start}
 use Rattle.laws.proofs.Dump.{load-is-dump}
 use Rattle.laws.proofs.Comings.{creation-brings, created-last}
-use Rattle.laws.proofs.Givings.{given-by, givings, Begun, by-a-start, by-a-dump, Brings, nobody, somebody, brings, gives-it, given-at}
-
--- ---- what is said
-
--- Among the names given a name stands twice. Those between are the names of the threads created between the two givings.
-pub record Twice (n : ℕ) (given : List ℕ) : Type 0 where
-  pub earlier : List ℕ
-  pub between : List ℕ
-  pub later : List ℕ
-  pub among : given ≡ earlier ++ (n ∷ (between ++ (n ∷ later)))
-
--- how many of these names are other names than n
-unfoldable pub others : ℕ → List ℕ → ℕ
-others n given = count (λ m. not (n == m)) given
-
--- how many threads of other names are created at least before a name comes round: of the 253 others, those that no other thread can have
-abbrev pub rest : Limits → ℕ
-rest L = (names - 1) - (L .threads - 1)
-
--- 64 threads and 128 blocks: the laws are over the limits, and hold for these too
-abbrev pub big : Limits
-big = record { threads = 64; blocks = 128 }
+use Rattle.laws.specs.Givings.{given-by, givings, Begun, by-a-start, by-a-dump}
+use Rattle.laws.proofs.Givings.{Brings, nobody, somebody, brings, gives-it, given-at}
 
 -- ---- numbers from a on that pass a test
 

@@ -9,7 +9,7 @@ use lib.Dec.{leb}
 use borrow.Author.Tests.{eq-eqb, leb-true, leb-false, le-leb}
 use Rattle.rules.specs.Lists.{any, count, insert, chain}
 use Rattle.rules.specs.Words.{by-wanted}
-use Rattle.laws.proofs.Words.{Wanted, Anybody, Only, TrapKind, Program, Tlb, SysBp, State, Running, Ready, Receiving, Clock, Device, Trapped, Nothing, Manager, Unset, Set, Gone, Managers, Parent, Thread, Message, Held}
+use Rattle.laws.specs.Words.{Wanted, Anybody, Only, TrapKind, Program, Tlb, SysBp, State, Running, Ready, Receiving, Clock, Device, Trapped, Nothing, Manager, Unset, Set, Gone, Managers, Parent, Thread, Message, Held}
 use Rattle.rules.specs.Tables.{named, manager, new-thread}
 use Rattle.rules.specs.States.{waits-for, awaits}
 use Rattle.rules.specs.Waking.{is-ordinary, notice-of}
@@ -20,7 +20,7 @@ use Rattle.laws.proofs.Tests.{by-if}
 use Rattle.laws.proofs.Tally.{any-count, member-any, any-fewer}
 use Rattle.laws.proofs.Members.{mem-map}
 use Rattle.laws.proofs.Ordered.{Transitive, chain-insert, Less, up-map}
-use Rattle.laws.proofs.Types.{Entry, Detail, Right, Family, Good}
+use Rattle.laws.specs.Types.{Entry, Detail, Right, Family, Good}
 use Rattle.laws.proofs.Threads.{turned, turned-name, turned-live}
 
 -- ---- messages by rising receiver

@@ -10,7 +10,7 @@ use lib.ListN.{length, length-map}
 use borrow.Author.Tests.{eqb-true, eqb-false}
 use Rattle.rules.specs.Lists.{_==_, one-if, any, keep, count, insert, times-in}
 use Rattle.rules.specs.Numbers.{Limits, devices}
-use Rattle.laws.proofs.Words.{State, Running, Ready, Receiving, Clock, Device, Trapped, Thread, Message, Held, Runner, NoRunner, Runs}
+use Rattle.laws.specs.Words.{State, Running, Ready, Receiving, Clock, Device, Trapped, Thread, Message, Held, Runner, NoRunner, Runs}
 use Rattle.rules.specs.Tables.{Tables, named, live, runs, runs-as}
 use Rattle.rules.specs.States.{is-running, is-ready, on-clock, awaits, trapped-on}
 use Rattle.rules.specs.Waking.{is-ordinary, blocks-used, notice-of}
@@ -19,7 +19,7 @@ use Rattle.laws.proofs.Tests.{same?, same-turned, and-left, and-right, 
 use Rattle.laws.proofs.Tally.{count-cons, count-map, count-add, count-add-le, count-same, count-keep, count-strict, count-insert, length-count, any-count, count-any, any-member, member-any, not-any, none-any, none-count, length-keep}
 use Rattle.laws.proofs.Members.{mem-insert}
 use Rattle.laws.proofs.Ordered.{up-insert, up-few}
-use Rattle.laws.proofs.Types.{here, Inv, Good, Fits}
+use Rattle.laws.specs.Types.{here, Inv, Good, Fits}
 use Rattle.laws.proofs.Queues.{no-longer}
 use Rattle.laws.proofs.Threads.{times-kept}
 use Rattle.laws.proofs.Places.{runs-self, asleep}

@@ -9,7 +9,7 @@ use native.Mathlib.Nat.{add-zero, add-suc}
 use lib.ListN.{length, length-append, length-map}
 use borrow.Author.Tests.{eq-eqb, ne-eqb}
 use Rattle.rules.specs.Lists.{one-if, any, has, keep, count, times}
-use Rattle.laws.proofs.Words.{Thread}
+use Rattle.laws.specs.Words.{Thread}
 use Rattle.rules.specs.Tables.{named}
 use Rattle.rules.specs.Ending.{depends, grow, ended-set}
 use Rattle.laws.proofs.Tests.{and-right, not-true, same?}

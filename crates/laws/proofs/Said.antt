@@ -3,7 +3,7 @@ use Prim.Native.Nat.{ℕ, _+_, _*_, _/_, _%_, _^_, _<_}
 use mathlib.Core.Path.{_≡_, refl, ap, ap₂, _∙_}
 use mathlib.Core.Logic.{_≢_}
 use mathlib.Core.Bool.{Bool, true}
-use mathlib.Core.List.{List, [], _∷_, _++_}
+use mathlib.Core.List.{[], _∷_, _++_}
 use native.Mathlib.Omega.{arith}
 use borrow.Author.Tests.{eqb-true, lt-ltb, ne-eqb}
 use Rattle.rules.specs.Lists.{if_then_else_, all, is-byte, number-from, number, four-bytes}
@@ -11,14 +11,12 @@ use Rattle.rules.specs.Numbers.{wrap}
 use Rattle.rules.specs.Tags.{facts-in, tag-facts, rule-in, argument-rule, meets}
 use Rattle.rules.specs.Pick.{pick}
 use Rattle.rules.specs.Events.{asked-in, request, trap-of, interrupt-of, meaning, field-of, decode}
-use Rattle.laws.proofs.Pick.{Foremost, pick-takes}
-use Rattle.laws.proofs.Words.{Anybody, Only, Program, Tlb, SysBp, Oneself, Named, Send, Receive, CreateBrother, CreateSon, Terminate, SetManager, GetCpuTime, WaitForClock, WaitForIo, Trap, Malformed, ByRunner, Tick, Interrupt, Picked}
+use Rattle.laws.specs.Said.{asking, interrupting}
+use Rattle.laws.specs.Pick.{Foremost}
+use Rattle.laws.proofs.Pick.{pick-takes}
+use Rattle.laws.specs.Words.{Anybody, Only, Program, Tlb, SysBp, Oneself, Named, Send, Receive, CreateBrother, CreateSon, Terminate, SetManager, GetCpuTime, WaitForClock, WaitForIo, Trap, Malformed, ByRunner, Tick, Interrupt, Picked}
 use Rattle.laws.proofs.Tally.{all-both}
 use Rattle.laws.proofs.Bytes.{four-are-bytes, four-back, four-number}
-
--- "18 request (service 1, argument 1)"
-abbrev pub asking : ℕ → ℕ → List ℕ
-asking s a = 18 ∷ 0 ∷ 2 ∷ s ∷ a ∷ []
 
 one-back : (a : ℕ) → number (a ∷ []) ≡ a
 unfolding number-from
@@ -70,10 +68,6 @@ trap-says c k = (rw (four-are-bytes c, four-back c k), rw (four-are-bytes c, fou
 pub tick-says : decode (20 ∷ 0 ∷ 0 ∷ []) ≡ Tick
 unfolding decode all field-of tag-facts facts-in meaning
 tick-says = refl
-
--- "21 interrupt (pending devices 8, bit n for device n; status 4)"
-abbrev pub interrupting : ℕ → ℕ → List ℕ
-interrupting p w = 21 ∷ 0 ∷ 12 ∷ (four-bytes (p / wrap) ++ (four-bytes p ++ four-bytes w))
 
 eight-back : (p : ℕ) → p < 2 ^ 48 → number (four-bytes (p / wrap) ++ (four-bytes p ++ [])) ≡ p
 unfolding number-from

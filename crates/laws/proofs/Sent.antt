@@ -11,7 +11,8 @@ use borrow.Author.Tests.{eqb-true, eq-eqb, ne-eqb}
 use Rattle.rules.specs.Lists.{if_then_else_, _==_, one-if, any, has, keep, count, insert, Pulled, missing, pulled, pull}
 use Rattle.rules.specs.Numbers.{Limits, names, beat-ticks}
 use Rattle.rules.specs.Words.{by-manager, by-runner}
-use Rattle.laws.proofs.Words.{Wanted, Anybody, Only, TrapKind, State, Running, Ready, Receiving, Clock, Device, Trapped, Answer, Nothing, FromMessage, FromNotice, SenderGone, Result, Manager, Unset, Set, Gone, Parent, Thread, Message, Held, Runner, NoRunner, Runs, Oneself, Named, Send, Receive, CreateBrother, CreateSon, Terminate, SetManager, GetCpuTime, WaitForClock, WaitForIo, Trap, Event, Malformed, ByRunner, Tick, Interrupt, Decision}
+use Rattle.laws.specs.Sent.{owes, sends, sent-of, delivered-of, dropped-by, dropped-of, open-of}
+use Rattle.laws.specs.Words.{Wanted, Anybody, Only, TrapKind, State, Running, Ready, Receiving, Clock, Device, Trapped, Answer, Nothing, FromMessage, FromNotice, SenderGone, Result, Manager, Unset, Set, Gone, Parent, Thread, Message, Held, Runner, NoRunner, Runs, Oneself, Named, Send, Receive, CreateBrother, CreateSon, Terminate, SetManager, GetCpuTime, WaitForClock, WaitForIo, Trap, Event, Malformed, ByRunner, Tick, Interrupt, Decision}
 use Rattle.rules.specs.Tables.{Tables, with-time, with-clock, in-state, with-ticks, named, with-messages, with-managers, of-thread, change, set-entry, new-thread, runs-as, me, start}
 use Rattle.rules.specs.States.{is-ready, on-clock, receives, at-device, waits-for, trapped-on, awaits}
 use Rattle.rules.specs.Waking.{Outcome, wake-those, notice-of, handed, accepts, queue, deliver, stop}
@@ -32,57 +33,17 @@ use Rattle.laws.proofs.Tests.{by-if, by-runs, clash, and-left, and-righ
 use Rattle.laws.proofs.Tally.{count-map, count-same, count-zero, count-keep, count-less, count-add, any-count, none-count, member-any, count-insert, count-only}
 use Rattle.laws.proofs.Members.{mem-map, mem-keep}
 use Rattle.laws.proofs.Threads.{live-member, looked-up, of-only, turned, turned-name, names-kept, here-is, apart, left}
-use Rattle.laws.proofs.Types.{Inv, Ruled}
+use Rattle.laws.specs.Types.{Inv, Ruled}
 use Rattle.laws.proofs.Steps.{called}
 use Rattle.laws.proofs.PlacesKept.{charge-inv, beat-inv, act-inv}
 use Rattle.laws.proofs.Sound.{tested-ruled}
 use Rattle.laws.proofs.Kept.{step-ruled, start-ruled}
-use Rattle.laws.proofs.Refusals.{call-is}
-use Rattle.laws.proofs.Counts.{if-accepted, over-run}
-use Rattle.laws.proofs.Blocks.{is-receive, entry-of, is-unset, ends}
+use Rattle.laws.specs.Refusals.{call-is}
+use Rattle.laws.specs.Counts.{if-accepted, over-run}
+use Rattle.laws.specs.Blocks.{is-receive, entry-of, is-unset, ends}
 use Rattle.laws.proofs.Inboxes.{runs-on, dispatch-messages}
-use Rattle.laws.proofs.Once.{unless-awaited, queues, discards, as-message, hands, or-none, split, handed-back, not-own, awaited-as, accepted}
-
--- the answer that is due to a thread is a message or notice that passes
-unfoldable pub owes : (Message → Bool) → Thread → Bool
-owes p t = any p (as-message (t .name) (t .answer))
-
--- what an accepted event sends: a message that is no decision, or the notice of a trap, whether its receiver waits for it or not
-unfoldable pub sends : Tables → Event → List Message
-sends T Malformed = []
-sends T (ByRunner (Send to w)) = if decides (me (T .runner)) to T then [] else message to (me (T .runner)) w ∷ []
-sends T (ByRunner (Receive w)) = []
-sends T (ByRunner CreateBrother) = []
-sends T (ByRunner CreateSon) = []
-sends T (ByRunner (Terminate n)) = []
-sends T (ByRunner (SetManager k n)) = []
-sends T (ByRunner GetCpuTime) = []
-sends T (ByRunner WaitForClock) = []
-sends T (ByRunner (WaitForIo d)) = []
-sends T (ByRunner (Trap k c)) = by-manager [] (λ n. notice n (me (T .runner)) c ∷ []) (entry-of k (me (T .runner)) T)
-sends T Tick = []
-sends T (Interrupt d w) = []
-
--- ---- along a run, how many that pass a test
-
-abbrev pub sent-of : (Message → Bool) → Limits → Tables → Input → ℕ
-sent-of p L T es = over-run (λ U e. count p (sends U e)) L T es
-
--- handed over by a decision, whatever the event was
-unfoldable pub delivered-of : (Message → Bool) → Limits → Tables → Input → ℕ
-delivered-of p L T [] = 0
-delivered-of p L T (e ∷ es) = count p (as-message (step L T e .decision .runner) (step L T e .decision .answer)) + delivered-of p L (step L T e .tables) es
-
--- discarded from an inbox, or due to a thread that ended
-abbrev pub dropped-by : (Message → Bool) → Tables → Event → ℕ
-dropped-by p T e = count p (keep (discards T e) (T .messages)) + count (λ t. has (t .name) (ends T e) && owes p t) (T .threads)
-
-abbrev pub dropped-of : (Message → Bool) → Limits → Tables → Input → ℕ
-dropped-of p L T es = over-run (dropped-by p) L T es
-
--- in an inbox, or due to a thread
-abbrev pub open-of : (Message → Bool) → Tables → ℕ
-open-of p T = count p (T .messages) + count (owes p) (T .threads)
+use Rattle.laws.specs.Once.{unless-awaited, queues, as-message, hands}
+use Rattle.laws.proofs.Once.{or-none, split, handed-back, not-own, awaited-as, accepted}
 
 -- ---- threads and answers
 

@@ -9,7 +9,7 @@ use lib.ListN.{length, getD, set}
 use borrow.Author.Tests.{eqb-true, eq-eqb, ne-eqb}
 use Rattle.rules.specs.Lists.{if_then_else_, one-if, any, keep, count}
 use Rattle.rules.specs.Numbers.{full-slice, beat-ticks}
-use Rattle.laws.proofs.Words.{State, Running, Ready, Answer, Nothing, Result, Thread, Message, NoRunner, Runs}
+use Rattle.laws.specs.Words.{State, Running, Ready, Answer, Nothing, Result, Thread, Message, NoRunner, Runs}
 use Rattle.rules.specs.Tables.{Tables, with-runner, with-time, with-threads, with-ready, with-clock, with-messages, with-held, in-state, with-ticks, named, live, of-thread, change}
 use Rattle.rules.specs.States.{on-clock, receives, waits-for, awaits}
 use Rattle.rules.specs.Waking.{Outcome, _handing_, wake-those, wake-by-name, wake, notice-of, handed, accepts, queue, deliver, stop}

@@ -10,7 +10,7 @@ use lib.ListN.{length}
 use borrow.Author.Tests.{eqb-true, eqb-false, eq-eqb, ne-eqb, leb-true, le-leb, ltb-true, lt-ltb}
 use Rattle.rules.specs.Lists.{_==_, all, any, count, chain}
 use Rattle.rules.specs.Numbers.{Limits, names, full-slice, beat-ticks, devices, wrap}
-use Rattle.laws.proofs.Words.{TrapKind, Program, Tlb, SysBp, State, Running, Ready, Receiving, Clock, Device, Trapped, Answer, Nothing, FromMessage, FromNotice, SenderGone, Result, Manager, Unset, Set, Gone, Managers, Thread, Message, Held, Runner, NoRunner, Runs}
+use Rattle.laws.specs.Words.{TrapKind, Program, Tlb, SysBp, State, Running, Ready, Receiving, Clock, Device, Trapped, Answer, Nothing, FromMessage, FromNotice, SenderGone, Result, Manager, Unset, Set, Gone, Managers, Thread, Message, Held, Runner, NoRunner, Runs}
 use Rattle.rules.specs.Tables.{Tables, named, live, manager}
 use Rattle.rules.specs.States.{is-ready, awaits}
 use Rattle.rules.specs.Waking.{is-ordinary, blocks-used, notice-of}
@@ -18,7 +18,7 @@ use Rattle.rules.specs.TableRules.{state-in-range, ranges, names-right, parents
 use Rattle.laws.proofs.Tests.{clash, and-left, and-right, _&_, three, six, or-cases, not-true}
 use Rattle.laws.proofs.Tally.{none-count, any-member, member-any, none-any, all-of, all-at, any-only}
 use Rattle.laws.proofs.Ordered.{up-once}
-use Rattle.laws.proofs.Types.{Inv, Steady, Entry, Detail, Right, Post, Good, Fits, Ruled}
+use Rattle.laws.specs.Types.{Inv, Steady, Entry, Detail, Right, Post, Good, Fits, Ruled}
 use Rattle.laws.proofs.Threads.{member-live, live-member}
 use Rattle.laws.proofs.Descent.{family-tested, tested-family}
 use Rattle.laws.proofs.Tested.{tested-places, places-tested, tested-devices, devices-tested}

@@ -7,7 +7,7 @@ use native.Mathlib.Nat.{mod-lt}
 use borrow.Author.Tests.{eqb-false}
 use Rattle.rules.specs.Lists.{_==_}
 use Rattle.rules.specs.Numbers.{Limits, names, full-slice, beat-ticks, wrap}
-use Rattle.laws.proofs.Words.{Runner, NoRunner, Runs, Event, Malformed, ByRunner, Tick, Interrupt}
+use Rattle.laws.specs.Words.{Runner, NoRunner, Runs, Event, Malformed, ByRunner, Tick, Interrupt}
 use Rattle.rules.specs.Tables.{Tables, change}
 use Rattle.rules.specs.Waking.{Outcome, wake-those}
 use Rattle.rules.specs.Tick.{charge, beat, rotate, tick}
@@ -15,9 +15,10 @@ use Rattle.rules.specs.Dispatch.{dispatch}
 use Rattle.rules.specs.Events.{decode}
 use Rattle.rules.specs.Step.{act, step}
 use Rattle.laws.proofs.Tests.{by-if, by-runs}
-use Rattle.laws.proofs.Types.{Inv, Steady}
+use Rattle.laws.specs.Types.{Inv, Steady}
 use Rattle.laws.proofs.Steps.{by-step, by-dispatch}
-use Rattle.laws.proofs.Calm.{Goes, on, off, Calm, is-tick, act-calm}
+use Rattle.laws.specs.Calm.{is-tick}
+use Rattle.laws.proofs.Calm.{Goes, on, off, Calm, act-calm}
 
 -- ---- slice and time
 

@@ -8,7 +8,7 @@ use borrow.Author.Tests.{ne-eqb}
 use Rattle.rules.specs.Lists.{_==_}
 use Rattle.rules.specs.Numbers.{Limits, full-slice}
 use Rattle.rules.specs.Words.{by-runner}
-use Rattle.laws.proofs.Words.{Running, Nothing, Runner, NoRunner, Runs, Call, ByRunner}
+use Rattle.laws.specs.Words.{Running, Nothing, Runner, NoRunner, Runs, Call, ByRunner}
 use Rattle.rules.specs.Tables.{Tables, with-runner, with-ready, in-state, change, runs, me}
 use Rattle.rules.specs.Waking.{Outcome}
 use Rattle.rules.specs.Dispatch.{run-next, dispatch}

@@ -9,7 +9,7 @@ use borrow.Author.Tests.{eqb-true, eq-eqb, ne-eqb, leb-true, le-leb, ltb-true, l
 use Rattle.rules.specs.Lists.{_==_, one-if, all, any, count, times-in, from-on}
 use Rattle.rules.specs.Numbers.{devices}
 use Rattle.rules.specs.Words.{by-runner}
-use Rattle.laws.proofs.Words.{State, Running, Ready, Receiving, Clock, Device, Trapped, Thread, Held, Runner, NoRunner, Runs}
+use Rattle.laws.specs.Words.{State, Running, Ready, Receiving, Clock, Device, Trapped, Thread, Held, Runner, NoRunner, Runs}
 use Rattle.rules.specs.Tables.{Tables, named, live, runs-as}
 use Rattle.rules.specs.States.{is-running, is-ready, on-clock, at-device, waits-for}
 use Rattle.rules.specs.Interrupt.{held-for}
@@ -17,7 +17,7 @@ use Rattle.rules.specs.TableRules.{state-in-range, places-agree, devices-right}
 use Rattle.laws.proofs.Tests.{clash, _&_, three, four}
 use Rattle.laws.proofs.Tally.{none-count, none-any, all-of, all-at}
 use Rattle.laws.proofs.Members.{member-times, from-on-mem}
-use Rattle.laws.proofs.Types.{here, Agree}
+use Rattle.laws.specs.Types.{here, Agree}
 use Rattle.laws.proofs.Threads.{live-member, here-le, here-live, here-is}
 
 -- ---- "state, runner, ready queue and clock queue agree, each name once"

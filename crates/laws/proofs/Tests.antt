@@ -7,7 +7,7 @@ use native.Mathlib.Omega.{arith}
 use borrow.Author.Tests.{eqb-true, eqb-false, ne-eqb}
 use Rattle.rules.specs.Lists.{if_then_else_, _==_, one-if}
 use Rattle.rules.specs.Words.{by-runner}
-use Rattle.laws.proofs.Words.{Runner, NoRunner, Runs}
+use Rattle.laws.specs.Words.{Runner, NoRunner, Runs}
 
 -- to prove something of `if b then x else y`: prove it of each
 pub by-if : {A : Type 0} (P : A → Type 0) (b : Bool) {x y : A} → (b ≡ true → P x) → (b ≡ false → P y) → P (if b then x else y)

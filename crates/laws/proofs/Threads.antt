@@ -7,12 +7,12 @@ use mathlib.Core.List.{List, [], _∷_, map, List·Memᴰ, List·Memᴰ·head, L
 use native.Mathlib.Omega.{arith}
 use borrow.Author.Tests.{eqb-true, eq-eqb}
 use Rattle.rules.specs.Lists.{if_then_else_, _==_, one-if, any, keep, count, has, times-in}
-use Rattle.laws.proofs.Words.{State, Running, Ready, Receiving, Clock, Device, Trapped, Answer, Thread}
+use Rattle.laws.specs.Words.{State, Running, Ready, Receiving, Clock, Device, Trapped, Answer, Thread}
 use Rattle.rules.specs.Tables.{in-state, named, of-thread}
 use Rattle.rules.specs.States.{is-running, is-ready, on-clock}
 use Rattle.laws.proofs.Tests.{by-if, and-left, and-right, _&_, and-turned, one-true}
 use Rattle.laws.proofs.Tally.{count-cons, count-map, count-same, count-less, count-keep, any-count, count-any, any-counts, any-member, member-any, count-only}
-use Rattle.laws.proofs.Types.{here}
+use Rattle.laws.specs.Types.{here}
 
 -- ---- who lives
 

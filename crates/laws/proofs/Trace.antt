@@ -22,22 +22,25 @@ use Rattle.rules.specs.Step.{serve, decided, step}
 use Rattle.rules.specs.Runs.{run}
 use Rattle.rules.specs.Benches.{ask}
 use Rattle.rules.specs.TableRules.{table-rules}
-use Rattle.laws.proofs.Words.{TrapKind, Program, Tlb, SysBp, State, Running, Ready, Receiving, Clock, Device, Trapped, Nothing, Manager, Unset, Set, Gone, Managers, Parent, NoParent, ParentIs, Thread, Runner, NoRunner, Runs, Named, Call, CreateSon, Terminate, ByRunner}
+use Rattle.laws.specs.Words.{TrapKind, Program, Tlb, SysBp, State, Running, Ready, Receiving, Clock, Device, Trapped, Nothing, Manager, Unset, Set, Gone, Managers, Parent, NoParent, ParentIs, Thread, Runner, NoRunner, Runs, Named, Call, CreateSon, Terminate, ByRunner}
 use Rattle.laws.proofs.Tests.{clash, and-false}
 use Rattle.laws.proofs.Tally.{count-insert, none-count, none-any, map-same}
 use Rattle.laws.proofs.Members.{member-has}
-use Rattle.laws.proofs.Types.{Ruled}
+use Rattle.laws.specs.Types.{Ruled}
 use Rattle.laws.proofs.Names.{name-low, name-free}
 use Rattle.laws.proofs.Closure.{joins, rests}
-use Rattle.laws.proofs.Ending.{Forgotten, freed, missed}
+use Rattle.laws.specs.Ending.{Forgotten}
+use Rattle.laws.proofs.Ending.{freed, missed}
 use Rattle.laws.proofs.EndingKept.{entry-stays}
 use Rattle.laws.proofs.Sound.{tested-ruled}
 use Rattle.laws.proofs.Inboxes.{keep-append, keep-none-of, keep-insert}
 use Rattle.laws.proofs.Rounds.{stops}
-use Rattle.laws.proofs.Requests.{Accepted, goes-on, kept-all}
+use Rattle.laws.specs.Requests.{Accepted}
+use Rattle.laws.proofs.Requests.{goes-on, kept-all}
 use Rattle.laws.proofs.Said.{requests-say, naming-requests-say}
-use Rattle.laws.proofs.Comings.{creates, created-lives}
-use Rattle.laws.proofs.Givings.{result, given-by, givings}
+use Rattle.laws.specs.Comings.{creates}
+use Rattle.laws.proofs.Comings.{created-lives}
+use Rattle.laws.specs.Givings.{result, given-by, givings}
 use Rattle.laws.proofs.Living.{ruled-names-the-living, named-nowhere}
 
 -- ---- where no name of a set stands in the tables, nobody is concerned, and their ending changes nothing

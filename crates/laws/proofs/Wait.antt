@@ -1,15 +1,15 @@
 -- The wait of a ready thread: it has been given the processor, or has ended, by the tick number 5 × (threads − 1) accepted after it became ready.
 use Prim.Native.Nat.{ℕ, zero, suc, _+_, _-_, _*_, _≤_, _<_}
 use mathlib.Core.Path.{_≡_, refl, ap}
-use mathlib.Core.Bool.{Bool, true, false, _&&_, _||_, not, false≢true}
+use mathlib.Core.Bool.{true, false, _&&_, not, false≢true}
 use mathlib.Core.List.{List, [], _∷_, map}
 use native.Mathlib.Omega.{arith}
-use lib.Dec.{leb}
 use lib.ListN.{length, replicate, length-map}
 use borrow.Author.Tests.{le-leb, ne-eqb}
 use Rattle.rules.specs.Lists.{_==_, one-if, any, has, times-in}
 use Rattle.rules.specs.Numbers.{Limits, small, names, full-slice}
-use Rattle.laws.proofs.Words.{Nothing, Thread, Runner, NoRunner, Runs, Event, Malformed, ByRunner, Tick, Interrupt}
+use Rattle.laws.specs.Wait.{tick-accepted, ticks-accepted, became-ready, served, served-by}
+use Rattle.laws.specs.Words.{Nothing, Thread, Runner, NoRunner, Runs, Event, Malformed, ByRunner, Tick, Interrupt}
 use Rattle.rules.specs.Tables.{Tables, live, runs-as, start}
 use Rattle.rules.specs.States.{is-running}
 use Rattle.rules.specs.Events.{decode}
@@ -22,36 +22,13 @@ use Rattle.rules.specs.Opened.{opened}
 use Rattle.rules.specs.Benches.{ask, ticks, sons}
 use Rattle.laws.proofs.Tests.{and-right, _&_, or-left, or-right, one-at-most}
 use Rattle.laws.proofs.Tally.{count-cons, count-map}
-use Rattle.laws.proofs.Types.{here, Ruled}
+use Rattle.laws.specs.Types.{here, Ruled}
 use Rattle.laws.proofs.Queues.{no-longer, ahead, ahead-less}
 use Rattle.laws.proofs.Threads.{apart}
-use Rattle.laws.proofs.Calm.{is-tick, slice-left, rank, Nearer, now, over, soon, act-nearer, tick-nearer}
+use Rattle.laws.specs.Calm.{is-tick}
+use Rattle.laws.proofs.Calm.{slice-left, rank, Nearer, now, over, soon, act-nearer, tick-nearer}
 use Rattle.laws.proofs.Sound.{tested-ruled}
 use Rattle.laws.proofs.Kept.{start-ruled, step-ruled, run-ruled}
-
--- ---- what the law speaks of
-
--- the step is accepted, and its event is a tick
-unfoldable pub tick-accepted : Limits → Tables → List ℕ → Bool
-tick-accepted L T bytes = step L T bytes .decision .refusal == 0 && is-tick (decode bytes)
-
--- how many of a run's events are accepted ticks
-unfoldable pub ticks-accepted : Limits → Tables → Input → ℕ
-ticks-accepted L T [] = 0
-ticks-accepted L T (e ∷ es) = one-if (tick-accepted L T e) + ticks-accepted L (step L T e .tables) es
-
--- n is not in the ready queue before the step, and is in it after
-unfoldable pub became-ready : Limits → Tables → List ℕ → ℕ → Bool
-became-ready L T bytes n = not (has n (T .ready)) && has n (step L T bytes .tables .ready)
-
--- n runs, or has ended
-unfoldable pub served : ℕ → Tables → Bool
-served n T = runs-as n (T .runner) || not (live n T)
-
--- n is served now, or after some further event that comes no later than the k-th accepted tick
-unfoldable pub served-by : Limits → ℕ → ℕ → Tables → Input → Bool
-served-by L k n T [] = served n T
-served-by L k n T (e ∷ es) = let t = one-if (tick-accepted L T e) in served n T || (leb t k && served-by L (k - t) n (step L T e .tables) es)
 
 -- ---- the rank of a ready thread is at most a full slice for each other thread that there can be
 

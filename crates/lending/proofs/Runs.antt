@@ -14,13 +14,15 @@ use Rattle.rules.specs.TableRules.{table-rules}
 use Rattle.rules.specs.Step.{step}
 use Rattle.rules.specs.Runs.{Input, run}
 use Rattle.rules.specs.declared.Decision.{Decision}
-use Rattle.laws.proofs.Words.{NoRunner, Panicked, Event}
+use Rattle.laws.specs.Words.{NoRunner, Panicked, Event}
 use Rattle.laws.proofs.Steps.{run-last}
 use Rattle.laws.proofs.Kept.{rules-hold-in-runs}
-use Rattle.laws.proofs.Wait.{became-ready, ticks-accepted, served-by, ready-thread-waits-at-most-95}
-use Rattle.laws.proofs.Outside.{from-outside, some-ready, outside}
+use Rattle.laws.specs.Wait.{became-ready, ticks-accepted, served-by}
+use Rattle.laws.proofs.Wait.{ready-thread-waits-at-most-95}
+use Rattle.laws.specs.Outside.{from-outside, some-ready, outside}
 use Rattle.laws.proofs.Idle.{panicked-exactly}
-use Rattle.laws.proofs.Handed.{Cause, whatever-is-handed}
+use Rattle.laws.specs.Handed.{Cause}
+use Rattle.laws.proofs.Handed.{whatever-is-handed}
 use Rattle.store.specs.Store.{tables}
 use Rattle.lending.specs.Lent.{valid, Answered, Started}
 

@@ -9,7 +9,7 @@ use Rattle.rules.specs.Tables.{start}
 use Rattle.rules.specs.Step.{step}
 use Rattle.rules.specs.declared.Decision.{Decision}
 use Rattle.laws.proofs.Tests.{clash, and-left, and-right, _&_}
-use Rattle.laws.proofs.Types.{Ruled}
+use Rattle.laws.specs.Types.{Ruled}
 use Rattle.laws.proofs.Sound.{tested-ruled, ruled-tested}
 use Rattle.laws.proofs.Kept.{start-ruled}
 use Rattle.store.specs.Store.{limits, tables, Holding}

@@ -16,7 +16,7 @@ use Rattle.rules.specs.Tables.{Tables, with-last, with-runner, with-time, with-
 use Rattle.rules.specs.Interrupt.{held-for, hold}
 use Rattle.rules.specs.Dump.{thread-value, message-value, held-value}
 use Rattle.rules.specs.Load.{thread-from, message-from, held-from}
-use Rattle.laws.proofs.Words.{Thread, Message, Held, Runner}
+use Rattle.laws.specs.Words.{Thread, Message, Held, Runner}
 use Rattle.laws.proofs.Tally.{all-of, all-at}
 use Rattle.laws.proofs.Members.{mem-keep, mem-insert}
 use Rattle.laws.proofs.Ordered.{chain-tail, up-below}

@@ -13,9 +13,9 @@ use Rattle.rules.specs.Tables.{Tables, with-threads, with-ready, with-clock, wi
 use Rattle.rules.specs.TableRules.{table-rules}
 use Rattle.rules.specs.Dump.{field, head-value, thread-value, message-value, held-value, dump}
 use Rattle.rules.specs.Load.{runner-from, word-at}
-use Rattle.laws.proofs.Words.{Held}
+use Rattle.laws.specs.Words.{Held}
 use Rattle.laws.proofs.Tests.{clash}
-use Rattle.laws.proofs.Types.{Ruled}
+use Rattle.laws.specs.Types.{Ruled}
 use Rattle.laws.proofs.Sound.{tested-ruled}
 use Rattle.laws.proofs.DumpLength.{queues-few, messages-few, held-few}
 use Rattle.laws.proofs.Dump.{thread-back, message-back, held-back, head-back, thread-ranged, runner-ranged}

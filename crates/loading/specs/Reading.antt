@@ -12,7 +12,7 @@ use Rattle.rules.specs.TableRules.{table-rules}
 use Rattle.rules.specs.Tags.{before-value, thread-tag, ready-tag, message-tag, held-tag}
 use Rattle.rules.specs.Dump.{field, thread-value, message-value, held-value, dump}
 use Rattle.rules.specs.Load.{loaded, no-dump, load, runner-from, word-at, thread-from, message-from, held-from}
-use Rattle.laws.proofs.Words.{Thread, Message, Held}
+use Rattle.laws.specs.Words.{Thread, Message, Held}
 use Rattle.store.specs.Store.{limits, tables, Shaped}
 use Rattle.checking.specs.Stands.{stands}
 

@@ -8,7 +8,7 @@ use lib.ListN.{length, getD, set, length-set}
 use lib.Seq.{getD-set-same, getD-set-other}
 use Rattle.rules.specs.Lists.{if_then_else_, _==_, each}
 use Rattle.rules.specs.Numbers.{devices}
-use Rattle.laws.proofs.Words.{Thread, Message, Held, Runner}
+use Rattle.laws.specs.Words.{Thread, Message, Held, Runner}
 use Rattle.laws.proofs.Tests.{same?}
 use Rattle.words.specs.Saying.{word, byte, runner-in, thread-in, message-in, held-in}
 use Rattle.memory.specs.Layout.{thread-place, message-place, held-place, hints}

@@ -4,7 +4,7 @@ use mathlib.Core.Path.{_≡_, refl, ap, _∙_}
 use mathlib.Core.List.{List, []}
 use native.Mathlib.Omega.{arith}
 use lib.ListN.{length, set, length-set}
-use Rattle.laws.proofs.Words.{NoRunner}
+use Rattle.laws.specs.Words.{NoRunner}
 use Rattle.memory.specs.Rows.{Rows, Room, Roomy, view, nothing, put-held, put-runner}
 use Rattle.memory.specs.Memory.{rows-of}
 use Rattle.memory.proofs.Changes.{told, words, put-word, rows-told, after-store}

@@ -11,7 +11,7 @@ use lib.Seq.{getD-set-same, getD-set-other}
 use borrow.Author.Tests.{ltb-true, ltb-false}
 use borrow.Rule.Slice.PartMut.{putMid}
 use Rattle.rules.specs.Tables.{manager, with-managers, set-entry}
-use Rattle.laws.proofs.Words.{Thread, Message, Manager, TrapKind, Program, Tlb, SysBp}
+use Rattle.laws.specs.Words.{Thread, Message, Manager, TrapKind, Program, Tlb, SysBp}
 use Rattle.laws.proofs.Tests.{same?}
 use Rattle.words.specs.Saying.{word, byte, parent-in, state-in, manager-in, answer-in, sender-in, kind-in, thread-in, message-in}
 use Rattle.memory.specs.Layout.{thread-place, message-place, manager-place}

@@ -12,7 +12,7 @@ use borrow.Author.Tests.{eqb-true, eqb-false, eq-eqb, ne-eqb, lt-ltb, le-ltb}
 use Rattle.rules.specs.Lists.{if_then_else_, _==_, each, from-on, all, any, keep, insert}
 use Rattle.rules.specs.Numbers.{devices, nobody}
 use Rattle.rules.specs.Interrupt.{held-for, hold}
-use Rattle.laws.proofs.Words.{Held}
+use Rattle.laws.specs.Words.{Held}
 use Rattle.laws.proofs.Tests.{by-if, clash, same?, and-false}
 use Rattle.words.specs.Saying.{word, held-in}
 use Rattle.memory.specs.Layout.{held-place}

@@ -10,7 +10,7 @@
 --
 use Prim.Native.Nat.{ℕ, _+_, _*_}
 use Rattle.rules.specs.Numbers.{Limits, devices}
-use Rattle.laws.proofs.Words.{TrapKind, Program, Tlb, SysBp}
+use Rattle.laws.specs.Words.{TrapKind, Program, Tlb, SysBp}
 
 -- more blocks than these no start gives; so every count is a word
 abbrev pub most-blocks : ℕ

@@ -4,7 +4,7 @@ use mathlib.Core.List.{List, [], _∷_}
 use lib.ListN.{length, take, drop}
 use Rattle.rules.specs.Lists.{each, from-on}
 use Rattle.rules.specs.Numbers.{Limits, devices}
-use Rattle.laws.proofs.Words.{Thread, Message, Held}
+use Rattle.laws.specs.Words.{Thread, Message, Held}
 use Rattle.words.specs.Saying.{word, byte, thread-in, message-in, held-in, runner-in}
 use Rattle.memory.specs.Layout.{thread-place, message-place, held-place}
 use Rattle.memory.specs.Rows.{Rows}

@@ -6,7 +6,7 @@ use mathlib.Core.List.{List, [], _∷_}
 use lib.ListN.{length, take}
 use Rattle.rules.specs.Lists.{if_then_else_}
 use Rattle.rules.specs.Numbers.{Limits, names}
-use Rattle.laws.proofs.Words.{Running, NoParent, Ordinary, Thread, Message, Held, Runner, NoRunner}
+use Rattle.laws.specs.Words.{Running, NoParent, Ordinary, Thread, Message, Held, Runner, NoRunner}
 use Rattle.rules.specs.Tables.{Tables, new-thread}
 use Rattle.rules.specs.Interrupt.{held-for}
 use Rattle.memory.specs.Layout.{size, most-blocks}

@@ -9,8 +9,8 @@ use lib.ListN.{length, take, getD}
 use lib.Seq.{length-take-le, getD-take}
 use borrow.Author.Tests.{lt-ltb, le-ltb}
 use Rattle.rules.specs.Lists.{if_then_else_}
-use Rattle.laws.proofs.Words.{Thread}
-use Rattle.laws.proofs.Types.{Rising}
+use Rattle.laws.specs.Words.{Thread}
+use Rattle.laws.specs.Types.{Rising}
 use Rattle.laws.proofs.Ordered.{chain-tail, up-below}
 use Rattle.laws.proofs.Single.{getD-member}
 use Rattle.memory.specs.Rows.{place}

@@ -13,7 +13,7 @@ use Rattle.rules.specs.Words.{by-parent, by-manager}
 use Rattle.rules.specs.Tables.{in-state, manager, with-managers, set-entry}
 use Rattle.rules.specs.States.{awaits}
 use Rattle.rules.specs.Ending.{depends, grow, gone-if, without-managers, misses, told-gone}
-use Rattle.laws.proofs.Words.{State, Ready, Answer, TrapKind, Program, Tlb, SysBp, Manager, Managers, Unset, Set, Gone, Thread}
+use Rattle.laws.specs.Words.{State, Ready, Answer, TrapKind, Program, Tlb, SysBp, Manager, Managers, Unset, Set, Gone, Thread}
 use Rattle.laws.proofs.Closure.{joins}
 use Rattle.memory.specs.Rows.{Rows, view, Roomy, members, put-threads, put-ready, put-readies, put-ended, put-ends, ReadyIs, MembersAre, Woken, no-thread}
 use Rattle.moving.specs.Marks.{Marks}

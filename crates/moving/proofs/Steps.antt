@@ -6,7 +6,7 @@ use mathlib.Core.List.{List, [], _∷_, _++_}
 use native.Mathlib.Omega.{arith}
 use lib.ListN.{length, take, drop, getD, set, length-append, length-set}
 use lib.Seq.{length-take-le}
-use Rattle.laws.proofs.Words.{Thread, Message}
+use Rattle.laws.specs.Words.{Thread, Message}
 use Rattle.memory.specs.Rows.{Rows, view, Roomy, put-threads, put-count, put-ready, put-readies, put-clock, put-clocks, put-messages, put-letters, ReadyIs, ClockIs, ThreadsAre, ThreadsLeft, MessagesAre}
 use Rattle.moving.proofs.Loops.{wrote, Sifted, sift-drops, sift-holds, Shifted, shift-ends, Appended, append-starts, append-next, append-ends}
 

@@ -11,7 +11,7 @@ ghost use lib.Dec.{ltb};
 ghost use lib.ListN.{getD, take, drop};
 ghost use Rattle.rules.specs.Lists.{if_then_else_, any, count as count-of};
 ghost use Rattle.rules.specs.Tables.{named, in-state};
-ghost use Rattle.laws.proofs.Types.{Rising};
+ghost use Rattle.laws.specs.Types.{Rising};
 ghost use Rattle.rules.specs.States.{on-clock, waits-for, wakes-from-outside};
 ghost use Rattle.rules.specs.declared.State.the-variants.{Ready as ReadyState};
 ghost use Rattle.rules.specs.declared.Answer.the-variants.{Result as ResultIs};

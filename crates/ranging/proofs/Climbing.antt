@@ -12,11 +12,11 @@ use borrow.Author.Tests.{eq-eqb, lt-ltb, le-ltb, ltb-true, ltb-false}
 use Rattle.rules.specs.Lists.{if_then_else_, _==_, any, count}
 use Rattle.rules.specs.Tables.{Tables, named, new-thread}
 use Rattle.rules.specs.TableRules.{has-parent, climbs, parents-right}
-use Rattle.laws.proofs.Words.{Thread, Parent, NoParent, ParentIs, Running}
+use Rattle.laws.specs.Words.{Thread, Parent, NoParent, ParentIs, Running}
 use Rattle.laws.proofs.Tests.{same?, and-left, and-right}
 use Rattle.laws.proofs.Tally.{all-at}
 use Rattle.laws.proofs.Single.{member-place, getD-member, any-one, any-neither, first-fails, rest-once}
-use Rattle.laws.proofs.Types.{Family}
+use Rattle.laws.specs.Types.{Family}
 use Rattle.laws.proofs.Descent.{family-tested}
 use Rattle.memory.specs.Rows.{place}
 use Rattle.moving.proofs.Found.{any-yes, any-no, passes-at}

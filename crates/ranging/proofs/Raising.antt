@@ -10,7 +10,7 @@ use lib.ListN.{length, take, getD, set, length-set}
 use lib.Seq.{length-take-le, getD-take, getD-set-same, getD-set-other}
 use borrow.Author.Tests.{eq-eqb, ne-eqb, eqb-true, eqb-false, lt-ltb, le-ltb, ltb-true, ltb-false}
 use Rattle.rules.specs.Tables.{named}
-use Rattle.laws.proofs.Words.{Thread, Parent, NoParent, ParentIs}
+use Rattle.laws.specs.Words.{Thread, Parent, NoParent, ParentIs}
 use Rattle.laws.proofs.Tests.{same?}
 use Rattle.memory.specs.Rows.{place}
 use Rattle.ranging.specs.Upward.{above, Upward}

@@ -8,7 +8,7 @@ use lib.Dec.{ltb}
 use borrow.Author.Tests.{lt-ltb, eqb-false}
 use Rattle.rules.specs.Lists.{_==_, all, chain, each, from-on}
 use Rattle.rules.specs.Numbers.{devices}
-use Rattle.laws.proofs.Words.{Held}
+use Rattle.laws.specs.Words.{Held}
 use Rattle.laws.proofs.Tests.{by-if, _&_}
 use Rattle.words.specs.Saying.{held-in}
 use Rattle.memory.specs.Memory.{rows-of}

@@ -16,7 +16,7 @@ use Rattle.rules.specs.States.{waits-for, at-device}
 use Rattle.rules.specs.Interrupt.{held-for}
 use Rattle.rules.specs.Tables.{Tables}
 use Rattle.rules.specs.TableRules.{ranges, state-in-range, devices-right, orders-right}
-use Rattle.laws.proofs.Words.{State, Running, Ready, Receiving, Clock, Device, Trapped, Thread, Held}
+use Rattle.laws.specs.Words.{State, Running, Ready, Receiving, Clock, Device, Trapped, Thread, Held}
 use Rattle.laws.proofs.Tests.{and-left, and-right, same-turned, same?, six}
 use Rattle.laws.proofs.Tally.{count-same, any-count, none-count, all-of, all-at}
 use Rattle.laws.proofs.Ordered.{up-once}

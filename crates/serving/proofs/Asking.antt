@@ -12,7 +12,7 @@ use Rattle.rules.specs.Tables.{Tables, with-last, with-threads, with-ready, wit
 use Rattle.rules.specs.Waking.{_handing_, stop}
 use Rattle.rules.specs.Interrupt.{held-for}
 use Rattle.rules.specs.Requests.{next-name, create, create-brother, terminate, set-over, set-manager, wait-for-clock, take-held, wait-for-io}
-use Rattle.laws.proofs.Words.{TrapKind, Ready, Clock, Device, Answer, Nothing, Result, Manager, Unset, Parent, NoParent, Thread, Held, Target}
+use Rattle.laws.specs.Words.{TrapKind, Ready, Clock, Device, Answer, Nothing, Result, Manager, Unset, Parent, NoParent, Thread, Held, Target}
 use Rattle.laws.proofs.Single.{rest-once, rest-none}
 use Rattle.laws.proofs.Names.{name-free}
 use Rattle.laws.proofs.Room.{queues-room}

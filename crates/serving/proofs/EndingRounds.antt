@@ -11,8 +11,8 @@ use Rattle.rules.specs.Numbers.{Limits}
 use Rattle.rules.specs.Words.{by-wanted}
 use Rattle.rules.specs.Tables.{Tables, live}
 use Rattle.rules.specs.Ending.{grow, ended-set, remove, misses, release, end}
-use Rattle.laws.proofs.Words.{Thread}
-use Rattle.laws.proofs.Types.{Inv}
+use Rattle.laws.specs.Words.{Thread}
+use Rattle.laws.specs.Types.{Inv}
 use Rattle.laws.proofs.Places.{asleep}
 use Rattle.laws.proofs.PlacesKept.{remove-inv}
 use Rattle.laws.proofs.Closure.{outside}

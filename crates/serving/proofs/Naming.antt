@@ -11,8 +11,9 @@ use borrow.Author.Tests.{ne-eqb, ltb-true}
 use Rattle.rules.specs.Lists.{if_then_else_}
 use Rattle.rules.specs.Numbers.{names}
 use Rattle.rules.specs.Requests.{free-name, next-name}
-use Rattle.laws.proofs.Words.{Thread}
-use Rattle.laws.proofs.Naming.{walked, walk-moves, walk-stops, walk-ends, walk-gives, next-above, next-round, rising-next}
+use Rattle.laws.specs.Words.{Thread}
+use Rattle.laws.specs.Naming.{walked}
+use Rattle.laws.proofs.Naming.{walk-moves, walk-stops, walk-ends, walk-gives, next-above, next-round, rising-next}
 use Rattle.store.specs.Store.{tables, place, Holding}
 use Rattle.store.proofs.Limits.{names-left, not-lower}
 use Rattle.store.proofs.Lengths.{threads-limit}

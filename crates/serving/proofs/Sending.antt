@@ -16,7 +16,7 @@ use Rattle.rules.specs.Ending.{end}
 use Rattle.rules.specs.Send.{message, waits-for-decision, decides, decide, send}
 use Rattle.rules.specs.Receive.{wanted-by, received, receive}
 use Rattle.rules.specs.Trap.{notice, trap}
-use Rattle.laws.proofs.Words.{TrapKind, Wanted, Receiving, Trapped, Answer, Nothing, Manager, Unset, Message, Runs}
+use Rattle.laws.specs.Words.{TrapKind, Wanted, Receiving, Trapped, Answer, Nothing, Manager, Unset, Message, Runs}
 use Rattle.laws.proofs.Tests.{and-left, and-right}
 use Rattle.laws.proofs.Tally.{any-member, member-any}
 use Rattle.laws.proofs.Places.{asleep}

@@ -15,7 +15,7 @@ use Rattle.rules.specs.Numbers.{wrap}
 use Rattle.rules.specs.Tags.{facts-in, tag-facts, rule-in, argument-rule, meets}
 use Rattle.rules.specs.Pick.{pick}
 use Rattle.rules.specs.Events.{wanted, request, trap-of, interrupt-of, meaning, field-of, decode}
-use Rattle.laws.proofs.Words.{Send, Receive, Event, Malformed, ByRunner, Tick, TagFacts, NoService, ADevice}
+use Rattle.laws.specs.Words.{Send, Receive, Event, Malformed, ByRunner, Tick, TagFacts, NoService, ADevice}
 use Rattle.laws.proofs.Tests.{by-if, _&_}
 use Rattle.laws.proofs.Bytes.{first-four}
 

@@ -17,9 +17,9 @@ use Rattle.rules.specs.Dispatch.{dispatch}
 use Rattle.rules.specs.Events.{decode}
 use Rattle.rules.specs.Refusals.{first-of, no-thread-free, ends-nobody, call-rules, refusal}
 use Rattle.rules.specs.Step.{Stepped, act, decided, settle, step}
-use Rattle.laws.proofs.Words.{Running, NoParent, Thread, Answer, Nothing, Runner, NoRunner, Runs, Target, Call, Send, CreateBrother, CreateSon, Terminate, WaitForIo, Event, ByRunner, Decision}
-use Rattle.laws.proofs.Types.{Ruled}
-use Rattle.laws.proofs.Decoded.{ProperCall, Proper}
+use Rattle.laws.specs.Words.{Running, NoParent, Thread, Answer, Nothing, Runner, NoRunner, Runs, Target, Call, Send, CreateBrother, CreateSon, Terminate, WaitForIo, Event, ByRunner, Decision}
+use Rattle.laws.specs.Types.{Ruled}
+use Rattle.laws.specs.Decoded.{ProperCall, Proper}
 use Rattle.laws.proofs.Room.{messages-room, clock-room}
 use Rattle.laws.proofs.Steps.{passed, called}
 use Rattle.laws.proofs.PlacesKept.{runner-live, act-inv}

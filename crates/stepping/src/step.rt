@@ -21,7 +21,7 @@ ghost use Rattle.rules.specs.declared.Runner.the-variants.{Runs as RunsNow};
 ghost use Rattle.rules.specs.Waking.{_handing_};
 ghost use Rattle.rules.specs.Refusals.{call-rules, first-of, refusal as refusal-of};
 ghost use Rattle.rules.specs.Step.{serve as serve-of, act as act-of, decided as decided-of, step as step-of};
-ghost use Rattle.laws.proofs.Decoded.{ProperCall, Proper};
+ghost use Rattle.laws.specs.Decoded.{ProperCall, Proper};
 ghost use Rattle.store.specs.Store.{limits, tables, Shaped, Hands};
 ghost use Rattle.handling.specs.Standing.{AtRest};
 ghost use Rattle.stepping.specs.Stepping.{Steps};

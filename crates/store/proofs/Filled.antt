@@ -9,7 +9,7 @@ use lib.Seq.{take-suc-set}
 use Rattle.rules.specs.Lists.{count, chain}
 use Rattle.rules.specs.Numbers.{Limits}
 use Rattle.rules.specs.Tables.{Tables, with-threads, with-messages}
-use Rattle.laws.proofs.Words.{Thread, Message}
+use Rattle.laws.specs.Words.{Thread, Message}
 use Rattle.memory.specs.Rows.{view, Room, nothing, put-threads, put-count, put-messages, put-letters}
 use Rattle.memory.specs.Memory.{rows-of}
 use Rattle.memory.proofs.Sizes.{threads-long, messages-long}

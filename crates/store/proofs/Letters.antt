@@ -11,7 +11,7 @@ use Rattle.rules.specs.Lists.{Pulled, missing, pulled, insert, pull}
 use Rattle.rules.specs.Tables.{with-messages}
 use Rattle.rules.specs.Waking.{is-ordinary, blocks-used, queue}
 use Rattle.rules.specs.Refusals.{no-block-free}
-use Rattle.laws.proofs.Words.{Message}
+use Rattle.laws.specs.Words.{Message}
 use Rattle.laws.proofs.Tally.{count-length}
 use Rattle.memory.specs.Rows.{view, place, no-message, MessagesAre}
 use Rattle.memory.specs.Memory.{rows-of}

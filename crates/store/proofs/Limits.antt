@@ -11,7 +11,7 @@ use borrow.Author.Tests.{not-true, not-false, eq-eqb, ne-eqb, ltb-false}
 use Rattle.rules.specs.Lists.{if_then_else_, _==_, any}
 use Rattle.rules.specs.Numbers.{names, nobody}
 use Rattle.rules.specs.Tables.{named}
-use Rattle.laws.proofs.Words.{Thread}
+use Rattle.laws.specs.Words.{Thread}
 use Rattle.laws.proofs.Tests.{or-left, or-right}
 use Rattle.moving.proofs.Found.{passes-at}
 use Rattle.store.specs.Store.{limits, Shaped, place, name-where}

@@ -8,8 +8,8 @@ use Rattle.rules.specs.Lists.{if_then_else_, has, keep}
 use Rattle.rules.specs.Words.{by-runner}
 use Rattle.rules.specs.Tables.{Tables, with-runner, with-threads, with-ready, with-clock, with-messages}
 use Rattle.rules.specs.Ending.{without-managers, remove}
-use Rattle.laws.proofs.Words.{Runner, NoRunner, Runs}
-use Rattle.laws.proofs.Types.{Rising}
+use Rattle.laws.specs.Words.{Runner, NoRunner, Runs}
+use Rattle.laws.specs.Types.{Rising}
 use Rattle.memory.specs.Rows.{Rows, view, members, put-runner, ThreadsLeft, ReadyIs, ClockIs, MessagesAre}
 use Rattle.memory.specs.Memory.{rows-of}
 use Rattle.moving.proofs.Steps.{by}

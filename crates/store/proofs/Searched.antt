@@ -10,8 +10,8 @@ use lib.Seq.{getD-take}
 use Rattle.rules.specs.Lists.{if_then_else_, count, insert}
 use Rattle.rules.specs.Numbers.{nobody}
 use Rattle.rules.specs.Tables.{with-threads, named, live, of-thread, change}
-use Rattle.laws.proofs.Words.{Thread}
-use Rattle.laws.proofs.Types.{Rising}
+use Rattle.laws.specs.Words.{Thread}
+use Rattle.laws.specs.Types.{Rising}
 use Rattle.memory.specs.Rows.{view, Roomy, place, no-thread, no-message, put-threads, ThreadsLeft}
 use Rattle.memory.specs.Memory.{rows-of}
 use Rattle.memory.proofs.Sizes.{threads-whole, threads-count, ready-count, clock-count, messages-count}

@@ -9,8 +9,8 @@ use lib.Dec.{ltb}
 use lib.ListN.{take}
 use Rattle.rules.specs.Lists.{if_then_else_, any, keep, count, insert}
 use Rattle.rules.specs.Tables.{Tables, with-last, with-runner, with-time, with-threads, with-ready, with-clock, with-messages, with-held, named}
-use Rattle.laws.proofs.Words.{Thread, Message, Held, Runner}
-use Rattle.laws.proofs.Types.{Rising}
+use Rattle.laws.specs.Words.{Thread, Message, Held, Runner}
+use Rattle.laws.specs.Types.{Rising}
 use Rattle.laws.proofs.Tally.{not-any}
 use Rattle.laws.proofs.Ordered.{keep-less, up-less, up-map, up-insert, up-once}
 use Rattle.memory.specs.Rows.{Rows, view, Fits, put-last, put-runner, put-since, put-beats, put-clocks, put-held, ReadyIs, ClockIs, ThreadsAre, ThreadsLeft, MessagesAre, MembersAre, Woken}

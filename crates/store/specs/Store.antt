@@ -5,8 +5,8 @@ use mathlib.Core.Bool.{Bool}
 use mathlib.Core.List.{List, [], _∷_}
 use Rattle.rules.specs.Lists.{if_then_else_, count, Pulled, missing, pulled}
 use Rattle.rules.specs.Numbers.{Limits, nobody}
-use Rattle.laws.proofs.Words.{Thread, Message, Answer}
-use Rattle.laws.proofs.Types.{Rising}
+use Rattle.laws.specs.Words.{Thread, Message, Answer}
+use Rattle.laws.specs.Types.{Rising}
 use Rattle.rules.specs.Tables.{Tables, named, with-messages}
 use Rattle.rules.specs.Waking.{Outcome, _handing_}
 use Rattle.memory.specs.Rows.{view, members, Fits}

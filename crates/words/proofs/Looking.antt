@@ -10,7 +10,7 @@ use Rattle.rules.specs.Lists.{if_then_else_, _==_}
 use Rattle.rules.specs.Words.{by-manager}
 use Rattle.rules.specs.Tables.{manager}
 use Rattle.rules.specs.States.{on-clock, receives, at-device, wakes-from-outside, trapped-on, awaits}
-use Rattle.laws.proofs.Words.{State, Running, Ready, Receiving, Clock, Device, Trapped, Program, Tlb, SysBp}
+use Rattle.laws.specs.Words.{State, Running, Ready, Receiving, Clock, Device, Trapped, Program, Tlb, SysBp}
 use Rattle.words.specs.Saying.{word, byte, manager-in, wanted-in, trapped-in, wrong-state, state-in, thread-in}
 
 module _ (f : State → Bool) (b : Bool) where

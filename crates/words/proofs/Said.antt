@@ -7,7 +7,7 @@ use lib.ListN.{length, set, drop-of-length-le}
 use Rattle.rules.specs.Tables.{in-state}
 use lib.Seq.{sets, sets-eq}
 use borrow.Author.Tests.{lt-ltb, le-ltb, ne-eqb}
-use Rattle.laws.proofs.Words.{Wanted, Only, State, Answer, Manager, Set, Parent, ParentIs, Thread, MessageKind, Ordinary, Notice, Message, Runner, Runs}
+use Rattle.laws.specs.Words.{Wanted, Only, State, Answer, Manager, Set, Parent, ParentIs, Thread, MessageKind, Ordinary, Notice, Message, Runner, Runs}
 use Rattle.words.specs.Saying.{word, byte, parent-in, manager-in, wanted-in, state-in, answer-in, sender-in, kind-in, thread-in, message-in, runner-in}
 
 -- ---- a byte

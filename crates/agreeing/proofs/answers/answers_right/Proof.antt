@@ -6,7 +6,7 @@ use native.Mathlib.Omega.{arith}
 use borrow.Author.Needs.{needs}
 use Rattle.rules.specs.States.{is-ready}
 use Rattle.rules.specs.TableRules.{answer-in-range, is-nothing}
-use Rattle.laws.proofs.Words.{Thread, State, Answer}
+use Rattle.laws.specs.Words.{Thread, State, Answer}
 use Rattle.memory.specs.Rows.{no-thread}
 use Rattle.memory.specs.Memory.{rows-of}
 use Rattle.store.specs.Store.{tables}

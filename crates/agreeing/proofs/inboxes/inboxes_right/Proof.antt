@@ -8,7 +8,7 @@ use borrow.Author.Needs.{needs}
 use Rattle.rules.specs.Lists.{any}
 use Rattle.rules.specs.States.{receives}
 use Rattle.rules.specs.Waking.{accepts}
-use Rattle.laws.proofs.Words.{Message, State}
+use Rattle.laws.specs.Words.{Message, State}
 use Rattle.memory.specs.Rows.{view, no-thread, no-message}
 use Rattle.memory.specs.Memory.{rows-of}
 use Rattle.store.specs.Store.{tables}

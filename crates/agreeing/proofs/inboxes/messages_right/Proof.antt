@@ -7,7 +7,7 @@ use lib.Dec.{ltb, leb}
 use lib.ListN.{getD}
 use borrow.Author.Needs.{needs}
 use Rattle.rules.specs.Waking.{is-ordinary}
-use Rattle.laws.proofs.Words.{Message}
+use Rattle.laws.specs.Words.{Message}
 use Rattle.memory.specs.Rows.{no-message}
 use Rattle.memory.specs.Memory.{rows-of}
 use Rattle.moving.proofs.Loops.{Counted, count-starts, count-more, count-skips, count-ends}

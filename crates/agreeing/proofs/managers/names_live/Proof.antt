@@ -5,7 +5,7 @@ use mathlib.Core.Bool.{_&&_}
 use native.Mathlib.Omega.{arith}
 use borrow.Author.Needs.{needs}
 use Rattle.rules.specs.TableRules.{wanted-live, entries-right}
-use Rattle.laws.proofs.Words.{Thread, State}
+use Rattle.laws.specs.Words.{Thread, State}
 use Rattle.memory.specs.Rows.{view, no-thread}
 use Rattle.memory.specs.Memory.{rows-of}
 use Rattle.store.specs.Store.{tables}

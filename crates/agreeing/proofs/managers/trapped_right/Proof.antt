@@ -4,7 +4,7 @@ use mathlib.Core.Path.{refl, sym, ap, _∙_}
 use native.Mathlib.Omega.{arith}
 use lib.ListN.{getD}
 use Rattle.rules.specs.TableRules.{manager-set}
-use Rattle.laws.proofs.Words.{Thread, State}
+use Rattle.laws.specs.Words.{Thread, State}
 use Rattle.memory.specs.Rows.{no-thread}
 use Rattle.memory.specs.Memory.{rows-of}
 use Rattle.store.specs.Store.{tables}

@@ -5,7 +5,7 @@ use native.Mathlib.Omega.{arith}
 use lib.ListN.{getD}
 use borrow.Author.Needs.{needs}
 use Rattle.rules.specs.Lists.{times-in}
-use Rattle.laws.proofs.Words.{Thread}
+use Rattle.laws.specs.Words.{Thread}
 use Rattle.memory.specs.Rows.{view, no-thread}
 use Rattle.memory.specs.Memory.{rows-of}
 use Rattle.store.specs.Store.{tables}

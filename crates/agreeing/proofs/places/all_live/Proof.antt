@@ -7,7 +7,7 @@ use lib.ListN.{length}
 use borrow.Author.Needs.{needs}
 use Rattle.rules.specs.Lists.{any}
 use Rattle.rules.specs.Tables.{named}
-use Rattle.laws.proofs.Words.{Thread}
+use Rattle.laws.specs.Words.{Thread}
 use Rattle.memory.specs.Memory.{rows-of}
 use Rattle.moving.proofs.Loops.{Passed, all-starts, all-next, all-fails, all-ends}
 use Rattle.indexing.specs.Index.{Indexed}

@@ -1,7 +1,7 @@
 -- `moves::deliver` meets its contract: a receiver that waits is woken, and has room in the ready queue; else the message is queued.
 use mathlib.Core.Path.{sym, ap, _∙_}
 use Rattle.rules.specs.Waking.{wake}
-use Rattle.laws.proofs.Words.{Answer}
+use Rattle.laws.specs.Words.{Answer}
 use Rattle.laws.proofs.Single.{deliver-wakes, deliver-queues}
 use Rattle.store.specs.Store.{tables}
 use Rattle.handling.proofs.Leaving.{in-words}

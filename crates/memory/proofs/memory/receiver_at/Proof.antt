@@ -2,7 +2,7 @@
 use mathlib.Core.Path.{sym, ap, _∙_}
 use native.Mathlib.Omega.{arith}
 use borrow.Author.Needs.{needs}
-use Rattle.laws.proofs.Words.{Message}
+use Rattle.laws.specs.Words.{Message}
 use Rattle.memory.specs.Memory.{rows-of}
 use Rattle.memory.proofs.Fields.{message-entry}
 use Rattle.memory.proofs.memory.receiver_at.Statement.{statement}

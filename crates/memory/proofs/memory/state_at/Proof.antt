@@ -2,7 +2,7 @@
 use mathlib.Core.Path.{sym, ap, _∙_}
 use native.Mathlib.Omega.{arith}
 use borrow.Author.Needs.{needs}
-use Rattle.laws.proofs.Words.{Thread}
+use Rattle.laws.specs.Words.{Thread}
 use Rattle.memory.specs.Memory.{rows-of}
 use Rattle.memory.proofs.Fields.{thread-entry}
 use Rattle.memory.proofs.memory.state_at.Statement.{statement}

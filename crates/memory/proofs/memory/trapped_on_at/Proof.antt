@@ -4,7 +4,7 @@ use native.Mathlib.Omega.{arith}
 use borrow.Author.Needs.{needs}
 use Rattle.rules.specs.States.{awaits}
 use Rattle.words.specs.Saying.{thread-in}
-use Rattle.laws.proofs.Words.{Thread}
+use Rattle.laws.specs.Words.{Thread}
 use Rattle.memory.specs.Memory.{rows-of, thread-of}
 use Rattle.memory.specs.Layout.{thread-place}
 use Rattle.memory.proofs.Rowing.{row-at, lent-is}

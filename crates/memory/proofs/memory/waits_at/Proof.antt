@@ -3,7 +3,7 @@ use mathlib.Core.Path.{sym, ap, _∙_}
 use native.Mathlib.Omega.{arith}
 use borrow.Author.Needs.{needs}
 use Rattle.rules.specs.States.{waits-for}
-use Rattle.laws.proofs.Words.{Thread}
+use Rattle.laws.specs.Words.{Thread}
 use Rattle.memory.specs.Memory.{rows-of}
 use Rattle.memory.proofs.Fields.{thread-entry}
 use Rattle.memory.proofs.memory.waits_at.Statement.{statement}

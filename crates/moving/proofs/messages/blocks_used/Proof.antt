@@ -3,7 +3,7 @@ use Prim.Native.Nat.{_-_}
 use native.Mathlib.Omega.{arith}
 use borrow.Author.Needs.{needs}
 use Rattle.rules.specs.Waking.{is-ordinary}
-use Rattle.laws.proofs.Words.{Message}
+use Rattle.laws.specs.Words.{Message}
 use Rattle.memory.specs.Rows.{no-message}
 use Rattle.memory.specs.Memory.{rows-of}
 use Rattle.memory.proofs.Sizes.{messages-long}

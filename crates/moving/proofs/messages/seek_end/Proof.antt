@@ -5,7 +5,7 @@ use native.Mathlib.Omega.{arith}
 use lib.Dec.{leb}
 use borrow.Author.Tests.{le-leb, lt-leb}
 use borrow.Author.Needs.{needs}
-use Rattle.laws.proofs.Words.{Message}
+use Rattle.laws.specs.Words.{Message}
 use Rattle.memory.specs.Rows.{no-message}
 use Rattle.memory.specs.Memory.{rows-of}
 use Rattle.memory.proofs.Sizes.{messages-long}

@@ -3,7 +3,7 @@ use mathlib.Core.Path.{sym, _∙_}
 use native.Mathlib.Omega.{arith}
 use borrow.Author.Needs.{needs}
 use Rattle.rules.specs.States.{wakes-from-outside}
-use Rattle.laws.proofs.Words.{Thread}
+use Rattle.laws.specs.Words.{Thread}
 use Rattle.memory.specs.Rows.{no-thread}
 use Rattle.memory.specs.Memory.{rows-of}
 use Rattle.memory.proofs.Sizes.{threads-long}

@@ -6,7 +6,7 @@ use native.Mathlib.Omega.{arith}
 use borrow.Author.Needs.{needs}
 use Rattle.rules.specs.Tables.{in-state}
 use Rattle.rules.specs.States.{on-clock}
-use Rattle.laws.proofs.Words.{Ready, Result, Thread}
+use Rattle.laws.specs.Words.{Ready, Result, Thread}
 use Rattle.memory.specs.Rows.{Rows, no-thread}
 use Rattle.memory.specs.Memory.{rows-of}
 use Rattle.memory.proofs.Sizes.{threads-long, same-room}

@@ -7,7 +7,7 @@ use native.Mathlib.Omega.{arith}
 use lib.ListN.{getD}
 use borrow.Author.Needs.{needs}
 use Rattle.rules.specs.Lists.{has as has-in}
-use Rattle.laws.proofs.Words.{Message}
+use Rattle.laws.specs.Words.{Message}
 use Rattle.memory.specs.Memory.{rows-of}
 use Rattle.memory.specs.Rows.{Rows, Roomy, members, put-letters, no-message}
 use Rattle.memory.proofs.Sizes.{messages-long, same-room}

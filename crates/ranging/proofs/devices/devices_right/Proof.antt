@@ -5,7 +5,7 @@ use native.Mathlib.Omega.{arith}
 use borrow.Author.Needs.{needs}
 use Rattle.rules.specs.Lists.{any}
 use Rattle.rules.specs.Interrupt.{held-for}
-use Rattle.laws.proofs.Words.{State}
+use Rattle.laws.specs.Words.{State}
 use Rattle.memory.specs.Rows.{no-thread}
 use Rattle.memory.specs.Memory.{rows-of}
 use Rattle.store.specs.Store.{tables}

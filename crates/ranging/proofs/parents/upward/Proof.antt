@@ -4,7 +4,7 @@ use mathlib.Core.Path.{ap₂, _∙_}
 use native.Mathlib.Omega.{arith}
 use lib.ListN.{length-replicate}
 use borrow.Author.Needs.{needs}
-use Rattle.laws.proofs.Words.{Parent}
+use Rattle.laws.specs.Words.{Parent}
 use Rattle.memory.specs.Rows.{view, no-thread}
 use Rattle.memory.specs.Memory.{rows-of}
 use Rattle.store.specs.Store.{tables}

@@ -4,7 +4,7 @@ use mathlib.Core.Path.{refl}
 use native.Mathlib.Omega.{arith}
 use lib.Dec.{ltb}
 use Rattle.rules.specs.Numbers.{names}
-use Rattle.laws.proofs.Words.{Thread}
+use Rattle.laws.specs.Words.{Thread}
 use Rattle.memory.specs.Rows.{no-thread}
 use Rattle.memory.specs.Memory.{rows-of}
 use Rattle.store.specs.Store.{tables}

@@ -1,6 +1,6 @@
 -- `requests::get_cpu_time` meets its contract: the requester's count.
 use mathlib.Core.Path.{ap}
-use Rattle.laws.proofs.Words.{Result}
+use Rattle.laws.specs.Words.{Result}
 use Rattle.serving.proofs.requests.get_cpu_time.Statement.{statement}
 use Rattle.serving.proofs.requests.get_cpu_time.Tie as tie
 

@@ -2,7 +2,7 @@
 use mathlib.Core.Path.{sym, ap, _∙_}
 use Rattle.rules.specs.Lists.{any}
 use Rattle.rules.specs.Waking.{accepts}
-use Rattle.laws.proofs.Words.{Message}
+use Rattle.laws.specs.Words.{Message}
 use Rattle.store.specs.Store.{tables}
 use Rattle.handling.proofs.Leaving.{in-words}
 use Rattle.serving.proofs.Sending.{sent-decides, sent-delivers}

@@ -1,6 +1,6 @@
 -- `trap::trap` meets its contract: with a manager the runner stops and its notice has room, else it ends.
 use mathlib.Core.Path.{sym, _∙_}
-use Rattle.laws.proofs.Words.{Unset, Set, Gone}
+use Rattle.laws.specs.Words.{Unset, Set, Gone}
 use Rattle.store.specs.Store.{tables}
 use Rattle.handling.proofs.Leaving.{in-words}
 use Rattle.serving.proofs.Sending.{trap-by, runner-ends, trapped-holds, trapped-room, trapped-told}

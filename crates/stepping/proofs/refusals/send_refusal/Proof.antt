@@ -7,7 +7,7 @@ use Rattle.rules.specs.Tables.{live}
 use Rattle.rules.specs.Waking.{accepts}
 use Rattle.rules.specs.Send.{message}
 use Rattle.rules.specs.Refusals.{first-of, call-rules}
-use Rattle.laws.proofs.Words.{Message}
+use Rattle.laws.specs.Words.{Message}
 use Rattle.store.specs.Store.{tables}
 use borrow.Author.Needs.{needs}
 use Rattle.stepping.proofs.refusals.send_refusal.Statement.{statement}

@@ -1,7 +1,7 @@
 -- `step::act` meets its contract, event by event.
 use mathlib.Core.Path.{refl}
 use Rattle.rules.specs.Step.{act}
-use Rattle.laws.proofs.Decoded.{Proper}
+use Rattle.laws.specs.Decoded.{Proper}
 use Rattle.store.specs.Store.{limits, tables}
 use Rattle.handling.proofs.Leaving.{as-it-was, and-hands}
 use Rattle.stepping.proofs.Stepping.{runs-now, never-alone, called-by}

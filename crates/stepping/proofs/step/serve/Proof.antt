@@ -2,7 +2,7 @@
 use mathlib.Core.Path.{refl, ap}
 use Rattle.rules.specs.Waking.{_handing_}
 use Rattle.rules.specs.Step.{serve}
-use Rattle.laws.proofs.Words.{Answer}
+use Rattle.laws.specs.Words.{Answer}
 use Rattle.store.specs.Store.{tables}
 use Rattle.store.proofs.Limits.{names-left}
 use Rattle.handling.proofs.Leaving.{as-it-was, and-hands, holds}

@@ -7,7 +7,7 @@ use Rattle.store.specs.Store.{limits, tables, Shaped, found}
 use Rattle.store.proofs.Written.{leaves, woken, rising-where}
 use Rattle.store.proofs.Searched.{ready-length}
 use Rattle.rules.specs.Waking.{wake-those}
-use Rattle.laws.proofs.Words.{Ready}
+use Rattle.laws.specs.Words.{Ready}
 use Rattle.rules.specs.Ending.{release, told-gone, misses}
 use Rattle.store.proofs.ended.release_ended.Statement.{statement}
 use Rattle.store.proofs.ended.release_ended.Tie as tie

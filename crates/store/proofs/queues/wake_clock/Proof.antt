@@ -12,7 +12,7 @@ use Rattle.store.proofs.Written.{leaves, ready-is, threads-are, after, 
 use Rattle.store.proofs.Searched.{ready-length, clock-length, roomy, few-threads}
 use Rattle.rules.specs.Waking.{wake-those}
 use Rattle.rules.specs.States.{on-clock}
-use Rattle.laws.proofs.Words.{Ready, Result}
+use Rattle.laws.specs.Words.{Ready, Result}
 use Rattle.store.proofs.queues.wake_clock.Statement.{statement}
 use Rattle.store.proofs.queues.wake_clock.Tie as tie
 

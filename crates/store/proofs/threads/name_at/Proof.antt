@@ -1,6 +1,6 @@
 -- `threads::name_at` meets its contract.
 use mathlib.Core.Path.{ap, _∙_}
-use Rattle.laws.proofs.Words.{Thread}
+use Rattle.laws.specs.Words.{Thread}
 use Rattle.store.proofs.Searched.{threads-within, thread-entry}
 use Rattle.store.proofs.threads.name_at.Statement.{statement}
 use Rattle.store.proofs.threads.name_at.Tie as tie

@@ -4,7 +4,7 @@ use mathlib.Core.Bool.{false}
 use native.Mathlib.Omega.{arith}
 use Rattle.rules.specs.Lists.{_==_}
 use Rattle.rules.specs.Words.{by-manager}
-use Rattle.laws.proofs.Words.{Manager}
+use Rattle.laws.specs.Words.{Manager}
 use Rattle.words.proofs.Looking.{not-trapped, trapped-by, trapped-wrong}
 use borrow.Author.Needs.{needs}
 use Rattle.words.proofs.looks.awaits.Statement.{statement}

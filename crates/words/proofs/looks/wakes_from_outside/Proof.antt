@@ -2,7 +2,7 @@
 use mathlib.Core.Path.{refl, sym}
 use Rattle.rules.specs.Lists.{_==_}
 use Rattle.rules.specs.States.{wakes-from-outside, on-clock}
-use Rattle.laws.proofs.Words.{Running, Ready}
+use Rattle.laws.specs.Words.{Running, Ready}
 use Rattle.words.specs.Saying.{state-in}
 use Rattle.words.proofs.Looking.{detailed, no-trap, others-wake}
 use borrow.Author.Needs.{needs}

@@ -1,4 +1,4 @@
--- The table rules as types: what proofs use. Sound.antt says that the Boolean test `table-rules` and these say the same.
+-- The table rules as types: what proofs use. Sound says that the Boolean test `table-rules` and these say the same.
 use Prim.Native.Nat.{ℕ, _+_, _≤_, _<_}
 use mathlib.Core.Path.{_≡_}
 use mathlib.Core.Logic.{_≢_}
@@ -9,15 +9,13 @@ use lib.ListN.{length}
 use Rattle.rules.specs.Lists.{one-if, any, count, chain, times-in}
 use Rattle.rules.specs.Numbers.{Limits, names, full-slice, beat-ticks, devices, wrap}
 use Rattle.rules.specs.Words.{by-wanted, by-manager}
-use Rattle.laws.proofs.Words.{TrapKind, State, Running, Ready, Receiving, Clock, Device, Trapped, Nothing, Manager, Unset, Set, Gone, Managers, NoParent, ParentIs, Thread, Message, Held, Runner, NoRunner, Runs}
+use Rattle.laws.specs.Words.{TrapKind, State, Running, Ready, Receiving, Clock, Device, Trapped, Nothing, Manager, Unset, Set, Gone, Managers, NoParent, ParentIs, Thread, Message, Held, Runner, NoRunner, Runs}
 use Rattle.rules.specs.Tables.{Tables, named, manager, runs-as}
 use Rattle.rules.specs.States.{is-running, is-ready, on-clock, waits-for, awaits}
 use Rattle.rules.specs.Waking.{is-ordinary, notice-of}
 use Rattle.rules.specs.Receive.{wanted-by}
 use Rattle.rules.specs.Interrupt.{held-for}
 use Rattle.rules.specs.TableRules.{answer-in-range}
-
--- ---- places
 
 -- threads stand by rising name
 abbrev pub Rising : List Thread → Type 0
@@ -44,15 +42,11 @@ pub record Inv (L : Limits) (T : Tables) : Type 0 where
   pub few : length (T .threads) ≤ L .threads
   pub last : T .last < names
 
--- ---- the runner and time
-
 pub record Steady (T : Tables) : Type 0 where
   pub slice : (n s : ℕ) → T .runner ≡ Runs n s → (1 ≤ s) × (s ≤ full-slice)
   pub quiet : T .runner ≡ NoRunner → T .ready ≡ []
   pub since : T .since < beat-ticks
   pub beats : T .beats < wrap
-
--- ---- threads, messages, held words
 
 -- a manager entry: none, gone, or a live thread other than oneself
 unfoldable pub Entry : List Thread → ℕ → Manager → Type 0
@@ -104,8 +98,6 @@ pub record Good (b : ℕ) (ts : List Thread) (ms : List Message) (hs : List Held
 
 abbrev pub Fits : Limits → Tables → Type 0
 Fits L T = Good (L .blocks) (T .threads) (T .messages) (T .held)
-
--- ---- all the rules
 
 pub record Ruled (L : Limits) (T : Tables) : Type 0 where
   pub inv : Inv L T
