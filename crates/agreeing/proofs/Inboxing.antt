@@ -45,7 +45,8 @@ abbrev apart : {A B : Type 0} → (A → B → Bool) → List A → List B → B
 apart q xs ys = all (λ x. not (any (λ y. q x y) ys)) xs
 
 apart-turned : {A B : Type 0} (q : A → B → Bool) (xs : List A) (ys : List B) → apart q xs ys ≡ true → apart (λ y x. q x y) ys xs ≡ true
-apart-turned q xs ys h = all-of _ ys (λ y m. ap not (none-any (λ x. q x y) xs (λ x k. not-any (λ z. q x z) ys y (not-true _ (all-at _ xs h x k)) m)))
+apart-turned q xs ys h =
+    all-of _ ys (λ y m. ap not (none-any (λ x. q x y) xs (λ x k. not-any (λ z. q x z) ys y (not-true _ (all-at _ xs h x k)) m)))
 
 -- no x passes with a y exactly if no y passes with an x
 apart-both : {A B : Type 0} (q : A → B → Bool) (xs : List A) (ys : List B) → apart q xs ys ≡ apart (λ y x. q x y) ys xs
@@ -64,7 +65,8 @@ no-match-is ms n (Device d) = sym (ap not (none-any _ ms (λ m k. and-false (m .
 no-match-is ms n (Trapped k) = sym (ap not (none-any _ ms (λ m k. and-false (m .to == n))))
 
 -- No inbox holds a match exactly if no thread accepts a message that is there.
-pub by-messages : (ts : List Thread) (ms : List Message) → all (λ m. not (any (accepts m) ts)) ms ≡ all (λ t. no-match ms (t .name) (t .state)) ts
+pub by-messages : (ts : List Thread) (ms : List Message) →
+    all (λ m. not (any (accepts m) ts)) ms ≡ all (λ t. no-match ms (t .name) (t .state)) ts
 by-messages ts ms = apart-both accepts ms ts ∙ sym (all-alike _ _ ts (λ t k. no-match-is ms (t .name) (t .state)))
 
 -- ---- names in messages are bytes: a memory shows no others
@@ -105,9 +107,11 @@ module _ (mem : List ℕ) (fits : Shaped mem) (at : List ℕ) (indexed : Indexed
 
   pub ends-live : all (λ m. ltb (getD at (m .to) 0) (r .count) && ltb (getD at (m .from) 0) (r .count)) (view r .messages)
       ≡ all (λ m. live (m .to) (view r) && live (m .from) (view r)) (view r .messages)
-  ends-live = all-alike _ _ (view r .messages) (λ m k. one m (all-at ends-test (view r .messages) (all-take ends-test (r .letters) (r .messages) (all-shown mem)) m k))
+  ends-live = all-alike _ _ (view r .messages)
+      (λ m k. one m (all-at ends-test (view r .messages) (all-take ends-test (r .letters) (r .messages) (all-shown mem)) m k))
     where
-      one : (m : Message) → ends-test m ≡ true → (ltb (getD at (m .to) 0) (r .count) && ltb (getD at (m .from) 0) (r .count)) ≡ (live (m .to) (view r) && live (m .from) (view r))
+      one : (m : Message) → ends-test m ≡ true →
+          (ltb (getD at (m .to) 0) (r .count) && ltb (getD at (m .from) 0) (r .count)) ≡ (live (m .to) (view r) && live (m .from) (view r))
       one m e = let l = ends-low m e in ap₂ (λ (a b : Bool). a && b) (live-is (m .to) (l .0)) (live-is (m .from) (l .1))
 
   -- ---- the message at i
@@ -116,7 +120,8 @@ module _ (mem : List ℕ) (fits : Shaped mem) (at : List ℕ) (indexed : Indexed
     m = getD (r .messages) i d
 
     low : (m .to < 256) × (m .from < 256)
-    low = ends-low m (all-at ends-test (r .messages) (all-shown mem) m (getD-member (r .messages) i d (omega (arith, messages-whole mem fits))))
+    low = ends-low m (all-at ends-test (r .messages) (all-shown mem) m
+        (getD-member (r .messages) i d (omega (arith, messages-whole mem fits))))
 
     -- the place of its sender
     pub from-place : (j : ℕ) → j ≡ getD at (m .from) 0 → j ≡ place (named (m .from)) (view r .threads)

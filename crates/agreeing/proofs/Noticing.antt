@@ -32,11 +32,13 @@ use Rattle.indexing.proofs.Marking.{none-marked, still-marked, marked-there, co
 -- ---- general
 
 -- where one at most passes, one that passes is the first
-once-first : {A : Type 0} (p : A → Bool) (z : A) (l : List A) → count p l ≤ 1 → (i : ℕ) → i < length l → p (getD l i z) ≡ true → place p l ≡ i
+once-first : {A : Type 0} (p : A → Bool) (z : A) (l : List A) → count p l ≤ 1 → (i : ℕ) → i < length l → p (getD l i z) ≡ true →
+    place p l ≡ i
 unfolding place
 once-first p z [] c i h e = absurd (omega arith)
 once-first p z (x ∷ l) c zero h e = rw e
-once-first p z (x ∷ l) c (suc i) h e = rw (first-fails p x l i z c (omega arith) e) (ap suc (once-first p z l (rest-once p x l c) i (omega arith) e))
+once-first p z (x ∷ l) c (suc i) h e =
+    rw (first-fails p x l i z c (omega arith) e) (ap suc (once-first p z l (rest-once p x l c) i (omega arith) e))
 
 fails-second : (a : Bool) {b : Bool} → b ≡ false → (a && b) ≡ false
 fails-second a e = ap (λ (t : Bool). a && t) e ∙ and-false a
@@ -81,13 +83,17 @@ module _ (mem : List ℕ) (fits : Shaped mem) where
 
   pub notice-starts : Here (replicate 256 0) 0
   unfolding count
-  notice-starts = record { passed = all-starts _ _ _ (messages-whole mem fits); marks = none-marked (r .count) 256 _ (omega (arith, counted mem fits, few mem fits)) (λ k. refl) }
+  notice-starts = record {
+    passed = all-starts _ _ _ (messages-whole mem fits);
+    marks = none-marked (r .count) 256 _ (omega (arith, counted mem fits, few mem fits)) (λ k. refl);
+  }
 
   pub notice-ends : (seen : List ℕ) (i : ℕ) → Here seen i → r .letters ≤ i → true ≡ notices-right (view r)
   notice-ends seen i N h =
       let e : i ≡ r .letters = omega (arith, N .passed .within) in
       let a = all-ends (trapped (view r .threads)) _ _ i (N .passed) h in
-      sym (sym a & all-places (single (view r .messages)) none (view r .threads) (λ j l. at e j (omega (arith, read-length mem fits (r .count) refl))))
+      sym (sym a & all-places (single (view r .messages)) none (view r .threads)
+      (λ j l. at e j (omega (arith, read-length mem fits (r .count) refl))))
     where
       at : i ≡ r .letters → (j : ℕ) → j < r .count → single (view r .messages) (getD (view r .threads) j none) ≡ true
       at e j b =
@@ -129,7 +135,8 @@ module _ (mem : List ℕ) (fits : Shaped mem) where
         says y = rw o (found-and (named (m .from)) (r .count) (r .threads) j whole found (awaits (m .to)) y (once (m .from)) b)
 
         -- it is not trapped on the receiver
-        pub not-trapped : (seen : List ℕ) (y : Thread) → Here seen i → awaits (m .to) (getD (r .threads) j y) ≡ false → false ≡ notices-right (view r)
+        pub not-trapped : (seen : List ℕ) (y : Thread) → Here seen i → awaits (m .to) (getD (r .threads) j y) ≡ false →
+            false ≡ notices-right (view r)
         not-trapped seen y N e = untrapped seen N (says y ∙ e)
 
         of-name : (n : ℕ) → of-first (i + 1) n ≡ of-first i n + one-if (m .from == n)
@@ -141,7 +148,8 @@ module _ (mem : List ℕ) (fits : Shaped mem) where
             of-name (name-at j) ∙ ap (λ (t : Bool). of-first i (name-at j) + one-if t) e
 
         elsewhere : (k : ℕ) → k < r .count → k ≢ j → of-first (i + 1) (name-at k) ≡ of-first i (name-at k)
-        elsewhere k l u = of-name (name-at k) ∙ (ap (λ (t : Bool). of-first i (name-at k) + one-if t) (go (m .from == name-at k) refl) ∙ omega arith)
+        elsewhere k l u =
+            of-name (name-at k) ∙ (ap (λ (t : Bool). of-first i (name-at k) + one-if t) (go (m .from == name-at k) refl) ∙ omega arith)
           where
             at : m .from == name-at k ≡ true → place (named (m .from)) (view r .threads) ≡ k
             at e =
@@ -159,7 +167,8 @@ module _ (mem : List ℕ) (fits : Shaped mem) where
             let two : 2 ≤ of-first (r .letters) (name-at j) = omega (arith, there, N .marks .says j b, u) in
             let e = ap (single (view r .messages)) (getD-take (r .count) (r .threads) j none b) ∙ lt-leb _ 1 two in
             let k = getD-member (view r .threads) j none (omega (arith, read-length mem fits (r .count) refl)) in
-            sym (fails-second (all (trapped (view r .threads)) (view r .messages)) (one-fails (single (view r .messages)) (view r .threads) _ k e))
+            sym (fails-second (all (trapped (view r .threads)) (view r .messages))
+            (one-fails (single (view r .messages)) (view r .threads) _ k e))
 
         -- it is the first
         pub met-now : (seen : List ℕ) (y : Thread) → Here seen i → awaits (m .to) (getD (r .threads) j y) ≡ true → getD seen j 0 ≡ 0

@@ -7,7 +7,8 @@ use words::states;
 ghost use mathlib.Core.Path.{_≡_};
 ghost use mathlib.Core.Bool.{_&&_, _||_};
 ghost use Rattle.rules.specs.States.{is-ready as is-ready-of};
-ghost use Rattle.rules.specs.TableRules.{answer-in-range as answer-in-range-of, is-nothing as is-nothing-of, answers-right as answers-right-of};
+ghost use Rattle.rules.specs.TableRules.{answer-in-range as answer-in-range-of, is-nothing as is-nothing-of};
+ghost use Rattle.rules.specs.TableRules.{answers-right as answers-right-of};
 ghost use Rattle.store.specs.Store.{Shaped, tables};
 
 // Words are in their range by their type.

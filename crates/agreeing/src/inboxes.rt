@@ -6,13 +6,15 @@ use words::states;
 ghost use mathlib.Core.Path.{_≡_};
 ghost use Prim.Native.Nat.{ℕ, _≤_};
 ghost use Rattle.rules.specs.Lists.{_==_, count};
-ghost use Rattle.rules.specs.TableRules.{inboxes-right as inboxes-right-of, messages-right as messages-right-of, notices-right as notices-right-of};
+ghost use Rattle.rules.specs.TableRules.{inboxes-right as inboxes-right-of, messages-right as messages-right-of};
+ghost use Rattle.rules.specs.TableRules.{notices-right as notices-right-of};
 ghost use Rattle.store.specs.Store.{Shaped, tables, limits};
 ghost use Rattle.indexing.specs.Index.{Indexed};
 
 // A message is a match exactly if the thread of its receiver's name would receive from its sender. Names are distinct.
 pub fn inboxes_right(m: &[u32], at: &[u8; 256]) -> bool
-    requires { ⌜ Shaped (now m) × Indexed (tables (now m) .threads) (now at) × ((k : ℕ) → count (λ t. k == t .name) (tables (now m) .threads) ≤ 1) ⌝ }
+    requires { ⌜ Shaped (now m) × Indexed (tables (now m) .threads) (now at)
+        × ((k : ℕ) → count (λ t. k == t .name) (tables (now m) .threads) ≤ 1) ⌝ }
     ensures { λ b. ⌜ b ≡ inboxes-right-of (tables (now (m .entry))) ⌝ }
 {
     let n = rows::count(m);
@@ -66,7 +68,8 @@ pub fn messages_right(m: &[u32], at: &[u8; 256]) -> bool
 
 // A notice's sender is trapped on its receiver, and it is the sender's first: `seen` marks the places of senders met. Names are distinct.
 pub fn notices_right(m: &[u32], at: &[u8; 256]) -> bool
-    requires { ⌜ Shaped (now m) × Indexed (tables (now m) .threads) (now at) × ((k : ℕ) → count (λ t. k == t .name) (tables (now m) .threads) ≤ 1) ⌝ }
+    requires { ⌜ Shaped (now m) × Indexed (tables (now m) .threads) (now at)
+        × ((k : ℕ) → count (λ t. k == t .name) (tables (now m) .threads) ≤ 1) ⌝ }
     ensures { λ b. ⌜ b ≡ notices-right-of (tables (now (m .entry))) ⌝ }
 {
     let n = rows::count(m);

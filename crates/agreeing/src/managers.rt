@@ -13,7 +13,8 @@ ghost use lib.ListN.{length, getD};
 ghost use Rattle.rules.specs.Lists.{_==_, any};
 ghost use Rattle.rules.specs.Words.{by-state, by-wanted, by-manager};
 ghost use Rattle.rules.specs.Tables.{Tables, named};
-ghost use Rattle.rules.specs.TableRules.{names-live as names-live-of, entries-right as entries-right-of, manager-set as manager-set-of, trapped-right as trapped-right-of};
+ghost use Rattle.rules.specs.TableRules.{names-live as names-live-of, entries-right as entries-right-of, manager-set as manager-set-of};
+ghost use Rattle.rules.specs.TableRules.{trapped-right as trapped-right-of};
 ghost use Rattle.rules.specs.declared.Thread.{Thread as ThreadIs};
 ghost use Rattle.memory.specs.Rows.{Roomy, no-thread};
 ghost use Rattle.memory.specs.Memory.{rows-of};
@@ -21,7 +22,8 @@ ghost use Rattle.store.specs.Store.{Shaped, tables};
 ghost use Rattle.indexing.specs.Index.{Indexed};
 
 fn wanted_live(at: &[u8; 256], n: usize, s: State) -> bool
-    ensures { λ b. ⌜ ((ts : List ThreadIs) → Indexed ts (now (at .entry)) → length ts ≡ n → b ≡ by-state true (by-wanted true (λ m. any (named m) ts)) (λ d. true) (λ k. true) s) ⌝ }
+    ensures { λ b. ⌜ ((ts : List ThreadIs) → Indexed ts (now (at .entry)) → length ts ≡ n →
+        b ≡ by-state true (by-wanted true (λ m. any (named m) ts)) (λ d. true) (λ k. true) s) ⌝ }
 {
     match s {
         State::Running => true,
@@ -37,7 +39,8 @@ fn wanted_live(at: &[u8; 256], n: usize, s: State) -> bool
 }
 
 fn entry_right(at: &[u8; 256], n: usize, own: u8, m: Manager) -> bool
-    ensures { λ b. ⌜ ((ts : List ThreadIs) → Indexed ts (now (at .entry)) → length ts ≡ n → b ≡ by-manager true (λ k. any (named k) ts && not (k == own)) m) ⌝ }
+    ensures { λ b. ⌜ ((ts : List ThreadIs) → Indexed ts (now (at .entry)) → length ts ≡ n →
+        b ≡ by-manager true (λ k. any (named k) ts && not (k == own)) m) ⌝ }
 {
     match m {
         Manager::Unset => true,
@@ -54,7 +57,8 @@ fn entry_right(at: &[u8; 256], n: usize, own: u8, m: Manager) -> bool
 
 fn entries_right(m: &[u32], at: &[u8; 256], n: usize, i: usize) -> bool
     requires { ⌜ Roomy (rows-of (now m)) × (i < rows-of (now m) .limits .threads) ⌝ }
-    ensures { λ b. ⌜ ((T : Tables) → Indexed (T .threads) (now (at .entry)) → length (T .threads) ≡ n → b ≡ entries-right-of T (getD (rows-of (now (m .entry)) .threads) i no-thread)) ⌝ }
+    ensures { λ b. ⌜ ((T : Tables) → Indexed (T .threads) (now (at .entry)) → length (T .threads) ≡ n →
+        b ≡ entries-right-of T (getD (rows-of (now (m .entry)) .threads) i no-thread)) ⌝ }
 {
     let own = rows::name_at(m, i);
     let program = rows::manager_at(m, i, TrapKind::Program);

@@ -67,7 +67,8 @@ fn tally(m: &[u32], ready: bool, n: usize) -> [u8; 256]
 
 // Does a thread run exactly if it is the runner, and stand in each queue as often as its state says?
 fn agrees(s: State, name: u8, r: Runner, in_ready: u8, in_clock: u8) -> bool
-    ensures { λ b. ⌜ b ≡ (one-if-of (is-running s) == one-if-of (runs-as name r) && one-if-of (is-ready s) == in_ready && one-if-of (on-clock s) == in_clock) ⌝ }
+    ensures { λ b. ⌜ b ≡ (one-if-of (is-running s) == one-if-of (runs-as name r) && one-if-of (is-ready s) == in_ready
+        && one-if-of (on-clock s) == in_clock) ⌝ }
 {
     let runs = one_if(states::is_running(s));
     let chosen = one_if(is_runner(name, r));
@@ -84,7 +85,9 @@ fn agrees(s: State, name: u8, r: Runner, in_ready: u8, in_clock: u8) -> bool
 
 fn all_agree(m: &[u32]) -> bool
     requires { ⌜ Shaped (now m) ⌝ }
-    ensures { λ b. ⌜ b ≡ all (λ t. one-if-of (is-running (t .state)) == one-if-of (runs-as (t .name) (tables (now (m .entry)) .runner)) && one-if-of (is-ready (t .state)) == times-in (tables (now (m .entry)) .ready) (t .name) && one-if-of (on-clock (t .state)) == times-in (tables (now (m .entry)) .clock) (t .name)) (tables (now (m .entry)) .threads) ⌝ }
+    ensures { λ b. ⌜ b ≡ all (λ t. one-if-of (is-running (t .state)) == one-if-of (runs-as (t .name) (tables (now (m .entry)) .runner))
+        && one-if-of (is-ready (t .state)) == times-in (tables (now (m .entry)) .ready) (t .name)
+        && one-if-of (on-clock (t .state)) == times-in (tables (now (m .entry)) .clock) (t .name)) (tables (now (m .entry)) .threads) ⌝ }
 {
     let n = rows::count(m);
     let runner = rows::runner(m);
@@ -105,7 +108,8 @@ fn all_agree(m: &[u32]) -> bool
 }
 
 fn runner_live(at: &[u8; 256], n: usize, r: Runner) -> bool
-    ensures { λ b. ⌜ ((ts : List ThreadIs) → Indexed ts (now (at .entry)) → length ts ≡ n → b ≡ by-runner true (λ k s. any (named k) ts) r) ⌝ }
+    ensures { λ b. ⌜ ((ts : List ThreadIs) → Indexed ts (now (at .entry)) → length ts ≡ n →
+        b ≡ by-runner true (λ k s. any (named k) ts) r) ⌝ }
 {
     match r {
         Runner::NoRunner => true,
@@ -116,7 +120,8 @@ fn runner_live(at: &[u8; 256], n: usize, r: Runner) -> bool
 // Are the first q names of a queue live?
 fn all_live(m: &[u32], ready: bool, q: usize, n: usize, at: &[u8; 256]) -> bool
     requires { ⌜ Shaped (now m) × (q ≤ rows-of (now m) .limits .threads) ⌝ }
-    ensures { λ b. ⌜ ((ts : List ThreadIs) → Indexed ts (now (at .entry)) → length ts ≡ n → b ≡ all (λ x. any (named x) ts) (take q (queue ready (rows-of (now (m .entry)))))) ⌝ }
+    ensures { λ b. ⌜ ((ts : List ThreadIs) → Indexed ts (now (at .entry)) → length ts ≡ n →
+        b ≡ all (λ x. any (named x) ts) (take q (queue ready (rows-of (now (m .entry)))))) ⌝ }
 {
     let mut i = 0;
     while i < q {

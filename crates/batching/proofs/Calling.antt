@@ -43,7 +43,8 @@ module _ {m : List ℕ} where
   calls-stay-valid (call es ds m₁ e m₂ d cs p) = stays-valid p ∙ calls-stay-valid cs
 
   -- the tables of the rules' run
-  pub calls-leave : {es : Input} {ds : List Decision} {m′ : List ℕ} → SingleCalls m es ds m′ → valid m ≡ true → tables m′ ≡ run small (tables m) es
+  pub calls-leave : {es : Input} {ds : List Decision} {m′ : List ℕ} → SingleCalls m es ds m′ → valid m ≡ true →
+      tables m′ ≡ run small (tables m) es
   unfolding run
   calls-leave none v = refl
   calls-leave (call es ds m₁ e m₂ d cs p) v =
@@ -55,18 +56,22 @@ module _ {m : List ℕ} where
   calls-broken none v = refl
   calls-broken (call es ds m₁ e m₂ d cs p) v = broken-are-kept p (calls-stay-valid cs ∙ v) ∙ calls-broken cs v
 
-  decided-by-rules : {es : Input} {ds : List Decision} {m′ : List ℕ} → SingleCalls m es ds m′ → valid m ≡ true → ds ≡ decisions small (tables m) es
+  decided-by-rules : {es : Input} {ds : List Decision} {m′ : List ℕ} → SingleCalls m es ds m′ → valid m ≡ true →
+      ds ≡ decisions small (tables m) es
   unfolding decisions
   decided-by-rules none v = refl
   decided-by-rules (call es ds m₁ e m₂ d cs p) v =
       ap₂ (λ (xs ys : List Decision). xs ++ ys) (decided-by-rules cs v)
-      (ap (λ (x : Decision). x ∷ []) (p .decides (calls-stay-valid cs ∙ v) ∙ ap (λ (T : Tables). step small T e .decision) (calls-leave cs v)))
+      (ap (λ (x : Decision). x ∷ []) (p .decides (calls-stay-valid cs ∙ v)
+      ∙ ap (λ (T : Tables). step small T e .decision) (calls-leave cs v)))
       ∙ sym (decisions-append small (tables m) es (e ∷ []))
 
-  decided-as-broken : {es : Input} {ds : List Decision} {m′ : List ℕ} → SingleCalls m es ds m′ → valid m ≡ false → ds ≡ map (λ _. no-tables) es
+  decided-as-broken : {es : Input} {ds : List Decision} {m′ : List ℕ} → SingleCalls m es ds m′ → valid m ≡ false →
+      ds ≡ map (λ _. no-tables) es
   decided-as-broken none v = refl
   decided-as-broken (call es ds m₁ e m₂ d cs p) v =
-      ap₂ (λ (xs ys : List Decision). xs ++ ys) (decided-as-broken cs v) (ap (λ (x : Decision). x ∷ []) (p .refuses (calls-stay-valid cs ∙ v)))
+      ap₂ (λ (xs ys : List Decision). xs ++ ys) (decided-as-broken cs v)
+      (ap (λ (x : Decision). x ∷ []) (p .refuses (calls-stay-valid cs ∙ v)))
       ∙ sym (map-append (λ (_ : List ℕ). no-tables) es (e ∷ []))
 
   -- the decisions of the rules, or 11 for each

@@ -27,8 +27,8 @@ use Rattle.batching.specs.declared.Batched.{Batched}
 
 -- ---- determinacy
 
--- What two results of a batch agree in that runs the events es on m: the refusals n and k, every number of the buffers x and y; of the memories a and b the
--- tables and their dump, where m is valid, and every word, where no event is accepted.
+-- What two results of a batch agree in that runs the events es on m: the refusals n and k, every number of the buffers x and y; of the
+-- memories a and b the tables and their dump, where m is valid, and every word, where no event is accepted.
 pub record Agree (m : List ℕ) (es : Input) (n k : ℕ) (x y a b : List ℕ) : Type 0 where
   pub refusal : n ≡ k
   pub numbers : x ≡ y
@@ -45,7 +45,8 @@ served-agree p o = record {
 }
 
 -- m, s and before: what is lent. Two results that the promise allows agree so, and in the unread end, in its bytes and in where it stands.
-pub batch-determined : {m before a b x y : List ℕ} {s r q : RefT (List ℕ)} {n k : ℕ} → Batches m s before r a x n → Batches m s before q b y k
+pub batch-determined : {m before a b x y : List ℕ} {s r q : RefT (List ℕ)} {n k : ℕ} → Batches m s before r a x n →
+    Batches m s before q b y k
     → Agree m (taken (length before) (now s) .events) n k x y a b × (now r ≡ now q) × (ptr r ≡ ptr q)
 batch-determined {s = s} {r = r} {q = q} p o = (
   served-agree (p .served) (o .served),
@@ -57,11 +58,20 @@ batch-determined {s = s} {r = r} {q = q} p o = (
     same = determined (p .unread) (o .unread)
 
 -- By value: and in how many bytes are read.
-pub batch-value-determined : {t : Lent} {bytes before x y : List ℕ} {b c : Batched} → BatchesValue t bytes before x b → BatchesValue t bytes before y c
-    → Agree (t .words) (taken (length before) bytes .events) (b .refusal) (c .refusal) x y (b .tables .words) (c .tables .words) × (b .used ≡ c .used)
+pub batch-value-determined : {t : Lent} {bytes before x y : List ℕ} {b c : Batched} → BatchesValue t bytes before x b →
+    BatchesValue t bytes before y c
+    → Agree (t .words) (taken (length before) bytes .events) (b .refusal) (c .refusal) x y (b .tables .words) (c .tables .words)
+    × (b .used ≡ c .used)
 batch-value-determined {bytes = bytes} {b = b} {c = c} p o = (
   served-agree (p .served) (o .served),
-  omega (arith, p .within, o .within, length-drop (b .used) bytes, length-drop (c .used) bytes, ap length (determined (p .unread) (o .unread))),
+  omega (
+    arith,
+    p .within,
+    o .within,
+    length-drop (b .used) bytes,
+    length-drop (c .used) bytes,
+    ap length (determined (p .unread) (o .unread)),
+  ),
 )
 
 -- ---- decisions on a lent memory
@@ -103,14 +113,15 @@ module _ {m bytes before m₁ after : List ℕ} {n : ℕ} (p : Served m bytes be
     where
       on : (v : Bool) → valid m ≡ v → decided m (ran ++ fs) ≡ decided m ran ++ decided m₁ fs
       on true v = rw (v, batch-stays-valid ∙ v)
-          (decisions-append small (tables m) ran fs ∙ ap (λ (T : Tables). decisions small (tables m) ran ++ decisions small T fs) (sym (p .leaves v .1)))
+          (decisions-append small (tables m) ran fs
+          ∙ ap (λ (T : Tables). decisions small (tables m) ran ++ decisions small T fs) (sym (p .leaves v .1)))
       on false v = rw (v, batch-stays-valid ∙ v) (map-append (λ (_ : List ℕ). no-tables) ran fs)
 
   -- ---- single calls
 
-  -- "The result equals single calls in order, refused and malformed events included": on the same words, by any results that the promise of a step allows,
-  -- single calls of the events that are run have the same decisions; they leave the same tables and dump, where the words are valid; and every word is
-  -- the same where each of them is refused, as on words that are not valid.
+  -- "The result equals single calls in order, refused and malformed events included": on the same words, by any results that the promise
+  -- of a step allows, single calls of the events that are run have the same decisions; they leave the same tables and dump, where the
+  -- words are valid; and every word is the same where each of them is refused, as on words that are not valid.
   pub equals-single-calls : {ds : List Decision} {m₂ : List ℕ} → SingleCalls m ran ds m₂ →
       (after ≡ numbers ds ++ drop (length (numbers ds)) before)
       × (valid m ≡ true → (tables m₁ ≡ tables m₂) × (dump (tables m₁) ≡ dump (tables m₂)))
@@ -125,8 +136,8 @@ module _ {m bytes before m₁ after : List ℕ} {n : ℕ} (p : Served m bytes be
 
 -- ---- two batches in a row
 
--- a is handed over on m with the buffer `before`; then, on what that leaves, its unread end with b behind it, with the rest of the buffer; and, on m and
--- `before` again, all the bytes at once
+-- a is handed over on m with the buffer `before`; then, on what that leaves, its unread end with b behind it, with the rest of the
+-- buffer; and, on m and `before` again, all the bytes at once
 module _ (m before a x : List ℕ) where
   abbrev room : ℕ
   room = length before
@@ -178,12 +189,16 @@ module _ (m before a x : List ℕ) where
           (wrote ++ y ≡ z) × (taken (length rest) (first .unread ++ b) .unread ≡ taken room (a ++ b) .unread)
           × (valid m ≡ true → (tables m₂ ≡ tables m′) × (dump (tables m₂) ≡ dump (tables m′)))
       on e =
-          let all-of-it : first .events ++ fs ≡ taken room (a ++ b) .events = ap (λ (t : Taken). first .events ++ t .events) next ∙ twice .1 e .0 in
+          let all-of-it : first .events ++ fs ≡ taken room (a ++ b) .events =
+          ap (λ (t : Taken). first .events ++ t .events) next ∙ twice .1 e .0 in
           let ns = numbers (decided m₁ fs) in
-          let ds : decided m (taken room (a ++ b) .events) ≡ decided m (first .events) ++ decided m₁ fs = ap (decided m) (sym all-of-it) ∙ decided-behind p fs in
-          let both : numbers (decided m (taken room (a ++ b) .events)) ≡ wrote ++ ns = ap numbers ds ∙ numbers-append (decided m (first .events)) (decided m₁ fs) in
+          let ds : decided m (taken room (a ++ b) .events) ≡ decided m (first .events) ++ decided m₁ fs =
+          ap (decided m) (sym all-of-it) ∙ decided-behind p fs in
+          let both : numbers (decided m (taken room (a ++ b) .events)) ≡ wrote ++ ns =
+          ap numbers ds ∙ numbers-append (decided m (first .events)) (decided m₁ fs) in
           let tail : drop (length ns) rest ≡ drop (length (wrote ++ ns)) before =
-          ap (drop (length ns)) stayed ∙ (drop-drop (length ns) (length wrote) before ∙ ap (λ (k : ℕ). drop k before) (sym (length-append wrote ns))) in (
+          ap (drop (length ns)) stayed ∙ (drop-drop (length ns) (length wrote) before
+          ∙ ap (λ (k : ℕ). drop k before) (sym (length-append wrote ns))) in (
             ap (λ (l : List ℕ). wrote ++ l) (q .numbers ∙ ap (λ (l : List ℕ). ns ++ l) tail)
                 ∙ (sym (append-assoc wrote ns (drop (length (wrote ++ ns)) before))
                 ∙ (ap (λ (l : List ℕ). l ++ drop (length l) before) (sym both) ∙ sym (o .numbers))),

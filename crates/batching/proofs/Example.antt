@@ -1,5 +1,5 @@
--- Document 01's listing as one batch, with a malformed field and a cut one behind it: computed, so that the rule of a batch is seen to say what the
--- document's listing says.
+-- Document 01's listing as one batch, with a malformed field and a cut one behind it: computed, so that the rule of a batch is seen to
+-- say what the document's listing says.
 use Prim.Native.Nat.{ℕ}
 use mathlib.Core.Path.{_≡_, refl}
 use mathlib.Core.List.{List, [], _∷_, _++_}

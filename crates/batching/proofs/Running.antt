@@ -65,7 +65,8 @@ running-starts m bytes before good count g c f =
       long = refl;
     }
 
-module _ {m bytes before : List ℕ} {good : Bool} {left used filled : ℕ} {m₁ after : List ℕ} (r : Running m bytes before good left used filled m₁ after) where
+module _ {m bytes before : List ℕ} {good : Bool} {left used filled : ℕ} {m₁ after : List ℕ}
+    (r : Running m bytes before good left used filled m₁ after) where
   -- there is room for a decision, in what is left of the buffer
   pub has-room : 0 < left → decision-numbers ≤ length (rest filled after)
   has-room h = omega (arith, r .fits, room (r .puts))
@@ -89,9 +90,11 @@ module _ {m bytes before : List ℕ} {good : Bool} {left used filled : ℕ} {m�
         record {
           events = r .events ++ (event ∷ []);
           decisions = r .decisions ++ (d ∷ []);
-          split = append-assoc (r .events) (event ∷ []) (complete (drop end bytes)) ∙ (ap (λ (fs : Input). r .events ++ fs) (sym next) ∙ r .split);
+          split = append-assoc (r .events) (event ∷ []) (complete (drop end bytes))
+              ∙ (ap (λ (fs : Input). r .events ++ fs) (sym next) ∙ r .split);
           calls = call (r .events) (r .decisions) m₁ event m₂ d (r .calls) p;
-          puts = said (behind (r .puts) q) (sym (numbers-append (r .decisions) (d ∷ []) ∙ ap (λ (l : List ℕ). numbers (r .decisions) ++ l) (append-nil (line d))));
+          puts = said (behind (r .puts) q)
+              (sym (numbers-append (r .decisions) (d ∷ []) ∙ ap (λ (l : List ℕ). numbers (r .decisions) ++ l) (append-nil (line d))));
           count = omega (arith, r .count, ap length next);
           fits = omega (arith, r .fits, six);
           checked = r .checked ∙ sym (stays-valid p);

@@ -1,5 +1,5 @@
--- From the code to the demands, with batches: whatever a start, single steps and batches leave, call after call, the memory stands for the rules' run of
--- the events that were run, and each decision told is that of the rules. So the laws on runs speak of batches too.
+-- From the code to the demands, with batches: whatever a start, single steps and batches leave, call after call, the memory stands for
+-- the rules' run of the events that were run, and each decision told is that of the rules. So the laws on runs speak of batches too.
 use Prim.Native.Nat.{ℕ, _≤_}
 use mathlib.Core.Path.{_≡_, refl, sym, ap, ap₂, _∙_, subst}
 use mathlib.Core.Logic.{_↔_}
@@ -30,7 +30,8 @@ use Rattle.store.specs.Store.{tables}
 use Rattle.lending.specs.Lent.{valid, Answered, Started}
 use Rattle.batching.specs.Batching.{decided, numbers-after, Served}
 
--- The memory after a start and these events, in single steps and in batches, by any results that the promises allow. A batch runs the events that it takes.
+-- The memory after a start and these events, in single steps and in batches, by any results that the promises allow. A batch runs the
+-- events that it takes.
 pub data Series : Input → List ℕ → Type 0 where
   started : (m : List ℕ) → Started m → Series [] m
   stepped : (es : Input) (m e m′ : List ℕ) (d : Decision) → Series es m → Answered m e m′ d → Series (es ++ (e ∷ [])) m′
@@ -54,15 +55,17 @@ stands-for-the-run (batched es m bytes before m′ after n s b) =
 module _ {es : Input} {m : List ℕ} (s : Series es m) where
   -- Demand 2: the next batch tells the rules' decisions, in order.
   pub told-by-the-rules : {bytes before m′ after : List ℕ} {n : ℕ} → Served m bytes before m′ after n →
-      let ds = decisions small (run small start es) (taken (length before) bytes .events) in after ≡ numbers ds ++ drop (length (numbers ds)) before
+      let ds = decisions small (run small start es) (taken (length before) bytes .events) in
+      after ≡ numbers ds ++ drop (length (numbers ds)) before
   unfolding decided numbers-after
   told-by-the-rules {bytes} {before} b =
       let i = stands-for-the-run s in
       let fs = taken (length before) bytes .events in
-      rw (i .0) at (b .numbers) ∙ ap (λ (T : Tables). let ds = decisions small T fs in numbers ds ++ drop (length (numbers ds)) before) (i .1)
+      rw (i .0) at (b .numbers) ∙ ap (λ (T : Tables). let ds = decisions small T fs in
+      numbers ds ++ drop (length (numbers ds)) before) (i .1)
 
-  -- Whatever it hands over has its cause: the decision of each event of the batch, wherever that stands in it, hands over what the events up to it
-  -- have made due.
+  -- Whatever it hands over has its cause: the decision of each event of the batch, wherever that stands in it, hands over what the events
+  -- up to it have made due.
   pub handed-has-its-cause : (fs gs : Input) (e : List ℕ) →
       let d = step small (run small start (es ++ fs)) e .decision in
       (decisions small (run small start es) (fs ++ (e ∷ gs))
@@ -79,8 +82,8 @@ module _ {es : Input} {m : List ℕ} (s : Series es m) where
       here : run small (run small start es) fs ≡ run small start (es ++ fs)
       here = sym (run-append small start es fs)
 
-  -- Demand 3: a thread that an event of the next batch makes ready, wherever that stands in it, has run or ended by the 95th tick accepted after it:
-  -- of the ticks behind it in the batch, and of those that come later.
+  -- Demand 3: a thread that an event of the next batch makes ready, wherever that stands in it, has run or ended by the 95th tick
+  -- accepted after it: of the ticks behind it in the batch, and of those that come later.
   pub waits-at-most-95 : {bytes before m′ after : List ℕ} {k : ℕ} → Served m bytes before m′ after k →
       (fs gs : Input) (e : List ℕ) → taken (length before) bytes .events ≡ fs ++ (e ∷ gs) → (more : Input) (n : ℕ) →
       let T = run small (tables m) fs in
@@ -110,4 +113,5 @@ module _ {es : Input} {m : List ℕ} (s : Series es m) where
       (status (tables m) ≡ Panicked) ↔ ((os : List Event) → all from-outside os ≡ true → some-ready (outside (tables m) os) ≡ false)
   panics-exactly r some =
       let i = stands-for-the-run s in
-      panicked-exactly small (tables m) (subst (λ (T : Tables). table-rules small T ≡ true) (sym (i .1)) (rules-hold-in-runs small es (omega arith) (omega arith))) r some
+      panicked-exactly small (tables m)
+      (subst (λ (T : Tables). table-rules small T ≡ true) (sym (i .1)) (rules-hold-in-runs small es (omega arith) (omega arith))) r some

@@ -48,7 +48,8 @@ module _ {m bytes before : List ℕ} {c : Complete} (n : AllCounted bytes c) whe
       }
 
   -- there is room for all of them
-  pub ran : {m′ after : List ℕ} → c .count * decision-numbers ≤ length before → RanAll m bytes before m′ after → Serves m bytes before m′ after (c .end) 0
+  pub ran : {m′ after : List ℕ} → c .count * decision-numbers ≤ length before → RanAll m bytes before m′ after →
+      Serves m bytes before m′ after (c .end) 0
   ran {m′} {after} h r =
       let e = taken-whole (length before) bytes (omega (arith, n .count)) in
       record {

@@ -42,7 +42,8 @@ pub record RanAll (m bytes before m′ after : List ℕ) : Type 0 where
 
 -- ---- what a batch promises
 
--- the decisions of these events on a lent memory: those of the rules, or 11 for each, where it stands for no tables that meet the table rules
+-- the decisions of these events on a lent memory: those of the rules, or 11 for each, where it stands for no tables that meet the table
+-- rules
 unfoldable pub decided : List ℕ → Input → List Decision
 decided m es = if valid m then decisions small (tables m) es else map (λ _. no-tables) es
 
@@ -54,8 +55,8 @@ numbers-after m es before = let ns = numbers (decided m es) in ns ++ drop (lengt
 abbrev pub all-refused : List Decision → Bool
 all-refused ds = all (λ d. not (d .refusal == 0)) ds
 
--- A batch on a lent memory m, which became m′: the refusal, every number of the buffer, and the tables. Where no event is accepted, every word is
--- as it was.
+-- A batch on a lent memory m, which became m′: the refusal, every number of the buffer, and the tables. Where no event is accepted, every
+-- word is as it was.
 pub record Served (m bytes before m′ after : List ℕ) (n : ℕ) : Type 0 where
   pub refusal : n ≡ taken (length before) bytes .refusal
   pub numbers : after ≡ numbers-after m (taken (length before) bytes .events) before

@@ -1,5 +1,5 @@
-// The batch. Nothing is asked of anything that is lent. The room for decisions is looked at before the tables are, and these are checked once: what
-// each step leaves passes the check again.
+// The batch. Nothing is asked of anything that is lent. The room for decisions is looked at before the tables are, and these are checked
+// once: what each step leaves passes the check again.
 use crate::Batched;
 use crate::complete;
 use checking::check;
@@ -72,7 +72,8 @@ fn run(m: &mut [u32], events: &[u8], count: usize, out: &mut [u32])
 
 // A batch, with the number of bytes that are read in the place of the unread end.
 fn serve(m: &mut [u32], events: &[u8], out: &mut [u32]) -> Taken
-    ensures { λ t. ⌜ Serves (now (m .entry)) (now (events .entry)) (now (out .entry)) (now (m .exit)) (now (out .exit)) (t .used) (t .refusal) ⌝ }
+    ensures { λ t. ⌜ Serves (now (m .entry)) (now (events .entry)) (now (out .entry)) (now (m .exit)) (now (out .exit)) (t .used)
+        (t .refusal) ⌝ }
 {
     let c = complete::count_complete(events);
     if out.len() < c.count * numbers::DECISION {
@@ -90,7 +91,8 @@ fn serve(m: &mut [u32], events: &[u8], out: &mut [u32]) -> Taken
 
 // In place. What is handed back is the unread end of the caller's bytes.
 pub fn batch<'a>(m: &mut [u32], events: &'a [u8], out: &mut [u32], refusal: &mut u8) -> &'a [u8]
-    ensures { λ r. ⌜ Batches (now (m .entry)) (events .entry) (now (out .entry)) r (now (m .exit)) (now (out .exit)) (now (refusal .exit)) ⌝ }
+    ensures { λ r. ⌜ Batches (now (m .entry)) (events .entry) (now (out .entry)) r (now (m .exit)) (now (out .exit))
+        (now (refusal .exit)) ⌝ }
 {
     let t = serve(m, events, out);
     *refusal = t.refusal;

@@ -1,5 +1,5 @@
--- Determinacy of the step on lent tables: any two outcomes that its promise allows agree. For start, check, dump, load, pick and sizes the promise is an
--- equality, or that of the function by value (crates/lending/proofs/Determined.antt).
+-- Determinacy of the step on lent tables: any two outcomes that its promise allows agree. For start, check, dump, load, pick and sizes
+-- the promise is an equality, or that of the function by value (crates/lending/proofs/Determined.antt).
 use Prim.Native.Nat.{ℕ}
 use mathlib.Core.Path.{_≡_, refl, ap, _∙_}
 use mathlib.Core.Logic.{_≢_}
@@ -21,7 +21,9 @@ module _ {before bytes after after′ : List ℕ} {r r′ : Report} (p : Steps b
       go false e = determined (p .refuses e) (q .refuses e)
 
   -- They agree in the report; in the tables and their dump, where the lent ones are valid; in every word, where the step is refused.
-  pub nucleus-step-determined : (r ≡ r′) × (valid before ≡ true → (tables after ≡ tables after′) × (dump (tables after) ≡ dump (tables after′))) × (r .refusal ≢ 0 → after ≡ after′)
+  pub nucleus-step-determined : (r ≡ r′)
+      × (valid before ≡ true → (tables after ≡ tables after′) × (dump (tables after) ≡ dump (tables after′)))
+      × (r .refusal ≢ 0 → after ≡ after′)
   nucleus-step-determined = (
     report-determined,
     (λ v. let e = determined (p .leaves v .1) (q .leaves v .1) in (e, ap dump e)),

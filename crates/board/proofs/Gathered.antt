@@ -1,5 +1,6 @@
--- From the C entries to the demands, with batches. Calls of nucleus_start, nucleus_step and nucleus_batch in any mix, known by what their contracts say
--- alone, are a series in the sense of crates/batching/proofs/Runs.antt. So the laws there speak of what these entries leave and tell.
+-- From the C entries to the demands, with batches. Calls of nucleus_start, nucleus_step and nucleus_batch in any mix, known by what their
+-- contracts say alone, are a series in the sense of crates/batching/proofs/Runs.antt. So the laws there speak of what these entries leave
+-- and tell.
 use Prim.Native.Nat.{ℕ}
 use mathlib.Core.List.{List, [], _∷_, _++_}
 use lib.ListN.{length}

@@ -1,6 +1,6 @@
--- From the C entries to the demands. Calls of nucleus_start and nucleus_step, known by what their contracts say alone, are a series in the sense of
--- crates/lending/proofs/Runs.antt: each contract of a step has a decision that the report tells. So what is lent stands for the rules' run of
--- those events, the reports are the lines of that run, and the laws there speak of what the entries report.
+-- From the C entries to the demands. Calls of nucleus_start and nucleus_step, known by what their contracts say alone, are a series in
+-- the sense of crates/lending/proofs/Runs.antt: each contract of a step has a decision that the report tells. So what is lent stands for
+-- the rules' run of those events, the reports are the lines of that run, and the laws there speak of what the entries report.
 use Prim.Native.Nat.{ℕ, _+_, _≤_}
 use mathlib.Core.Path.{_≡_, refl, sym, ap, _∙_, subst}
 use mathlib.Core.Logic.{_≢_, _↔_}
@@ -17,7 +17,8 @@ use Rattle.rules.specs.Dispatch.{status}
 use Rattle.rules.specs.Step.{step}
 use Rattle.rules.specs.Runs.{Input, run, line, decisions, lines}
 use Rattle.rules.specs.declared.Decision.{Decision}
-use Rattle.laws.specs.Words.{Status, Working, Idle, Halted, Panicked, Answer, Nothing, FromMessage, FromNotice, SenderGone, Result, NoRunner, Event}
+use Rattle.laws.specs.Words.{Status, Working, Idle, Halted, Panicked, Answer, Nothing, FromMessage, FromNotice, SenderGone, Result}
+use Rattle.laws.specs.Words.{NoRunner, Event}
 use Rattle.laws.proofs.Tests.{clash}
 use Rattle.laws.specs.Calm.{is-tick}
 use Rattle.laws.specs.Wait.{tick-accepted, became-ready, ticks-accepted, served-by}
@@ -80,7 +81,8 @@ tells {m} {e} {m′} {r} s = go (valid m) refl
         }
     go false h = record {
       decision = no-tables;
-      answered = record { decides = λ v. absurd (clash v h); leaves = s .leaves; refuses = λ _. refl; keeps = kept no-tables (s .refuses h) };
+      answered =
+          record { decides = λ v. absurd (clash v h); leaves = s .leaves; refuses = λ _. refl; keeps = kept no-tables (s .refuses h) };
       reports = s .refuses h;
     }
 
@@ -89,7 +91,8 @@ tells {m} {e} {m′} {r} s = go (valid m) refl
 -- calls of nucleus_step one after the other: the words before, the events, the reports, the words after
 pub data Calls : List ℕ → Input → List Report → List ℕ → Type 0 where
   none : (m : List ℕ) → Calls m [] [] m
-  then : (m e m₁ : List ℕ) (r : Report) (es : Input) (rs : List Report) (m′ : List ℕ) → Steps m e m₁ r → Calls m₁ es rs m′ → Calls m (e ∷ es) (r ∷ rs) m′
+  then : (m e m₁ : List ℕ) (r : Report) (es : Input) (rs : List Report) (m′ : List ℕ) → Steps m e m₁ r → Calls m₁ es rs m′ →
+      Calls m (e ∷ es) (r ∷ rs) m′
 
 -- a call of nucleus_start, and those
 pub record FromStart (es : Input) (rs : List Report) (m : List ℕ) : Type 0 where
@@ -107,7 +110,8 @@ ticks-told (e ∷ es) (r ∷ rs) = one-if (r .refusal == 0 && is-tick (decode e)
 goes-on : {es : Input} {m : List ℕ} → Series es m → {fs : Input} {rs : List Report} {m′ : List ℕ} → Calls m fs rs m′ → Series (es ++ fs) m′
 goes-on {es} s (none m) = subst (λ (xs : Input). Series xs m) (sym (append-nil es)) s
 goes-on {es} s (then m e m₁ r fs rs m′ c cs) =
-    subst (λ (xs : Input). Series xs m′) (append-assoc es (e ∷ []) fs) (goes-on (lent.stepped es m e m₁ (tells c .decision) s (tells c .answered)) cs)
+    subst (λ (xs : Input). Series xs m′) (append-assoc es (e ∷ []) fs)
+    (goes-on (lent.stepped es m e m₁ (tells c .decision) s (tells c .answered)) cs)
 
 -- Calls from a start are a series.
 pub is-a-series : {es : Input} {rs : List Report} {m : List ℕ} → FromStart es rs m → Series es m
@@ -165,13 +169,15 @@ module _ {es : Input} {rs : List Report} {m : List ℕ} (f : FromStart es rs m) 
         lent.waits-at-most-95 (is-a-series f) e m′ _ (tells c .answered) after n b
         (subst (λ (k : ℕ). 95 ≤ k) (lines-told (c .leaves (stands-for-the-run .0) .0) cs .1) t)
 
-    -- Demand 3: with threads and nobody to run, it reports 3, panicked, exactly if no series of ticks and interrupts makes any thread ready.
+    -- Demand 3: with threads and nobody to run, it reports 3, panicked, exactly if no series of ticks and interrupts makes any thread
+    -- ready.
     pub panics-exactly : tables m′ .runner ≡ NoRunner → any (λ t. true) (tables m′ .threads) ≡ true →
         (r .status ≡ 3) ↔ ((os : List Event) → all from-outside os ≡ true → some-ready (outside (tables m′) os) ≡ false)
     unfolding report-of status-code
     panics-exactly nobody some =
         let v = stands-for-the-run .0 in
         let said : r .status ≡ status-code (status (tables m′)) =
-        ap (λ (x : Report). x .status) (c .decides v) ∙ reported small (tables m) e ∙ ap (λ (T : Tables). status-code (status T)) (sym (c .leaves v .1)) in
+        ap (λ (x : Report). x .status) (c .decides v) ∙ reported small (tables m) e
+        ∙ ap (λ (T : Tables). status-code (status T)) (sym (c .leaves v .1)) in
         let p = lent.panics-exactly next nobody some in
         ((λ z. p .0 (told-panic _ (sym said ∙ z))), (λ o. said ∙ ap status-code (p .1 o)))

@@ -14,7 +14,8 @@ use Rattle.board.specs.declared.Report.{Report}
 
 -- "A decision has refusal, status .., runner or 255, and the answer now handed over: kind .., sender and word."
 unfoldable pub report-of : Decision → Report
-report-of d = let a = answer-numbers (d .answer) in record { refusal = d .refusal; status = d .status; runner = d .runner; kind = a .kind; sender = a .sender; word = a .word }
+report-of d = let a = answer-numbers (d .answer) in
+    record { refusal = d .refusal; status = d .status; runner = d .runner; kind = a .kind; sender = a .sender; word = a .word }
 
 -- a step on the words that are lent: what stands behind the reference at entry and at exit; refused, every word is as it was
 pub record Steps (before bytes after : List ℕ) (r : Report) : Type 0 where

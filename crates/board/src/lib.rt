@@ -1,5 +1,5 @@
-// The nucleus for a board, whose C code lends the tables. An entry takes the value behind the reference, calls a function by value and stores
-// what that gives. The contract speaks of the words that stand behind the reference at entry and at exit.
+// The nucleus for a board, whose C code lends the tables. An entry takes the value behind the reference, calls a function by value and
+// stores what that gives. The contract speaks of the words that stand behind the reference at entry and at exit.
 pub mod values;
 
 use batching::batch;
@@ -64,8 +64,8 @@ pub extern "C" fn nucleus_step(t: &mut Tables, event: &[u8]) -> Report
     r.report
 }
 
-// A batch. C gets no slice as a result, so what `batch` hands back is left in the place of the events that were lent: a slice is a pointer and
-// a length. The numbers are those of a Report, in its order.
+// A batch. C gets no slice as a result, so what `batch` hands back is left in the place of the events that were lent: a slice is a
+// pointer and a length. The numbers are those of a Report, in its order.
 #[no_mangle]
 pub extern "C" fn nucleus_batch<'a>(
     t: &mut Tables,
@@ -73,7 +73,8 @@ pub extern "C" fn nucleus_batch<'a>(
     out: &mut [u32],
     refusal: &mut u8,
 )
-    ensures { λ _. ⌜ Batches (now (t .entry) .words) (now (events .entry)) (now (out .entry)) (now (events .exit)) (now (t .exit) .words) (now (out .exit)) (now (refusal .exit)) ⌝ }
+    ensures { λ _. ⌜ Batches (now (t .entry) .words) (now (events .entry)) (now (out .entry)) (now (events .exit)) (now (t .exit) .words)
+        (now (out .exit)) (now (refusal .exit)) ⌝ }
 {
     let b = batch::batch_value(*t, *events, out);
     *t = b.tables;
@@ -91,7 +92,8 @@ pub extern "C" fn nucleus_check(t: &Tables) -> u8
 
 #[no_mangle]
 pub extern "C" fn nucleus_dump(t: &Tables, out: &mut [u8]) -> Dumped
-    ensures { λ d. ⌜ (d ≡ dumped (now (t .entry) .words) (length (now (out .entry)))) × (now (out .exit) ≡ buffer-after (now (t .entry) .words) (now (out .entry))) ⌝ }
+    ensures { λ d. ⌜ (d ≡ dumped (now (t .entry) .words) (length (now (out .entry))))
+        × (now (out .exit) ≡ buffer-after (now (t .entry) .words) (now (out .entry))) ⌝ }
 {
     dump::dump_value(*t, out)
 }

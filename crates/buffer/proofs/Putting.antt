@@ -57,7 +57,8 @@ module _ {a before mid : List ℕ} {k : ℕ} (p : Puts a before mid k) where
   -- the part is what it was before
   pub rest-same : rest k mid ≡ drop k before
   rest-same =
-      rest-is k mid ∙ (ap (drop k) (p .shows) ∙ (drop-at a (drop (length a) before) k (sym (p .counts)) ∙ ap (λ (j : ℕ). drop j before) (sym (p .counts))))
+      rest-is k mid ∙ (ap (drop k) (p .shows)
+      ∙ (drop-at a (drop (length a) before) k (sym (p .counts)) ∙ ap (λ (j : ℕ). drop j before) (sym (p .counts))))
 
   -- More is put into the part: all of it stands at the front.
   pub behind : {c ys : List ℕ} {n : ℕ} → Puts c (rest k mid) ys n → Puts (a ++ c) before (back k mid ys) (k + n)
@@ -122,7 +123,8 @@ module _ {a before mid : List ℕ} {k : ℕ} (p : Puts a before mid k) where
       let longer : suc k ≡ length (a ++ (x ∷ [])) = omega (arith, p .counts, length-append a (x ∷ [])) in
       record {
         counts = omega (arith, longer);
-        shows = ap (λ (l : List ℕ). set l k x) (p .shows ∙ ap (λ (l : List ℕ). a ++ l) (ap (λ (j : ℕ). drop j before) (sym (p .counts)) ∙ drop-cons before k 0 h))
+        shows = ap (λ (l : List ℕ). set l k x) (p .shows
+            ∙ ap (λ (l : List ℕ). a ++ l) (ap (λ (j : ℕ). drop j before) (sym (p .counts)) ∙ drop-cons before k 0 h))
             ∙ (set-at a (getD before k 0) (drop (suc k) before) x k (sym (p .counts))
             ∙ (sym (append-snoc a x (drop (suc k) before)) ∙ ap (λ (j : ℕ). (a ++ (x ∷ [])) ++ drop j before) longer));
       }

@@ -67,7 +67,11 @@ module _ (L : Limits) (m : List ℕ) where
       let s = sized L m e in
       record {
         limits = refl;
-        roomy = record { long = omega (arith, s .long, s .own-threads, s .own-blocks); low = omega (arith, s .own-threads); few = omega (arith, s .own-blocks) };
+        roomy = record {
+          long = omega (arith, s .long, s .own-threads, s .own-blocks);
+          low = omega (arith, s .own-threads);
+          few = omega (arith, s .own-blocks);
+        };
         threads = omega (arith, s .threads, s .own-threads);
         ready = omega (arith, s .ready, s .own-threads);
         clock = omega (arith, s .clock, s .own-threads);

@@ -1,6 +1,7 @@
 -- A memory stands for tables that meet the table rules exactly if it is long enough for the limits, has them and counts within them in its
 -- head, and the tables that it shows meet the rules. Every word of a thread, a queue, a message or the head that counts says something, and
--- one that would not be written says what no rule allows (words/specs/Saying.antt). Spare words, hints and what stands behind a count are free.
+-- one that would not be written says what no rule allows (words/specs/Saying.antt). Spare words, hints and what stands behind a count are
+-- free.
 use Prim.Native.Nat.{ℕ}
 use mathlib.Core.Bool.{Bool, _&&_}
 use mathlib.Core.List.{List}

@@ -11,14 +11,16 @@ ghost use mathlib.Core.Path.{_≡_};
 ghost use mathlib.Core.Bool.{_&&_};
 ghost use Prim.Native.Nat.{ℕ, _≤_};
 ghost use Rattle.rules.specs.Lists.{_==_, count};
-ghost use Rattle.rules.specs.TableRules.{names-live, trapped-right, answers-right, inboxes-right, messages-right, notices-right, table-rules};
+ghost use Rattle.rules.specs.TableRules.{names-live, trapped-right, answers-right, inboxes-right, messages-right, notices-right};
+ghost use Rattle.rules.specs.TableRules.{table-rules};
 ghost use Rattle.store.specs.Store.{Shaped, tables, limits};
 ghost use Rattle.indexing.specs.Index.{Indexed};
 
 // The rules on threads by themselves.
 fn threads_right(m: &[u32], at: &[u8; 256]) -> bool
     requires { ⌜ Shaped (now m) × Indexed (tables (now m) .threads) (now at) ⌝ }
-    ensures { λ b. ⌜ b ≡ (names-live (tables (now (m .entry))) && trapped-right (tables (now (m .entry))) && answers-right (tables (now (m .entry)))) ⌝ }
+    ensures { λ b. ⌜ b ≡ (names-live (tables (now (m .entry))) && trapped-right (tables (now (m .entry)))
+        && answers-right (tables (now (m .entry)))) ⌝ }
 {
     if !managers::names_live(m, at) {
         return false;
@@ -31,8 +33,10 @@ fn threads_right(m: &[u32], at: &[u8; 256]) -> bool
 
 // The rules on messages: the names are distinct.
 fn messages_met(m: &[u32], at: &[u8; 256]) -> bool
-    requires { ⌜ Shaped (now m) × Indexed (tables (now m) .threads) (now at) × ((k : ℕ) → count (λ t. k == t .name) (tables (now m) .threads) ≤ 1) ⌝ }
-    ensures { λ b. ⌜ b ≡ (inboxes-right (tables (now (m .entry))) && messages-right (limits (now (m .entry))) (tables (now (m .entry))) && notices-right (tables (now (m .entry)))) ⌝ }
+    requires { ⌜ Shaped (now m) × Indexed (tables (now m) .threads) (now at)
+        × ((k : ℕ) → count (λ t. k == t .name) (tables (now m) .threads) ≤ 1) ⌝ }
+    ensures { λ b. ⌜ b ≡ (inboxes-right (tables (now (m .entry))) && messages-right (limits (now (m .entry))) (tables (now (m .entry)))
+        && notices-right (tables (now (m .entry)))) ⌝ }
 {
     if !inboxes::inboxes_right(m, at) {
         return false;

@@ -21,7 +21,8 @@ use Rattle.dumping.proofs.Walks.{held-few}
 
 -- ---- field 1
 
-pub head-bytes : (T : Tables) {x l n s i b : ℕ} → x ≡ status-code (status T) → l ≡ T .last → n ≡ me (T .runner) → s ≡ slice-code (T .runner) → i ≡ T .since → b ≡ T .beats →
+pub head-bytes : (T : Tables) {x l n s i b : ℕ} → x ≡ status-code (status T) → l ≡ T .last → n ≡ me (T .runner) →
+    s ≡ slice-code (T .runner) → i ≡ T .since → b ≡ T .beats →
     (1 ∷ 0 ∷ 9 ∷ x ∷ l ∷ n ∷ s ∷ i ∷ four-bytes b) ≡ field 1 (head-value T)
 unfolding head-value
 head-bytes T p q r t u v = λ j. 1 ∷ 0 ∷ 9 ∷ p j ∷ q j ∷ r j ∷ t j ∷ u j ∷ four-bytes (v j)
@@ -47,7 +48,8 @@ module _ (T : Tables) where
     pub ready : length to-ready ≡ 15 + 20 * length (T .threads) + length (T .ready)
     pub clock : length to-clock ≡ 18 + 20 * length (T .threads) + length (T .ready) + length (T .clock)
     pub messages : length to-messages ≡ 18 + 20 * length (T .threads) + length (T .ready) + length (T .clock) + 10 * length (T .messages)
-    pub whole : length (dump T) ≡ 18 + 20 * length (T .threads) + length (T .ready) + length (T .clock) + 10 * length (T .messages) + 8 * length (T .held)
+    pub whole : length (dump T) ≡ 18 + 20 * length (T .threads) + length (T .ready) + length (T .clock) + 10 * length (T .messages) + 8
+        * length (T .held)
 
   pub lengths : Lengths
   lengths =
@@ -57,8 +59,10 @@ module _ (T : Tables) where
         length-append (field 1 (head-value T)) (each (λ t. field 2 (thread-value t)) (T .threads)),
         length-each (λ t. field 2 (thread-value t)) 20 (T .threads) (λ t. omega (arith, thread-length t)),
       ) in
-      let ready : length to-ready ≡ 15 + 20 * length (T .threads) + length (T .ready) = omega (arith, length-append to-threads (field 3 (T .ready))) in
-      let clock : length to-clock ≡ 18 + 20 * length (T .threads) + length (T .ready) + length (T .clock) = omega (arith, length-append to-ready (field 4 (T .clock))) in
+      let ready : length to-ready ≡ 15 + 20 * length (T .threads) + length (T .ready) =
+      omega (arith, length-append to-threads (field 3 (T .ready))) in
+      let clock : length to-clock ≡ 18 + 20 * length (T .threads) + length (T .ready) + length (T .clock) =
+      omega (arith, length-append to-ready (field 4 (T .clock))) in
       record {
         head = head;
         threads = threads;

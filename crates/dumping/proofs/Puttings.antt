@@ -22,7 +22,8 @@ use Rattle.dumping.proofs.Walks.{Walk}
 -- ---- fields of one length, a part of the table at a time
 
 -- f writes an entry, in k bytes
-pub record Written {A : Type 0} (f : A → List ℕ) (k : ℕ) (whole : List A) (done next : ℕ → List A) (n : ℕ) (before now : List ℕ) (at i : ℕ) : Type 0 where
+pub record Written {A : Type 0} (f : A → List ℕ) (k : ℕ) (whole : List A) (done next : ℕ → List A) (n : ℕ) (before now : List ℕ)
+    (at i : ℕ) : Type 0 where
   pub walk : Walk whole done next n
   pub sized : (x : A) → length (f x) ≡ k
   pub enough : k * length whole ≤ length before
@@ -30,15 +31,18 @@ pub record Written {A : Type 0} (f : A → List ℕ) (k : ℕ) (whole : List A) 
   pub so : Puts (each f (done i)) before now at
 
 pub write-starts : {A : Type 0} {f : A → List ℕ} {k : ℕ} {whole : List A} {done next : ℕ → List A} {n : ℕ} {before : List ℕ} →
-    Walk whole done next n → ((x : A) → length (f x) ≡ k) → k * length whole ≤ length before → Written f k whole done next n before before 0 0
+    Walk whole done next n → ((x : A) → length (f x) ≡ k) → k * length whole ≤ length before →
+    Written f k whole done next n before before 0 0
 unfolding each
 write-starts {f = f} {before = before} w s e =
     record { walk = w; sized = s; enough = e; within = omega arith; so = said (puts-none before) (sym (ap (each f) (w .starts))) }
 
-module _ {A : Type 0} {f : A → List ℕ} {k : ℕ} {whole : List A} {done next : ℕ → List A} {n : ℕ} {before now : List ℕ} {at i : ℕ} (W : Written f k whole done next n before now at i) where
+module _ {A : Type 0} {f : A → List ℕ} {k : ℕ} {whole : List A} {done next : ℕ → List A} {n : ℕ} {before now : List ℕ} {at i : ℕ}
+    (W : Written f k whole done next n before now at i) where
   -- the buffer is as long as it was
   pub written-long : length now ≡ length before
-  written-long = stays-long (W .so) (omega (arith, length-each f k (done i) (W .sized), W .enough, mul-le-mul-left k (W .walk .few i (W .within))))
+  written-long =
+      stays-long (W .so) (omega (arith, length-each f k (done i) (W .sized), W .enough, mul-le-mul-left k (W .walk .few i (W .within))))
 
   module _ (h : i < n) where
     -- what comes next has room behind what was passed
@@ -94,7 +98,8 @@ module _ (d : ℕ) (hs : List Held) where
   unfolding held-at
   one-length e = rw e
 
-  pub one-word : any (held-for d) hs ≡ true → {w : ℕ} {b c : List ℕ} {m : ℕ} → w ≡ word-for d hs → Puts (6 ∷ 0 ∷ 5 ∷ d ∷ four-bytes w) b c m →
+  pub one-word : any (held-for d) hs ≡ true → {w : ℕ} {b c : List ℕ} {m : ℕ} → w ≡ word-for d hs →
+      Puts (6 ∷ 0 ∷ 5 ∷ d ∷ four-bytes w) b c m →
       Puts (each (λ h. field 6 (held-value h)) (held-at d hs)) b c m
   unfolding each held-at held-value
   one-word e i p = rw e (said p (ap (λ (v : ℕ). 6 ∷ 0 ∷ 5 ∷ d ∷ four-bytes v) i))
@@ -109,7 +114,8 @@ pub record Named (tag n : ℕ) (row before now : List ℕ) (i : ℕ) : Type 0 wh
 
 module _ {tag n : ℕ} {b before : List ℕ} {k : ℕ} (p : Puts (tag ∷ two-bytes n) b before k) where
   pub name-starts : {row : List ℕ} → n ≡ length row → 3 + length row ≤ length b → Named tag n row before before 0
-  name-starts w e = record { whole = w; enough = omega (arith, stays-long p (omega arith)); within = omega arith; so = counted (at-the-front p) 3 refl }
+  name-starts w e =
+      record { whole = w; enough = omega (arith, stays-long p (omega arith)); within = omega arith; so = counted (at-the-front p) 3 refl }
 
 module _ {tag n : ℕ} {row before now : List ℕ} {i : ℕ} (W : Named tag n row before now i) where
   pub named-long : length now ≡ length before
@@ -138,7 +144,8 @@ module _ {tag n : ℕ} {row before now : List ℕ} {i : ℕ} (W : Named tag n ro
   name-ends p h =
       let e : i ≡ n = omega (arith, W .within) in
       let all : take i row ≡ row = take-all i row (omega (arith, W .whole)) in
-      let names : Puts (field tag row) before now (3 + i) = said (W .so) (ap (λ (l : List ℕ). tag ∷ (two-bytes n ++ l)) all ∙ ap (λ (j : ℕ). tag ∷ (two-bytes j ++ row)) (W .whole)) in
+      let names : Puts (field tag row) before now (3 + i) =
+      said (W .so) (ap (λ (l : List ℕ). tag ∷ (two-bytes n ++ l)) all ∙ ap (λ (j : ℕ). tag ∷ (two-bytes j ++ row)) (W .whole)) in
       counted (over p (omega arith) names) (3 + n) (omega (arith, names .counts))
 
 -- ---- a count, a part of the table at a time
@@ -154,7 +161,11 @@ count-starts w = record { walk = w; within = omega arith; so = sym (ap length (w
 module _ {A : Type 0} {whole : List A} {done next : ℕ → List A} {n c i : ℕ} (W : Counted whole done next n c i) where
   module _ (h : i < n) {x : ℕ} (e : x ≡ length (next i)) where
     pub count-next : Counted whole done next n (c + x) (i + 1)
-    count-next = record { walk = W .walk; within = omega arith; so = omega (arith, W .so, ap length (W .walk .goes i h), length-append (done i) (next i)) }
+    count-next = record {
+      walk = W .walk;
+      within = omega arith;
+      so = omega (arith, W .so, ap length (W .walk .goes i h), length-append (done i) (next i));
+    }
 
     pub count-within : c + x ≤ length whole
     count-within = omega (arith, count-next .so, W .walk .few (i + 1) (omega arith))

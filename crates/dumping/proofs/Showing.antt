@@ -83,7 +83,14 @@ module _ (d : ℕ) where
       (λ k. absurd (true≢false (rw (k .0) at h)))
       (λ k. let high : 3 ≤ d = ltb-false d 3 (rw (k .1) at h) in rw (k .1, ne-eqb d 1 (λ e. omega arith), ne-eqb d 2 (λ e. omega arith)))
       (same? d 0))
-      (λ s far h. rw (ne-eqb s 0 (λ e. omega arith), ne-eqb s 1 (λ e. omega arith), ne-eqb s 2 (λ e. omega arith), ne-eqb s 3 (λ e. omega arith), ne-eqb s 4 (λ e. omega arith), ne-eqb s 5 (λ e. omega arith)))
+      (λ s far h. rw (
+        ne-eqb s 0 (λ e. omega arith),
+        ne-eqb s 1 (λ e. omega arith),
+        ne-eqb s 2 (λ e. omega arith),
+        ne-eqb s 3 (λ e. omega arith),
+        ne-eqb s 4 (λ e. omega arith),
+        ne-eqb s 5 (λ e. omega arith),
+      ))
 
 -- ---- an answer
 
@@ -123,9 +130,28 @@ module _ (n w : ℕ) where
       (λ i j. absurd (false≢true (rw (ne-eqb n 0 i) at h))))
       (λ k far h. absurd (by-two _
       (λ i j. false≢true (rw (i, j, le-ltb k 5 far) at h))
-      (λ i j. false≢true (rw (i, ne-eqb w 0 j, ne-eqb k 3 (λ e. omega arith), ne-eqb k 4 (λ e. omega arith), ne-eqb k 1 (λ e. omega arith), ne-eqb k 2 (λ e. omega arith)) at h))
-      (λ i j. false≢true (rw (ne-eqb n 0 i, ne-eqb k 3 (λ e. omega arith), ne-eqb k 4 (λ e. omega arith), ne-eqb k 1 (λ e. omega arith), ne-eqb k 2 (λ e. omega arith)) at h))
-      (λ i j. false≢true (rw (ne-eqb n 0 i, ne-eqb k 3 (λ e. omega arith), ne-eqb k 4 (λ e. omega arith), ne-eqb k 1 (λ e. omega arith), ne-eqb k 2 (λ e. omega arith)) at h))))
+      (λ i j. false≢true (rw (
+        i,
+        ne-eqb w 0 j,
+        ne-eqb k 3 (λ e. omega arith),
+        ne-eqb k 4 (λ e. omega arith),
+        ne-eqb k 1 (λ e. omega arith),
+        ne-eqb k 2 (λ e. omega arith),
+      ) at h))
+      (λ i j. false≢true (rw (
+        ne-eqb n 0 i,
+        ne-eqb k 3 (λ e. omega arith),
+        ne-eqb k 4 (λ e. omega arith),
+        ne-eqb k 1 (λ e. omega arith),
+        ne-eqb k 2 (λ e. omega arith),
+      ) at h))
+      (λ i j. false≢true (rw (
+        ne-eqb n 0 i,
+        ne-eqb k 3 (λ e. omega arith),
+        ne-eqb k 4 (λ e. omega arith),
+        ne-eqb k 1 (λ e. omega arith),
+        ne-eqb k 2 (λ e. omega arith),
+      ) at h))))
 
   pub answer-else : (k : ℕ) → answer-right k n w ≡ false → 1 ∷ nobody ∷ four-bytes 0 ≡ answer-value (answer-in k n w)
   unfolding answer-right answer-in answer-numbers
@@ -148,7 +174,13 @@ module _ (n w : ℕ) where
       (λ i j. absurd (true≢false (rw (i, ne-eqb w 0 j) at h)))
       (λ i j. rw (ne-eqb n 0 i))
       (λ i j. rw (ne-eqb n 0 i)))
-      (λ k far h. rw (ne-eqb k 0 (λ e. omega arith), ne-eqb k 1 (λ e. omega arith), ne-eqb k 2 (λ e. omega arith), ne-eqb k 3 (λ e. omega arith), ne-eqb k 4 (λ e. omega arith)))
+      (λ k far h. rw (
+        ne-eqb k 0 (λ e. omega arith),
+        ne-eqb k 1 (λ e. omega arith),
+        ne-eqb k 2 (λ e. omega arith),
+        ne-eqb k 3 (λ e. omega arith),
+        ne-eqb k 4 (λ e. omega arith),
+      ))
     where
       always : (if (n == 0) && (w == 0) then true else true) ≡ false → ⊥
       always h = by-two ⊥
@@ -160,7 +192,8 @@ module _ (n w : ℕ) where
 -- ---- field 2
 
 module _ (w : List ℕ) where
-  pub front-bytes : {n u p q r : ℕ} → n ≡ byte (word w 0) → u ≡ byte (word w 1) → p ≡ manager-code (manager-in (word w 4)) → q ≡ manager-code (manager-in (word w 5)) → r ≡ manager-code (manager-in (word w 6)) →
+  pub front-bytes : {n u p q r : ℕ} → n ≡ byte (word w 0) → u ≡ byte (word w 1) → p ≡ manager-code (manager-in (word w 4)) →
+      q ≡ manager-code (manager-in (word w 5)) → r ≡ manager-code (manager-in (word w 6)) →
       (2 ∷ 0 ∷ 17 ∷ n ∷ u ∷ (state-value (state-in (word w 2) (word w 3)) ++ (p ∷ q ∷ r ∷ []))) ≡ thread-front (thread-in w)
   unfolding thread-front thread-in
   front-bytes a b x y z =
@@ -171,6 +204,7 @@ module _ (w : List ℕ) where
   unfolding thread-front
   front-length = refl
 
-  pub thread-bytes : thread-front (thread-in w) ++ (four-bytes (word w 7) ++ answer-value (answer-in (word w 8) (word w 9) (word w 10))) ≡ field 2 (thread-value (thread-in w))
+  pub thread-bytes : thread-front (thread-in w)
+      ++ (four-bytes (word w 7) ++ answer-value (answer-in (word w 8) (word w 9) (word w 10))) ≡ field 2 (thread-value (thread-in w))
   unfolding thread-front thread-value thread-in
   thread-bytes = refl

@@ -49,7 +49,8 @@ none-below d hs far = keep-none _ hs (none-count _ hs (none-any _ hs (λ h m. le
 all-below : (n : ℕ) (hs : List Held) → all (λ h. ltb (h .device) n) hs ≡ true → below n hs ≡ hs
 unfolding keep all
 all-below n [] t = refl
-all-below n (h ∷ hs) t = rw (and-left (ltb (h .device) n) _ t) (ap (λ (l : List Held). h ∷ l) (all-below n hs (and-right (ltb (h .device) n) _ t)))
+all-below n (h ∷ hs) t =
+    rw (and-left (ltb (h .device) n) _ t) (ap (λ (l : List Held). h ∷ l) (all-below n hs (and-right (ltb (h .device) n) _ t)))
 
 abbrev by-device : Held → ℕ
 by-device h = h .device
@@ -78,8 +79,10 @@ next-below d (h ∷ hs) c =
         )
         (ap (λ (k : ℕ). record { device = k; word = h .word } ∷ []) e)
 
-    other : below (d + 1) hs ≡ below d hs ++ held-at d hs → h .device ≢ d → (h .device == d) ≡ false → (b : Bool) → ltb (h .device) d ≡ b → below (d + 1) (h ∷ hs) ≡ below d (h ∷ hs) ++ held-at d (h ∷ hs)
-    other rest n t true e = rw (lt-ltb (h .device) (d + 1) (omega (arith, ltb-true (h .device) d e)), e, t) (ap (λ (l : List Held). h ∷ l) rest)
+    other : below (d + 1) hs ≡ below d hs ++ held-at d hs → h .device ≢ d → (h .device == d) ≡ false → (b : Bool) → ltb (h .device) d ≡ b →
+        below (d + 1) (h ∷ hs) ≡ below d (h ∷ hs) ++ held-at d (h ∷ hs)
+    other rest n t true e =
+        rw (lt-ltb (h .device) (d + 1) (omega (arith, ltb-true (h .device) d e)), e, t) (ap (λ (l : List Held). h ∷ l) rest)
     other rest n t false e = rw (le-ltb (h .device) (d + 1) (omega (arith, ltb-false (h .device) d e, n)), e, t) rest
 
 -- what is passed of the held words at device d
@@ -99,4 +102,8 @@ walk-held {m} D =
 pub held-few : {m : List ℕ} → Dumpable m → length (tables m .held) ≤ devices
 held-few {m} D =
     let hs = tables m .held in
-    omega (arith, up-few by-device 0 devices hs (omega arith) (D .rising) (λ h i. (omega arith, ltb-true (h .device) devices (all-at (λ k. ltb (k .device) devices) hs (D .told) h i))))
+    omega (
+      arith,
+      up-few by-device 0 devices hs (omega arith) (D .rising)
+          (λ h i. (omega arith, ltb-true (h .device) devices (all-at (λ k. ltb (k .device) devices) hs (D .told) h i))),
+    )

@@ -30,4 +30,6 @@ sender-number k n = if k == 0 then nobody else if k == 4 then service else byte 
 unfoldable pub thread-front : Thread → List ℕ
 thread-front t =
     let g = t .managers in
-    thread-tag ∷ (two-bytes thread-size ++ (t .name ∷ parent-code (t .parent) ∷ (state-value (t .state) ++ (manager-code (g .program) ∷ manager-code (g .tlb) ∷ manager-code (g .sysbp) ∷ []))))
+    thread-tag ∷ (two-bytes thread-size
+    ++ (t .name ∷ parent-code (t .parent)
+    ∷ (state-value (t .state) ++ (manager-code (g .program) ∷ manager-code (g .tlb) ∷ manager-code (g .sysbp) ∷ []))))

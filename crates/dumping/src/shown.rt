@@ -1,5 +1,5 @@
-// What the words of a record are in a dump, without a value by cases between them: a dump is written often, and nearly all words stand in it as
-// they are. A word that would not be written for what it says is shown as what it says.
+// What the words of a record are in a dump, without a value by cases between them: a dump is written often, and nearly all words stand in
+// it as they are. A word that would not be written for what it says is shown as what it says.
 use rules::numbers;
 use words::saying;
 ghost use mathlib.Core.Path.{_≡_};
@@ -9,7 +9,8 @@ ghost use Rattle.rules.specs.Codes.{manager-code};
 ghost use Rattle.rules.specs.Dump.{answer-value};
 ghost use Rattle.words.specs.Saying.{manager-in, state-in, answer-in};
 ghost use Rattle.buffer.specs.Puts.{Puts};
-ghost use Rattle.dumping.specs.Shown.{state-value, state-right as state-right-of, answer-right as answer-right-of, sender-number as sender-number-of};
+ghost use Rattle.dumping.specs.Shown.{state-value, state-right as state-right-of, answer-right as answer-right-of};
+ghost use Rattle.dumping.specs.Shown.{sender-number as sender-number-of};
 
 // "Gone" among managers.
 const GONE: u32 = 257;

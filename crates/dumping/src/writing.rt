@@ -13,7 +13,8 @@ ghost use Prim.Native.Nat.{_+_, _*_, _<_, _≤_};
 ghost use lib.ListN.{length};
 ghost use Rattle.rules.specs.Lists.{each};
 ghost use Rattle.rules.specs.Numbers.{devices};
-ghost use Rattle.rules.specs.Tags.{before-value, head-tag, head-size, thread-tag, thread-size, ready-tag, clock-tag, message-tag, message-size, held-tag, held-size};
+ghost use Rattle.rules.specs.Tags.{before-value, head-tag, head-size, thread-tag, thread-size, ready-tag, clock-tag, message-tag};
+ghost use Rattle.rules.specs.Tags.{message-size, held-tag, held-size};
 ghost use Rattle.rules.specs.Dump.{field, head-value, thread-value, message-value, held-value, dump};
 ghost use Rattle.words.specs.Saying.{thread-in};
 ghost use Rattle.store.specs.Store.{tables, Shaped};
@@ -74,7 +75,8 @@ fn write_thread(w: &[u32], out: &mut [u8]) -> usize
 
 fn write_threads(m: &[u32], out: &mut [u8]) -> usize
     requires { ⌜ Shaped (now m) × ((before-value + thread-size) * length (tables (now m) .threads) ≤ length (now out)) ⌝ }
-    ensures { λ k. ⌜ Puts (each (λ t. field thread-tag (thread-value t)) (tables (now (m .entry)) .threads)) (now (out .entry)) (now (out .exit)) k ⌝ }
+    ensures { λ k. ⌜ Puts (each (λ t. field thread-tag (thread-value t)) (tables (now (m .entry)) .threads)) (now (out .entry))
+        (now (out .exit)) k ⌝ }
 {
     let n = store::thread_count(m);
     let mut at = 0;
@@ -131,7 +133,8 @@ fn write_message(x: Message, out: &mut [u8]) -> usize
 
 fn write_messages(m: &[u32], out: &mut [u8]) -> usize
     requires { ⌜ Shaped (now m) × ((before-value + message-size) * length (tables (now m) .messages) ≤ length (now out)) ⌝ }
-    ensures { λ k. ⌜ Puts (each (λ x. field message-tag (message-value x)) (tables (now (m .entry)) .messages)) (now (out .entry)) (now (out .exit)) k ⌝ }
+    ensures { λ k. ⌜ Puts (each (λ x. field message-tag (message-value x)) (tables (now (m .entry)) .messages)) (now (out .entry))
+        (now (out .exit)) k ⌝ }
 {
     let n = store::message_count(m);
     let mut at = 0;
@@ -146,8 +149,10 @@ fn write_messages(m: &[u32], out: &mut [u8]) -> usize
 
 // Field 6, if a word is held for the device.
 fn write_word(m: &[u32], d: u8, out: &mut [u8]) -> usize
-    requires { ⌜ Shaped (now m) × (d < devices) × ((before-value + held-size) * length (held-at d (tables (now m) .held)) ≤ length (now out)) ⌝ }
-    ensures { λ n. ⌜ Puts (each (λ h. field held-tag (held-value h)) (held-at d (tables (now (m .entry)) .held))) (now (out .entry)) (now (out .exit)) n ⌝ }
+    requires { ⌜ Shaped (now m) × (d < devices)
+        × ((before-value + held-size) * length (held-at d (tables (now m) .held)) ≤ length (now out)) ⌝ }
+    ensures { λ n. ⌜ Puts (each (λ h. field held-tag (held-value h)) (held-at d (tables (now (m .entry)) .held))) (now (out .entry))
+        (now (out .exit)) n ⌝ }
 {
     if !store::is_held(m, d) {
         return 0;
@@ -161,7 +166,8 @@ fn write_word(m: &[u32], d: u8, out: &mut [u8]) -> usize
 // Held words by rising device.
 fn write_held(m: &[u32], out: &mut [u8]) -> usize
     requires { ⌜ Dumpable (now m) × ((before-value + held-size) * length (tables (now m) .held) ≤ length (now out)) ⌝ }
-    ensures { λ k. ⌜ Puts (each (λ h. field held-tag (held-value h)) (tables (now (m .entry)) .held)) (now (out .entry)) (now (out .exit)) k ⌝ }
+    ensures { λ k. ⌜ Puts (each (λ h. field held-tag (held-value h)) (tables (now (m .entry)) .held)) (now (out .entry)) (now (out .exit))
+        k ⌝ }
 {
     let mut at = 0;
     let mut d = 0;

@@ -29,14 +29,16 @@ after-tells tag tags b t =
     }
 
 -- by its parts
-pub after-is : (b : Before) (tag place : ℕ) (head ready clock : Bool) → place ≡ dump-facts tag .place → head ≡ ((head-tag == tag) || b .head)
+pub after-is : (b : Before) (tag place : ℕ) (head ready clock : Bool) → place ≡ dump-facts tag .place →
+    head ≡ ((head-tag == tag) || b .head)
     → ready ≡ ((ready-tag == tag) || b .ready) → clock ≡ ((clock-tag == tag) || b .clock)
     → record { place = place; head = head; ready = ready; clock = clock } ≡ after b tag
 unfolding after
 after-is b tag place head ready clock p h r k = λ i. record { place = p i; head = h i; ready = r i; clock = k i }
 
 -- only 1, 3 and 4 stand once
-once-seen : (tag : ℕ) (tags : List ℕ) (b : Before) → Tells tags b → (dump-facts tag .once && has tag tags) ≡ (dump-facts tag .once && seen b tag)
+once-seen : (tag : ℕ) (tags : List ℕ) (b : Before) → Tells tags b →
+    (dump-facts tag .once && has tag tags) ≡ (dump-facts tag .once && seen b tag)
 unfolding dump-facts dump-facts-in seen
 once-seen zero tags b t = refl
 once-seen (suc zero) tags b t = sym (t .head)
@@ -47,7 +49,14 @@ once-seen (suc (suc (suc (suc (suc zero))))) tags b t = refl
 once-seen (suc (suc (suc (suc (suc (suc zero)))))) tags b t = refl
 once-seen (suc (suc (suc (suc (suc (suc (suc n))))))) tags b t =
     let m = suc (suc (suc (suc (suc (suc (suc n)))))) in
-    rw (ne-eqb m 1 (λ e. omega arith), ne-eqb m 2 (λ e. omega arith), ne-eqb m 3 (λ e. omega arith), ne-eqb m 4 (λ e. omega arith), ne-eqb m 5 (λ e. omega arith), ne-eqb m 6 (λ e. omega arith))
+    rw (
+      ne-eqb m 1 (λ e. omega arith),
+      ne-eqb m 2 (λ e. omega arith),
+      ne-eqb m 3 (λ e. omega arith),
+      ne-eqb m 4 (λ e. omega arith),
+      ne-eqb m 5 (λ e. omega arith),
+      ne-eqb m 6 (λ e. omega arith),
+    )
 
 -- a field with these tags before it
 module _ (at : ℕ) (tags : List ℕ) (f : Field) (b : Before) (t : Tells tags b) where
@@ -72,7 +81,8 @@ missing-any true false z = refl
 missing-any false y z = refl
 
 -- no field 1, 3 or 4
-pub missing-told : (tags all : List ℕ) (b : Before) → Tells tags b → ((n : ℕ) → has n all ≡ has n tags) → missing b ≡ any (λ r. r .once && not (has (r .tag) all)) dump-rows
+pub missing-told : (tags all : List ℕ) (b : Before) → Tells tags b → ((n : ℕ) → has n all ≡ has n tags) →
+    missing b ≡ any (λ r. r .once && not (has (r .tag) all)) dump-rows
 unfolding missing any
 missing-told tags all b t h =
     missing-any (b .head) (b .ready) (b .clock)

@@ -47,7 +47,8 @@ module _ {bytes : List ℕ} where
       unfolding value-fault where-bad faults-17 earliest
       found-17 R g = sym (rw (none-15 P e b, none-16, R .first .one g .1))
 
-      module _ {lives : ℕ → Bool} {r : Pass} (R : ValuePasses 17 lives bytes r) (g : r .found ≡ false) {marks : List ℕ} (N : Named bytes marks) {s : Pass} (S : ValuePasses 18 (lives-in marks) bytes s) where
+      module _ {lives : ℕ → Bool} {r : Pass} (R : ValuePasses 17 lives bytes r) (g : r .found ≡ false) {marks : List ℕ}
+          (N : Named bytes marks) {s : Pass} (S : ValuePasses 18 (lives-in marks) bytes s) where
         none-17 : faults-17 bytes ≡ []
         unfolding value-fault faults-17
         none-17 = R .first .none g

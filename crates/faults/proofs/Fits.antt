@@ -33,14 +33,16 @@ status-below (suc (suc (suc (suc n)))) =
     ∙ rw (ne-eqb m 0 (λ e. omega arith), ne-eqb m 1 (λ e. omega arith), ne-eqb m 2 (λ e. omega arith), ne-eqb m 3 (λ e. omega arith))
 
 -- a field whose length is fixed, and not wrong
-pub long : (tag : ℕ) (v : List ℕ) (n : ℕ) → tag ≡ n → dump-facts n .sized ≡ true → wrong-length (record { tag = tag; value = v }) ≡ false → length v ≡ dump-facts n .length
+pub long : (tag : ℕ) (v : List ℕ) (n : ℕ) → tag ≡ n → dump-facts n .sized ≡ true → wrong-length (record { tag = tag; value = v }) ≡ false →
+    length v ≡ dump-facts n .length
 unfolding wrong-length
 long tag v n e s h = go (length v == dump-facts n .length) refl (sym (same tag e) ∙ h)
   where
     same : (t : ℕ) → t ≡ n → (dump-facts t .sized && not (length v == dump-facts t .length)) ≡ not (length v == dump-facts n .length)
     same t k = rw (k, s)
 
-    go : (b : Bool) → (length v == dump-facts n .length) ≡ b → not (length v == dump-facts n .length) ≡ false → length v ≡ dump-facts n .length
+    go : (b : Bool) → (length v == dump-facts n .length) ≡ b → not (length v == dump-facts n .length) ≡ false →
+        length v ≡ dump-facts n .length
     go true k _ = eqb-true (length v) (dump-facts n .length) k
     go false k h = absurd (false≢true (sym h ∙ ap not k))
 

@@ -28,7 +28,8 @@ unfolding told tables-from fields-of
 live-told n bytes = refl
 
 -- a field 2 tells its name, another one none
-lived-thread : (n : ℕ) (f : List ℕ) (fs : List (List ℕ)) → as-field f .tag ≡ thread-tag → lived n (f ∷ fs) ≡ ((n == getD (as-field f .value) 0 0) || lived n fs)
+lived-thread : (n : ℕ) (f : List ℕ) (fs : List (List ℕ)) → as-field f .tag ≡ thread-tag →
+    lived n (f ∷ fs) ≡ ((n == getD (as-field f .value) 0 0) || lived n fs)
 unfolding any keep thread-from
 lived-thread n f fs e = rw (eq-eqb (as-field f .tag) thread-tag e)
 
@@ -71,7 +72,8 @@ module _ (bytes : List ℕ) where
     so = λ n. live-told n bytes ∙ sym (ap (λ (k : ℕ). (k == 1) || lived n (complete bytes)) (zeros 256 n));
   }
 
-  module _ {at : ℕ} {marks : List ℕ} (M : Marking at marks) (end : ℕ) (w : whole (drop at bytes) ≡ true) (e : end ≡ at + field-size (drop at bytes)) where
+  module _ {at : ℕ} {marks : List ℕ} (M : Marking at marks) (end : ℕ) (w : whole (drop at bytes) ≡ true)
+      (e : end ≡ at + field-size (drop at bytes)) where
     abbrev f : List ℕ
     f = first (drop at bytes)
 
@@ -80,7 +82,8 @@ module _ (bytes : List ℕ) where
     here = offsets-none _ _ _ (sym (ap (offsets (λ f. wrong-length (f .field))) (placed-next bytes at end w e (M .before))) ∙ M .right)
 
     here-and-behind : (n : ℕ) → lived n (complete (drop at bytes)) ≡ lived n (f ∷ complete (drop end bytes))
-    here-and-behind n = ap (lived n) (complete-first (drop at bytes) w .0 ∙ ap (λ (r : List ℕ). f ∷ complete r) (behind-it bytes at end w e))
+    here-and-behind n =
+        ap (lived n) (complete-first (drop at bytes) w .0 ∙ ap (λ (r : List ℕ). f ∷ complete r) (behind-it bytes at end w e))
 
     pub mark-skips : as-field f .tag ≢ thread-tag → Marking end marks
     mark-skips o = record {
@@ -110,7 +113,8 @@ module _ (bytes : List ℕ) where
       right = here .1;
       size = length-set marks x 1 ∙ M .size;
       so = λ n. M .so n
-          ∙ (ap (λ (b : Bool). lives-in marks n || b) (here-and-behind n ∙ (lived-thread n f (complete (drop end bytes)) o ∙ ap (λ (k : ℕ). (n == k) || lived n (complete (drop end bytes))) (sym v)))
+          ∙ (ap (λ (b : Bool). lives-in marks n || b) (here-and-behind n
+          ∙ (lived-thread n f (complete (drop end bytes)) o ∙ ap (λ (k : ℕ). (n == k) || lived n (complete (drop end bytes))) (sym v)))
           ∙ (or-moves (lives-in marks n) (n == x) (lived n (complete (drop end bytes)))
           ∙ ap (λ (b : Bool). b || lived n (complete (drop end bytes))) (sym (marked marks x n (omega (arith, M .size))))));
     }
@@ -118,7 +122,10 @@ module _ (bytes : List ℕ) where
   -- no field is left
   all-marked : {at : ℕ} {marks : List ℕ} → Marking at marks → complete (drop at bytes) ≡ [] → Named bytes marks
   unfolding any keep
-  all-marked {at} {marks} M e = record { size = M .size; so = λ i n. sym (M .so n ∙ (ap (λ (c : List (List ℕ)). lives-in marks n || lived n c) e ∙ or-false (lives-in marks n))) i }
+  all-marked {at} {marks} M e = record {
+    size = M .size;
+    so = λ i n. sym (M .so n ∙ (ap (λ (c : List (List ℕ)). lives-in marks n || lived n c) e ∙ or-false (lives-in marks n))) i;
+  }
 
   pub mark-cut : {at : ℕ} {marks : List ℕ} → Marking at marks → whole (drop at bytes) ≡ false → Named bytes marks
   mark-cut {at} M w = all-marked M (complete-none (drop at bytes) w .0)

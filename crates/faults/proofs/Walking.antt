@@ -89,7 +89,8 @@ module _ (bytes : List ℕ) (at end : ℕ) (w : whole (drop at bytes) ≡ true) 
   unfolding placed-from
   placed-next before =
       ap (placed-from at before) (complete-first (drop at bytes) w .0)
-      ∙ ap₂ (λ (k : ℕ) (l : List ℕ). record { at = at; before = before; field = as-field (first (drop at bytes)) } ∷ placed-from k (as-field (first (drop at bytes)) .tag ∷ before) (complete l))
+      ∙ ap₂ (λ (k : ℕ) (l : List ℕ). record { at = at; before = before; field = as-field (first (drop at bytes)) }
+      ∷ placed-from k (as-field (first (drop at bytes)) .tag ∷ before) (complete l))
       (ap (λ (k : ℕ). at + k) first-long ∙ sym e)
       behind-it
 
@@ -113,7 +114,8 @@ module _ (fault : Placed → Bool) (bytes : List ℕ) where
     here = record { at = at; before = before; field = as-field (first l) }
 
     -- one more without a fault
-    pub walk-next : (end : ℕ) → whole l ≡ true → end ≡ at + field-size l → fault here ≡ false → Walked end (as-field (first l) .tag ∷ before)
+    pub walk-next : (end : ℕ) → whole l ≡ true → end ≡ at + field-size l → fault here ≡ false →
+        Walked end (as-field (first l) .tag ∷ before)
     walk-next end w e h =
         record {
           within = ends-within bytes at end w e .1;
@@ -121,7 +123,8 @@ module _ (fault : Placed → Bool) (bytes : List ℕ) where
         }
 
     -- the first that has it
-    pub walk-finds : (end : ℕ) → whole l ≡ true → end ≡ at + field-size l → fault here ≡ true → Firsts (offsets fault (placed bytes)) true at
+    pub walk-finds : (end : ℕ) → whole l ≡ true → end ≡ at + field-size l → fault here ≡ true →
+        Firsts (offsets fault (placed bytes)) true at
     walk-finds end w e h =
         record {
           one = λ _. (_, W .rest ∙ (ap (offsets fault) (placed-next bytes at end w e before) ∙ offsets-take fault here _ h));
@@ -162,7 +165,8 @@ module _ (bytes : List ℕ) where
         record {
           tells = after-tells tag before b (K .tells);
           tags = λ t. K .tags t
-              ∙ (ap (λ (c : List (List ℕ)). has t before || has t (tags-of c)) (complete-first (drop at bytes) w .0 ∙ ap (λ (r : List ℕ). first (drop at bytes) ∷ complete r) (behind-it bytes at end w e))
+              ∙ (ap (λ (c : List (List ℕ)). has t before || has t (tags-of c)) (complete-first (drop at bytes) w .0
+              ∙ ap (λ (r : List ℕ). first (drop at bytes) ∷ complete r) (behind-it bytes at end w e))
               ∙ or-moves (has t before) (t == tag) (has t (tags-of (complete (drop end bytes)))));
           left = ap unread (sym (behind-it bytes at end w e)) ∙ (sym (complete-first (drop at bytes) w .1) ∙ K .left);
         }
@@ -171,7 +175,8 @@ module _ (bytes : List ℕ) where
     pub ends-cut : at < length bytes → whole (drop at bytes) ≡ false → true ≡ ends-badly bytes
     unfolding ends-badly
     ends-cut h w =
-        let some : 0 < length (unread bytes) = omega (arith, ap length (sym (K .left) ∙ complete-none (drop at bytes) w .1), length-drop at bytes) in
+        let some : 0 < length (unread bytes) =
+        omega (arith, ap length (sym (K .left) ∙ complete-none (drop at bytes) w .1), length-drop at bytes) in
         rw (lt-ltb 0 (length (unread bytes)) some)
 
     -- none is left
@@ -179,12 +184,14 @@ module _ (bytes : List ℕ) where
     unfolding ends-badly whole any
     ends-there h =
         let none : drop at bytes ≡ [] = drop-of-length-le bytes h in
-        missing-told before (map (λ f. f .tag) (fields-of bytes)) b (K .tells) seen-all ∙ rw (sym (K .left) ∙ (ap unread none ∙ complete-none [] refl .1))
+        missing-told before (map (λ f. f .tag) (fields-of bytes)) b (K .tells) seen-all
+        ∙ rw (sym (K .left) ∙ (ap unread none ∙ complete-none [] refl .1))
       where
         seen-all : (t : ℕ) → has t (map (λ f. f .tag) (fields-of bytes)) ≡ has t before
         seen-all t =
             K .tags t
-            ∙ (ap (λ (c : List (List ℕ)). has t before || has t (tags-of c)) (ap complete (drop-of-length-le bytes h) ∙ complete-none [] refl .0)
+            ∙ (ap (λ (c : List (List ℕ)). has t before || has t (tags-of c)) (ap complete (drop-of-length-le bytes h)
+            ∙ complete-none [] refl .0)
             ∙ or-false (has t before))
 
 -- ---- both together, for tags and lengths
@@ -199,18 +206,23 @@ module _ (number : ℕ) (bytes : List ℕ) where
   form-starts = record { before = []; walked = walk-starts _ bytes; kept = kept-starts bytes }
 
   module _ {at : ℕ} {b : Before} (W : FormWalked at b) where
-    told : form-fault number (record { at = at; before = W .before; field = as-field (first (drop at bytes)) }) ≡ form-behind number b (as-field (first (drop at bytes)))
+    told : form-fault number (record { at = at; before = W .before; field = as-field (first (drop at bytes)) }) ≡ form-behind number b
+        (as-field (first (drop at bytes)))
     told = fault-told at (W .before) (as-field (first (drop at bytes))) b (W .kept .tells) number
 
-    pub form-next : (end : ℕ) → whole (drop at bytes) ≡ true → end ≡ at + field-size (drop at bytes) → form-behind number b (as-field (first (drop at bytes))) ≡ false
+    pub form-next : (end : ℕ) → whole (drop at bytes) ≡ true → end ≡ at + field-size (drop at bytes) →
+        form-behind number b (as-field (first (drop at bytes))) ≡ false
         → FormWalked end (after b (as-field (first (drop at bytes)) .tag))
-    form-next end w e h = record { before = _; walked = walk-next _ bytes (W .walked) end w e (told ∙ h); kept = kept-next bytes (W .kept) end w e }
+    form-next end w e h =
+        record { before = _; walked = walk-next _ bytes (W .walked) end w e (told ∙ h); kept = kept-next bytes (W .kept) end w e }
 
-    pub form-finds : (end : ℕ) → whole (drop at bytes) ≡ true → end ≡ at + field-size (drop at bytes) → form-behind number b (as-field (first (drop at bytes))) ≡ true
+    pub form-finds : (end : ℕ) → whole (drop at bytes) ≡ true → end ≡ at + field-size (drop at bytes) →
+        form-behind number b (as-field (first (drop at bytes))) ≡ true
         → FormPasses number bytes (record { found = true; at = at; badly = false })
     form-finds end w e h = record { first = walk-finds _ bytes (W .walked) end w e (told ∙ h); ends = λ k. absurd (false≢true (sym k)) }
 
-    pub form-cut : at < length bytes → whole (drop at bytes) ≡ false → FormPasses number bytes (record { found = false; at = at; badly = true })
+    pub form-cut : at < length bytes → whole (drop at bytes) ≡ false →
+        FormPasses number bytes (record { found = false; at = at; badly = true })
     form-cut h w = record { first = walk-cut _ bytes (W .walked) w; ends = λ _. ends-cut bytes (W .kept) h w }
 
     pub form-ends : length bytes ≤ at → FormPasses number bytes (record { found = false; at = at; badly = missing b })
@@ -232,7 +244,8 @@ module _ (number : ℕ) (lives : ℕ → Bool) (bytes : List ℕ) where
     value-next end w e h = record { before = _; walked = walk-next _ bytes (W .walked) end w e h }
 
     pub value-finds : (end : ℕ) → whole (drop at bytes) ≡ true → end ≡ at + field-size (drop at bytes)
-        → value-fault number lives (as-field (first (drop at bytes))) ≡ true → ValuePasses number lives bytes (record { found = true; at = at })
+        → value-fault number lives (as-field (first (drop at bytes))) ≡ true →
+        ValuePasses number lives bytes (record { found = true; at = at })
     value-finds end w e h = record { first = walk-finds _ bytes (W .walked) end w e h }
 
     pub value-cut : whole (drop at bytes) ≡ false → ValuePasses number lives bytes (record { found = false; at = at })

@@ -1,5 +1,5 @@
-// Where bytes that are no dump are bad (document 02, CR 4): a pass over the fields for each number, and the first fault of the first number that
-// has one. The bytes alone are looked at, never a memory.
+// Where bytes that are no dump are bad (document 02, CR 4): a pass over the fields for each number, and the first fault of the first
+// number that has one. The bytes alone are looked at, never a memory.
 pub mod find;
 mod lengths;
 mod names;

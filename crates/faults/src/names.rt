@@ -22,7 +22,9 @@ ghost use Rattle.rules.specs.Tables.{manager as manager-of};
 ghost use Rattle.rules.specs.Tags.{before-value, head-size, thread-size, message-size};
 ghost use Rattle.rules.specs.TableRules.{manager-set as manager-set-of};
 ghost use Rattle.rules.specs.Load.{as-field};
-ghost use Rattle.rules.specs.Faults.{placed, offsets, wrong-length, wanted-lives as wanted-lives-of, entries-live as entries-live-of, entry-lives as entry-lives-of, head-lives as head-lives-of, thread-lives as thread-lives-of, message-lives as message-lives-of, value-lives as value-lives-of, names-nobody as names-nobody-of};
+ghost use Rattle.rules.specs.Faults.{placed, offsets, wrong-length, wanted-lives as wanted-lives-of, entries-live as entries-live-of};
+ghost use Rattle.rules.specs.Faults.{entry-lives as entry-lives-of, head-lives as head-lives-of, thread-lives as thread-lives-of};
+ghost use Rattle.rules.specs.Faults.{message-lives as message-lives-of, value-lives as value-lives-of, names-nobody as names-nobody-of};
 ghost use Rattle.faults.specs.Names.{lives-in, Named};
 
 // Names of 256 bytes.

@@ -3,7 +3,8 @@ use crate::Before;
 use rules::tags;
 ghost use mathlib.Core.Path.{_≡_};
 ghost use Rattle.rules.specs.Tags.{dump-facts};
-ghost use Rattle.faults.specs.Order.{nothing-before as nothing-of, seen as seen-of, misplaced-behind, after as after-of, missing as missing-of};
+ghost use Rattle.faults.specs.Order.{nothing-before as nothing-of, seen as seen-of, misplaced-behind, after as after-of};
+ghost use Rattle.faults.specs.Order.{missing as missing-of};
 
 pub fn nothing_before() -> Before
     ensures { λ b. ⌜ b ≡ nothing-of ⌝ }

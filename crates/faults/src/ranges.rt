@@ -1,5 +1,5 @@
-// "Value outside its range (slice, detail and answer as runner, state and kind allow)" (17). A number is in its range if it is what is written for
-// what it stands for (rules/src/codes.rt), and that is in its range.
+// "Value outside its range (slice, detail and answer as runner, state and kind allow)" (17). A number is in its range if it is what is
+// written for what it stands for (rules/src/codes.rt), and that is in its range.
 use crate::lengths;
 use crate::values;
 use rules::Answer;
@@ -22,7 +22,10 @@ ghost use Rattle.rules.specs.Codes.{answer-numbers};
 ghost use Rattle.rules.specs.Tags.{before-value, head-size, thread-size, message-size};
 ghost use Rattle.rules.specs.TableRules.{state-in-range, answer-in-range};
 ghost use Rattle.rules.specs.Load.{as-field};
-ghost use Rattle.rules.specs.Faults.{wrong-length, is-name as is-name-of, status-fits as status-fits-of, runner-fits as runner-fits-of, state-fits as state-fits-of, answer-fits as answer-fits-of, kind-fits as kind-fits-of, head-fits as head-fits-of, thread-fits as thread-fits-of, message-fits as message-fits-of, value-fits as value-fits-of, out-of-range as out-of-range-of};
+ghost use Rattle.rules.specs.Faults.{wrong-length, is-name as is-name-of, status-fits as status-fits-of, runner-fits as runner-fits-of};
+ghost use Rattle.rules.specs.Faults.{state-fits as state-fits-of, answer-fits as answer-fits-of, kind-fits as kind-fits-of};
+ghost use Rattle.rules.specs.Faults.{head-fits as head-fits-of, thread-fits as thread-fits-of, message-fits as message-fits-of};
+ghost use Rattle.rules.specs.Faults.{value-fits as value-fits-of, out-of-range as out-of-range-of};
 
 // Statuses are 0 to 3.
 const STATUSES: u8 = 4;

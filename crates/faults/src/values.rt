@@ -1,5 +1,5 @@
-// The values of fields, read from their bytes. What a number stands for is not tested here: ranges.rt does that of a dump that is refused, and of
-// one that is accepted the comparison with the writer.
+// The values of fields, read from their bytes. What a number stands for is not tested here: ranges.rt does that of a dump that is
+// refused, and of one that is accepted the comparison with the writer.
 use rules::Held;
 use rules::Managers;
 use rules::Message;

@@ -1,5 +1,5 @@
--- A reader taken apart. The struct is Copy, so what it owns is had twice: one copy is kept whole for the exit, and of the other what the slice owns
--- goes to a function on slice and number, beside the lifetime's token. What a number owns is facts, and is made anew.
+-- A reader taken apart. The struct is Copy, so what it owns is had twice: one copy is kept whole for the exit, and of the other what the
+-- slice owns goes to a function on slice and number, beside the lifetime's token. What a number owns is facts, and is made anew.
 use mathlib.Core.Path.{_≡_, refl}
 use Prim.Native.Nat.{_<_, _^_}
 use mathlib.Core.List.{List, [], _∷_}
@@ -58,12 +58,17 @@ passed d = (slice d ∷ [], (vint w64 (d .place) ∷ [], tt))
 module _ {M : Type 1} (𝓤 : URA M) (H : Heap 𝓤) (A : Atoms 𝓤) (W : Given 𝓤 H A) (κ : Lft) (q : Share) (d : Reader) where
   pub parted : d .place < 2 ^ 64
       → ent 𝓤 (⋆ 𝓤 H A ((‵ (flft κ q) ⊛ ‵ ftrue) ∷ ‵ (owns (B (κ, tt) ∷ []) (d, tt) (mach d ∷ [], tt)) ∷ []))
-      (sep 𝓤 (⋆ 𝓤 H A ((‵ (flft κ q) ⊛ ‵ ftrue) ∷ ‵ (owns (ShrSlice (named 0) κ u8 ∷ usize ∷ []) (d .input, (d .place, tt)) (passed d)) ∷ [])) (sem 𝓤 H A (Own κ d)))
+      (sep 𝓤 (⋆ 𝓤 H A ((‵ (flft κ q) ⊛ ‵ ftrue) ∷ ‵ (owns (ShrSlice (named 0) κ u8 ∷ usize ∷ []) (d .input, (d .place, tt)) (passed d))
+      ∷ [])) (sem 𝓤 H A (Own κ d)))
   parted fits =
       qed W ((‵ (flft κ q) ⊛ ‵ ftrue) ∷ ‵ (owns (B (κ, tt) ∷ []) (d, tt) (mach d ∷ [], tt)) ∷ []) ∵
-      move ! (1 ∷ []) $ fsplit ! $ move ! (1 ∷ []) $ drop ! $ use1 W (‵ (Own κ d) ⊛ ‵ (Own κ d)) (LL.copy (D κ) (T′.the-copy (namedLft 1 0 tt (κ, tt))) 𝓤 H A W .twice d (mach d ∷ [])) $ split ! $
-      use1 W (given (mach d ∷ [] ≡ mach d ∷ []) (‵ (all-own (D κ .parts) (L κ) (values κ d)))) (own-open 𝓤 H A W (D κ) (L κ) (values κ d) (mach d)) $ learn ! (λ _.
-      use1 W (‵ (ownAt (D κ .parts) (L κ) 0 (d .input)) ⊛ ‵ (rest (D κ .parts) (L κ) 0 (values κ d))) (own-out 𝓤 H A W (D κ .parts) (L κ) 0 (values κ d)) $ split ! $
+      move ! (1 ∷ []) $ fsplit ! $ move ! (1 ∷ []) $ drop ! $ use1 W (‵ (Own κ d) ⊛ ‵ (Own κ d))
+      (LL.copy (D κ) (T′.the-copy (namedLft 1 0 tt (κ, tt))) 𝓤 H A W .twice d (mach d ∷ [])) $ split ! $
+      use1 W (given (mach d ∷ [] ≡ mach d ∷ []) (‵ (all-own (D κ .parts) (L κ) (values κ d))))
+      (own-open 𝓤 H A W (D κ) (L κ) (values κ d) (mach d)) $ learn ! (λ _.
+      use1 W (‵ (ownAt (D κ .parts) (L κ) 0 (d .input)) ⊛ ‵ (rest (D κ .parts) (L κ) 0 (values κ d)))
+      (own-out 𝓤 H A W (D κ .parts) (L κ) 0 (values κ d)) $ split ! $
       -- [what the slice owns; what the place owns; what the reader owns; the token]
-      move ! (1 ∷ []) $ drop ! $ nothing ! $ owned ! usize (Is usize) (uint-makes 𝓤 H A W w64) (d .place) _ (refl, fits) $ fjoin ! $ move ! (1 ∷ 0 ∷ []) $ fjoin ! $
+      move ! (1 ∷ []) $ drop ! $ nothing ! $ owned ! usize (Is usize) (uint-makes 𝓤 H A W w64) (d .place) _ (refl, fits) $ fjoin ! $ move
+      ! (1 ∷ 0 ∷ []) $ fjoin ! $
       move ! (2 ∷ 0 ∷ []) $ join ! $ frame ! $ done !)

@@ -1,4 +1,5 @@
--- The first field of some bytes: how long it is at least and at most, and what it is by what the code tests. Then the field at a place in the bytes.
+-- The first field of some bytes: how long it is at least and at most, and what it is by what the code tests. Then the field at a place in
+-- the bytes.
 use Prim.Native.Nat.{ℕ, _+_, _*_, _-_, _≤_, _<_}
 use mathlib.Core.Path.{_≡_, refl, sym, _∙_, ap, ap₂}
 use mathlib.Core.Bool.{Bool, true, false}

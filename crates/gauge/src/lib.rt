@@ -1,5 +1,5 @@
-// Functions for the programs of bench/, which time the engine in one memory. They only measure: a contract here says no more than its function needs
-// to be proved safe and to end. What a step does is promised where the step stands.
+// Functions for the programs of bench/, which time the engine in one memory. They only measure: a contract here says no more than its
+// function needs to be proved safe and to end. What a step does is promised where the step stands.
 use batching::batch;
 use checking::check;
 use dumping::writing;

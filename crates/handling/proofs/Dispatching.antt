@@ -23,12 +23,16 @@ unfolding run-next
 nobody-ready [] o e = refl
 nobody-ready (n ∷ q) o e = absurd (omega (arith, e))
 
-pub front-runs : (T : Tables) (given a : Answer) (n : ℕ) → length (T .ready) ≢ 0 → n ≡ getD (T .ready) 0 0 → a ≡ of-thread Nothing (λ t. t .answer) n (T .threads) →
-    (with-runner (Runs n full-slice) (with-ready (drop 1 (T .ready)) (change n (in-state Running Nothing) T)) handing a) ≡ run-next (T .ready) (T handing given)
+pub front-runs : (T : Tables) (given a : Answer) (n : ℕ) → length (T .ready) ≢ 0 → n ≡ getD (T .ready) 0 0 →
+    a ≡ of-thread Nothing (λ t. t .answer) n (T .threads) →
+    (with-runner (Runs n full-slice) (with-ready (drop 1 (T .ready)) (change n (in-state Running Nothing) T)) handing a) ≡ run-next
+    (T .ready) (T handing given)
 unfolding run-next
 front-runs T given a n d e x = go (T .ready) d e
   where
-    go : (q : List ℕ) → length q ≢ 0 → n ≡ getD q 0 0 → (with-runner (Runs n full-slice) (with-ready (drop 1 q) (change n (in-state Running Nothing) T)) handing a) ≡ run-next q (T handing given)
+    go : (q : List ℕ) → length q ≢ 0 → n ≡ getD q 0 0 →
+        (with-runner (Runs n full-slice) (with-ready (drop 1 q) (change n (in-state Running Nothing) T)) handing a) ≡ run-next q
+        (T handing given)
     go [] l k = absurd (l refl)
     go (y ∷ q) l k = rw (x, k)
 
@@ -39,7 +43,8 @@ module _ {m m₁ : List ℕ} (n : ℕ) (f : Thread → Thread) (turned : Leaves 
   turned-front d = (turned .holding, carried (λ (L : Limits) (T : Tables). 0 < length (T .ready)) turned (omega (arith, d)))
 
   -- and goes, and another runs
-  pub front-gone : {m₂ m₃ : List ℕ} (s : ℕ) → Leaves m₁ m₂ (with-ready (drop 1 (tables m₁ .ready)) (tables m₁)) → Leaves m₂ m₃ (with-runner (Runs n s) (tables m₂)) →
+  pub front-gone : {m₂ m₃ : List ℕ} (s : ℕ) → Leaves m₁ m₂ (with-ready (drop 1 (tables m₁ .ready)) (tables m₁)) →
+      Leaves m₂ m₃ (with-runner (Runs n s) (tables m₂)) →
       Leaves m m₃ (with-runner (Runs n s) (with-ready (drop 1 (tables m .ready)) (change n f (tables m))))
   unfolding change
   front-gone s gone runs = and-then (with-runner (Runs n s)) (and-then (λ (T : Tables). with-ready (drop 1 (T .ready)) T) turned gone) runs
@@ -64,10 +69,12 @@ module _ (T : Tables) where
         go [] l = refl
         go (t ∷ ts) l = absurd (omega (arith, l))
 
-    pub rests : length (T .threads) ≢ 0 → (b : Bool) → any (λ t. wakes-from-outside (t .state)) (T .threads) ≡ b → (if b then Idle else Panicked) ≡ status T
+    pub rests : length (T .threads) ≢ 0 → (b : Bool) → any (λ t. wakes-from-outside (t .state)) (T .threads) ≡ b →
+        (if b then Idle else Panicked) ≡ status T
     unfolding status status-without
     rests d b w = rw e (go (T .threads) d w)
       where
-        go : (ts : List Thread) → length ts ≢ 0 → any (λ t. wakes-from-outside (t .state)) ts ≡ b → (if b then Idle else Panicked) ≡ status-without ts
+        go : (ts : List Thread) → length ts ≢ 0 → any (λ t. wakes-from-outside (t .state)) ts ≡ b →
+            (if b then Idle else Panicked) ≡ status-without ts
         go [] l v = absurd (l refl)
         go (t ∷ ts) l v = rw v

@@ -14,7 +14,8 @@ ghost use Rattle.handling.specs.Standing.{Holds};
 // The front of the ready queue runs with a full slice, and its waiting answer is handed over.
 fn run_next(m: &mut [u32], given: Answer) -> Answer
     requires { ⌜ Holds (now m) ⌝ }
-    ensures { λ a. ⌜ Hands (now (m .entry)) (now (m .exit)) a (run-next-of (tables (now (m .entry)) .ready) (tables (now (m .entry)) handing given)) ⌝ }
+    ensures { λ a. ⌜ Hands (now (m .entry)) (now (m .exit)) a
+        (run-next-of (tables (now (m .entry)) .ready) (tables (now (m .entry)) handing given)) ⌝ }
 {
     if store::ready_count(m) == 0 {
         return given;

@@ -42,7 +42,8 @@ pub fn is_awaited(m: &[u32], x: Message) -> bool
 
 // A message or notice: to a receiver that waits for it as its answer, else into the inbox.
 pub fn deliver(m: &mut [u32], x: Message)
-    requires { ⌜ Holds (now m) × (any (accepts x) (tables (now m) .threads) ≡ false → length (tables (now m) .messages) < limits (now m) .threads + limits (now m) .blocks) ⌝ }
+    requires { ⌜ Holds (now m) × (any (accepts x) (tables (now m) .threads) ≡ false →
+        length (tables (now m) .messages) < limits (now m) .threads + limits (now m) .blocks) ⌝ }
     ensures { λ _. ⌜ Leaves (now (m .entry)) (now (m .exit)) (deliver-of x (tables (now (m .entry)))) ⌝ }
 {
     if is_awaited(m, x) {

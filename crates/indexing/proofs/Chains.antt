@@ -30,7 +30,8 @@ module _ {A : Type 0} (r : A → A → Bool) where
     pub link-starts : n ≤ length xs → Linked 1
     link-starts h = record { whole = h; behind = omega arith; so = refl }
 
-    link-cons : (i : ℕ) (d : A) → Linked i → i < n → chain r (take n xs) ≡ (r (getD xs (i - 1) d) (getD xs i d) && chain r (drop i (take n xs)))
+    link-cons : (i : ℕ) (d : A) → Linked i → i < n →
+        chain r (take n xs) ≡ (r (getD xs (i - 1) d) (getD xs i d) && chain r (drop i (take n xs)))
     link-cons i d L h =
         let e : i - 1 + 1 ≡ i = omega (arith, L .behind) in
         let k : i - 1 < n = omega arith in

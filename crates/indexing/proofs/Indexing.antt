@@ -33,10 +33,12 @@ module _ (n : ℕ) (ts : List Thread) where
         whole = h;
         within = omega arith;
         size = length-replicate 256 n;
-        so = λ m k. getD-replicate 256 m n 0 k ∙ (omega arith ∙ ap (λ (l : List Thread). n + place (named m) l) (sym (cut-end ts n n h (omega arith))));
+        so = λ m k. getD-replicate 256 m n 0 k
+            ∙ (omega arith ∙ ap (λ (l : List Thread). n + place (named m) l) (sym (cut-end ts n n h (omega arith))));
       }
 
-  pub fill-next : (at : List ℕ) (i : ℕ) (d : Thread) → Filled at i → 0 < i → getD ts (i - 1) d .name < 256 → Filled (set at (getD ts (i - 1) d .name) (i - 1)) (i - 1)
+  pub fill-next : (at : List ℕ) (i : ℕ) (d : Thread) → Filled at i → 0 < i → getD ts (i - 1) d .name < 256 →
+      Filled (set at (getD ts (i - 1) d .name) (i - 1)) (i - 1)
   unfolding place
   fill-next at i d F h b =
       let x : ℕ = getD ts (i - 1) d .name in
@@ -47,10 +49,13 @@ module _ (n : ℕ) (ts : List Thread) where
         within = omega (arith, F .within);
         size = length-set at x (i - 1) ∙ F .size;
         so = λ m w. go at i d F h b m w (eqb m x) refl
-            ∙ ap (λ (l : List Thread). i - 1 + place (named m) l) (sym (cut-cons ts n (i - 1) d (F .whole) k ∙ ap (λ (j : ℕ). getD ts (i - 1) d ∷ drop j (take n ts)) e));
+            ∙ ap (λ (l : List Thread). i - 1 + place (named m) l)
+            (sym (cut-cons ts n (i - 1) d (F .whole) k ∙ ap (λ (j : ℕ). getD ts (i - 1) d ∷ drop j (take n ts)) e));
       }
     where
-      go : (at : List ℕ) (i : ℕ) (d : Thread) → Filled at i → 0 < i → getD ts (i - 1) d .name < 256 → (m : ℕ) → m < 256 → (t : Bool) → eqb m (getD ts (i - 1) d .name) ≡ t → getD (set at (getD ts (i - 1) d .name) (i - 1)) m 0 ≡ i - 1 + place (named m) (getD ts (i - 1) d ∷ drop i (take n ts))
+      go : (at : List ℕ) (i : ℕ) (d : Thread) → Filled at i → 0 < i → getD ts (i - 1) d .name < 256 → (m : ℕ) → m < 256 → (t : Bool) →
+          eqb m (getD ts (i - 1) d .name) ≡ t →
+          getD (set at (getD ts (i - 1) d .name) (i - 1)) m 0 ≡ i - 1 + place (named m) (getD ts (i - 1) d ∷ drop i (take n ts))
       go at i d F h b m w true t =
           let x : ℕ = getD ts (i - 1) d .name in
           ap (λ (j : ℕ). getD (set at x (i - 1)) j 0) (eqb-true m x t)

@@ -15,7 +15,8 @@ module _ {A : Type 0} (p : A → Bool) (n : ℕ) (r : List A) (i : ℕ) (whole :
   -- where one at most passes p, whether any passes p and q is what the one found says
   pub found-and : (q : A → Bool) (d : A) → count p (take n r) ≤ 1 → i < n → any (λ x. p x && q x) (take n r) ≡ q (getD r i d)
   found-and q d c h =
-      any-one p q (take n r) i d c (omega (arith, length-take-le n r whole)) (ap p (getD-take n r i d h) ∙ found-passes p n r i whole found d h)
+      any-one p q (take n r) i d c (omega (arith, length-take-le n r whole)) (ap p (getD-take n r i d h)
+      ∙ found-passes p n r i whole found d h)
       ∙ ap q (getD-take n r i d h)
 
   pub no-and : (q : A → Bool) → n ≤ i → any (λ x. p x && q x) (take n r) ≡ false

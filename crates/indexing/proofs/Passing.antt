@@ -101,7 +101,8 @@ module _ (m : List ℕ) (F : Shaped m) where
   pub thread-reach : (n i j : ℕ) → n ≡ rows-of m .count → j ≤ i → i < n → Roomy (rows-of m) × (j < rows-of m .limits .threads)
   thread-reach n i j e l h = (roomy, omega (arith, counted))
 
-  pub message-reach : (n i j : ℕ) → n ≡ rows-of m .letters → j ≤ i → i < n → Roomy (rows-of m) × (j < rows-of m .limits .threads + rows-of m .limits .blocks)
+  pub message-reach : (n i j : ℕ) → n ≡ rows-of m .letters → j ≤ i → i < n →
+      Roomy (rows-of m) × (j < rows-of m .limits .threads + rows-of m .limits .blocks)
   unfolding Shaped
   message-reach n i j e l h = (roomy, omega (arith, F .messages))
 
@@ -111,10 +112,12 @@ module _ (m : List ℕ) (F : Shaped m) where
 
   pub names-within : leb (length (tables m .threads)) (limits m .threads) ≡ true
   unfolding tables limits
-  names-within = le-leb (length (view (rows-of m) .threads)) (rows-of m .limits .threads) (omega (arith, read-length (rows-of m .count) refl, counted))
+  names-within =
+      le-leb (length (view (rows-of m) .threads)) (rows-of m .limits .threads) (omega (arith, read-length (rows-of m .count) refl, counted))
 
 -- the index, filled with names as they were read
-pub fill-read : (n : ℕ) (ts : List Thread) (at : List ℕ) (i x : ℕ) (d : Thread) → Filled n ts at i → 0 < i → x ≡ getD ts (i - 1) d .name → x < 256 → Filled n ts (set at x (i - 1)) (i - 1)
+pub fill-read : (n : ℕ) (ts : List Thread) (at : List ℕ) (i x : ℕ) (d : Thread) → Filled n ts at i → 0 < i → x ≡ getD ts (i - 1) d .name →
+    x < 256 → Filled n ts (set at x (i - 1)) (i - 1)
 fill-read n ts at i x d F h e b = rw e (fill-next n ts at i d F h (omega arith))
 
 -- either queue has room for every thread
@@ -123,5 +126,6 @@ queue-long m true = ready-long m
 queue-long m false = clock-long m
 
 -- counts, with names as they were read
-pub tally-read : (n : ℕ) (r c : List ℕ) (i x : ℕ) → Tallied n r c i → i < n → x ≡ getD r i 0 → x < 256 → Tallied n r (set c x (getD c x 0 + 1)) (i + 1)
+pub tally-read : (n : ℕ) (r c : List ℕ) (i x : ℕ) → Tallied n r c i → i < n → x ≡ getD r i 0 → x < 256 →
+    Tallied n r (set c x (getD c x 0 + 1)) (i + 1)
 tally-read n r c i x T h e b = rw e (tally-next n r c i T h (omega arith))

@@ -25,20 +25,24 @@ module _ (n : ℕ) (r : List ℕ) where
         so = λ m k. subst (λ (j : ℕ). Counted (λ (x : ℕ). m == x) n r j 0) (sym (getD-replicate 256 m 0 0 k)) (count-starts _ n r h);
       }
 
-  one-more : (c : List ℕ) (i m : ℕ) → Tallied c i → i < n → getD r i 0 < 256 → m < 256 → (b : Bool) → eqb m (getD r i 0) ≡ b → Counted (λ (x : ℕ). m == x) n r (getD (set c (getD r i 0) (getD c (getD r i 0) 0 + 1)) m 0) (i + 1)
+  one-more : (c : List ℕ) (i m : ℕ) → Tallied c i → i < n → getD r i 0 < 256 → m < 256 → (b : Bool) → eqb m (getD r i 0) ≡ b →
+      Counted (λ (x : ℕ). m == x) n r (getD (set c (getD r i 0) (getD c (getD r i 0) 0 + 1)) m 0) (i + 1)
   one-more c i m T h l k true t =
       let x : ℕ = getD r i 0 in
       let e : m ≡ x = eqb-true m x t in
       subst (λ (j : ℕ). Counted (λ (y : ℕ). m == y) n r j (i + 1))
-      (ap (λ (j : ℕ). getD c j 0 + 1) e ∙ (sym (getD-set-same c x (getD c x 0 + 1) 0 (omega (arith, T .size))) ∙ ap (λ (j : ℕ). getD (set c x (getD c x 0 + 1)) j 0) (sym e)))
+      (ap (λ (j : ℕ). getD c j 0 + 1) e
+      ∙ (sym (getD-set-same c x (getD c x 0 + 1) 0 (omega (arith, T .size))) ∙ ap (λ (j : ℕ). getD (set c x (getD c x 0 + 1)) j 0) (sym e)))
       (count-more _ n r (getD c m 0) i 0 (T .so m k) h t)
   one-more c i m T h l k false t =
       let x : ℕ = getD r i 0 in
       subst (λ (j : ℕ). Counted (λ (y : ℕ). m == y) n r j (i + 1)) (sym (getD-set-other c x m (getD c x 0 + 1) 0 (eqb-false m x t)))
       (count-skips _ n r (getD c m 0) i 0 (T .so m k) h t)
 
-  pub tally-next : (c : List ℕ) (i : ℕ) → Tallied c i → i < n → getD r i 0 < 256 → Tallied (set c (getD r i 0) (getD c (getD r i 0) 0 + 1)) (i + 1)
-  tally-next c i T h l = record { within = omega arith; size = length-set c _ _ ∙ T .size; so = λ m k. one-more c i m T h l k (eqb m (getD r i 0)) refl }
+  pub tally-next : (c : List ℕ) (i : ℕ) → Tallied c i → i < n → getD r i 0 < 256 →
+      Tallied (set c (getD r i 0) (getD c (getD r i 0) 0 + 1)) (i + 1)
+  tally-next c i T h l =
+      record { within = omega arith; size = length-set c _ _ ∙ T .size; so = λ m k. one-more c i m T h l k (eqb m (getD r i 0)) refl }
 
   -- no count is above the number of entries passed
   pub tally-low : (c : List ℕ) (i m : ℕ) → Tallied c i → m < 256 → getD c m 0 ≤ i

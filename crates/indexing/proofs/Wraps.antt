@@ -57,7 +57,8 @@ unfolding all held-in
 held-word d f w l =
     by-if (λ (hs : List Held). all (λ h. ltb (h .word) wrap) hs ≡ true) (f == 0)
     (λ e. refl)
-    (λ e. by-if (λ (hs : List Held). all (λ h. ltb (h .word) wrap) hs ≡ true) (f == 1) (λ k. rw (lt-ltb w wrap l)) (λ k. rw (lt-ltb w wrap l)))
+    (λ e. by-if (λ (hs : List Held). all (λ h. ltb (h .word) wrap) hs ≡ true) (f == 1) (λ k. rw (lt-ltb w wrap l))
+    (λ k. rw (lt-ltb w wrap l)))
 
 module _ (m : List ℕ) (low : (k : ℕ) → word m k < 4294967296) where
   ticks-low : (k : ℕ) → ltb (thread-of m k .ticks) wrap ≡ true
@@ -66,7 +67,8 @@ module _ (m : List ℕ) (low : (k : ℕ) → word m k < 4294967296) where
 
   word-low : (k : ℕ) → ltb (message-of m k .word) wrap ≡ true
   unfolding message-in
-  word-low k = lt-ltb (message-of m k .word) wrap (rw (part-word m (message-place (word m 0) k) 3 2 (omega arith)) (low (message-place (word m 0) k + 2)))
+  word-low k = lt-ltb (message-of m k .word) wrap
+      (rw (part-word m (message-place (word m 0) k) 3 2 (omega arith)) (low (message-place (word m 0) k + 2)))
 
   held-low : (k : ℕ) → all (λ h. ltb (h .word) wrap) (held-of m k) ≡ true
   held-low k = held-word k (word m (held-place k)) (word m (held-place k + 1)) (low (held-place k + 1))
@@ -75,10 +77,15 @@ module _ (m : List ℕ) (low : (k : ℕ) → word m k < 4294967296) where
   five a b c d e p q r s f = rw (p, q, r, s, and-true d)
 
   -- where the name given last and the ticks since the beat are in their range, the ranges are those of threads and held words
-  pub ranges-left : rows-of m .last < names → rows-of m .since < beat-ticks → (all (λ t. state-in-range (t .state)) (view (rows-of m) .threads) && all (λ h. ltb (h .device) devices) (rows-of m .held)) ≡ ranges (view (rows-of m))
+  pub ranges-left : rows-of m .last < names → rows-of m .since < beat-ticks →
+      (all (λ t. state-in-range (t .state)) (view (rows-of m) .threads) && all (λ h. ltb (h .device) devices) (rows-of m .held)) ≡ ranges
+      (view (rows-of m))
   unfolding rows-of
   ranges-left h k =
       ap₂ _&&_
-      (all-beside (λ (t : Thread). ltb (t .ticks) wrap) (λ (t : Thread). state-in-range (t .state)) (view (rows-of m) .threads) (all-take _ (rows-of m .count) (rows-of m .threads) (all-row _ (thread-of m) 0 _ ticks-low)))
-      (all-behind (λ (h : Held). ltb (h .word) wrap) (λ (h : Held). ltb (h .device) devices) (rows-of m .held) (all-each _ (held-of m) (from-on 0 devices) held-low))
-      ∙ five _ _ _ _ _ (lt-ltb _ _ h) (lt-ltb _ _ k) (lt-ltb (rows-of m .beats) wrap (low 6)) (all-take (λ (x : Message). ltb (x .word) wrap) (rows-of m .letters) (rows-of m .messages) (all-row _ (message-of m) 0 _ word-low)) _
+      (all-beside (λ (t : Thread). ltb (t .ticks) wrap) (λ (t : Thread). state-in-range (t .state)) (view (rows-of m) .threads)
+      (all-take _ (rows-of m .count) (rows-of m .threads) (all-row _ (thread-of m) 0 _ ticks-low)))
+      (all-behind (λ (h : Held). ltb (h .word) wrap) (λ (h : Held). ltb (h .device) devices) (rows-of m .held)
+      (all-each _ (held-of m) (from-on 0 devices) held-low))
+      ∙ five _ _ _ _ _ (lt-ltb _ _ h) (lt-ltb _ _ k) (lt-ltb (rows-of m .beats) wrap (low 6))
+      (all-take (λ (x : Message). ltb (x .word) wrap) (rows-of m .letters) (rows-of m .messages) (all-row _ (message-of m) 0 _ word-low)) _

@@ -1,4 +1,5 @@
-// Reads a dump on standard input. First line: refusal and offset. Then, if it is one, a line for each field: the tag, and its values in decimal.
+// Reads a dump on standard input. First line: refusal and offset. Then, if it is one, a line for each field: the tag, and its values in
+// decimal.
 use lines::decimal;
 use lines::tables;
 use loading::load;

@@ -1,5 +1,5 @@
--- A batch of events in one call: how the bytes are cut into complete fields and the unread end, when a batch is refused, that it equals single calls in
--- order, and that two batches in a row equal one.
+-- A batch of events in one call: how the bytes are cut into complete fields and the unread end, when a batch is refused, that it equals
+-- single calls in order, and that two batches in a row equal one.
 use Prim.Native.Nat.{ℕ, zero, suc, _+_, _*_, _-_, _≤_, _<_}
 use mathlib.Core.Path.{_≡_, refl, sym, ap, ap₂, _∙_, subst}
 use mathlib.Core.Bool.{Bool, true, false, false≢true}
@@ -46,7 +46,8 @@ unfolding whole
 whole-more [] more w = absurd (false≢true w)
 whole-more (a ∷ []) more w = absurd (false≢true w)
 whole-more (a ∷ b ∷ []) more w = absurd (false≢true w)
-whole-more (a ∷ b ∷ c ∷ l) more w = le-leb (b * 256 + c) (length (l ++ more)) (omega (arith, leb-true (b * 256 + c) (length l) w, length-append l more))
+whole-more (a ∷ b ∷ c ∷ l) more w =
+    le-leb (b * 256 + c) (length (l ++ more)) (omega (arith, leb-true (b * 256 + c) (length l) w, length-append l more))
 
 -- the first field, cut off the bytes
 pub first-is-one : (l : List ℕ) → whole l ≡ true → one-field (take (field-size l) l) ≡ true
@@ -74,7 +75,8 @@ no-head [] h = refl
 no-head (a ∷ l) h = absurd (omega arith)
 
 -- To show something of all bytes: of those that open with no complete field, and of those that do, if it holds of what is behind it.
-pub by-fields : (P : List ℕ → Type 0) → ((l : List ℕ) → whole l ≡ false → P l) → ((l : List ℕ) → whole l ≡ true → P (past l) → P l) → (l : List ℕ) → P l
+pub by-fields : (P : List ℕ → Type 0) → ((l : List ℕ) → whole l ≡ false → P l) → ((l : List ℕ) → whole l ≡ true → P (past l) → P l) →
+    (l : List ℕ) → P l
 by-fields P none one l = go (length l) l (omega arith)
   where
     on : (l : List ℕ) (b : Bool) → whole l ≡ b → (whole l ≡ true → P (past l)) → P l
@@ -92,7 +94,8 @@ enough zero (suc k) l h g = rw (no-head l (omega arith)) (refl, refl)
 enough (suc j) zero l h g = rw (no-head l (omega arith)) (refl, refl)
 enough (suc j) (suc k) l h g = on (whole l) refl (λ w. enough j k (past l) (shorter l j w h) (shorter l k w g))
   where
-    on : (b : Bool) → whole l ≡ b → (whole l ≡ true → (complete-in j (past l) ≡ complete-in k (past l)) × (unread-in j (past l) ≡ unread-in k (past l)))
+    on : (b : Bool) → whole l ≡ b →
+        (whole l ≡ true → (complete-in j (past l) ≡ complete-in k (past l)) × (unread-in j (past l) ≡ unread-in k (past l)))
         → (complete-in (suc j) l ≡ complete-in (suc k) l) × (unread-in (suc j) l ≡ unread-in (suc k) l)
     on false w next = rw w (refl, refl)
     on true w next = rw w (ap (λ (t : Input). take (field-size l) l ∷ t) (next w .0), next w .1)
@@ -126,7 +129,8 @@ nothing-is-lost = by-fields (λ l. joined (complete l) ++ unread l ≡ l) none o
         let e = complete-first l w in
         let f = take (field-size l) l in
         ap₂ (λ (fs : Input) (r : List ℕ). joined fs ++ r) (e .0) (e .1)
-        ∙ (append-assoc f (joined (complete (past l))) (unread (past l)) ∙ (ap (λ (t : List ℕ). f ++ t) h ∙ take-append-drop (field-size l) l))
+        ∙ (append-assoc f (joined (complete (past l))) (unread (past l))
+        ∙ (ap (λ (t : List ℕ). f ++ t) h ∙ take-append-drop (field-size l) l))
 
 -- Each event that is run is exactly one complete field.
 pub each-is-complete : (l : List ℕ) → all one-field (complete l) ≡ true
@@ -141,7 +145,8 @@ each-is-complete = by-fields (λ l. all one-field (complete l) ≡ true) none on
 
 -- The unread end opens with no complete field: it is empty, or a field that is cut short.
 pub unread-is-cut : (l : List ℕ) → whole (unread l) ≡ false
-unread-is-cut = by-fields (λ l. whole (unread l) ≡ false) (λ l w. ap whole (complete-none l w .1) ∙ w) (λ l w h. ap whole (complete-first l w .1) ∙ h)
+unread-is-cut =
+    by-fields (λ l. whole (unread l) ≡ false) (λ l w. ap whole (complete-none l w .1) ∙ w) (λ l w h. ap whole (complete-first l w .1) ∙ h)
 
 -- No other cut is like that: complete fields and an end that opens with none are the fields that are run and the unread end.
 pub cut-is-the-only-one : (fs : Input) (r : List ℕ) → all one-field fs ≡ true → whole r ≡ false
@@ -183,7 +188,8 @@ more-comes b = by-fields Goes none one
         let same = size-whole a b w in
         let e = complete-first a w in
         let g = complete-first (a ++ b) (whole-more a b w) in
-        let front : take (field-size (a ++ b)) (a ++ b) ≡ take (field-size a) a = ap (λ (n : ℕ). take n (a ++ b)) same ∙ take-append-le (field-size a) a b (s .1) in
+        let front : take (field-size (a ++ b)) (a ++ b) ≡ take (field-size a) a =
+        ap (λ (n : ℕ). take n (a ++ b)) same ∙ take-append-le (field-size a) a b (s .1) in
         let behind : past (a ++ b) ≡ past a ++ b = ap (λ (n : ℕ). drop n (a ++ b)) same ∙ drop-append-le (field-size a) a b (s .1) in (
           g .0 ∙ (ap₂ (λ (x : List ℕ) (xs : Input). x ∷ xs) front (ap complete behind ∙ h .0)
               ∙ sym (ap₂ (λ (fs : Input) (r : List ℕ). fs ++ complete (r ++ b)) (e .0) (e .1))),
@@ -266,19 +272,22 @@ module _ (L : Limits) (T : Tables) (room : ℕ) (bytes : List ℕ) where
   pub refused-runs-nothing : batch L T room bytes .refusal ≢ 0
       → (batch L T room bytes .tables ≡ T) × (batch L T room bytes .decisions ≡ []) × (batch L T room bytes .unread ≡ bytes)
   unfolding batch run decisions
-  refused-runs-nothing = by-room (λ t. t .refusal ≢ 0 → (run L T (t .events) ≡ T) × (decisions L T (t .events) ≡ []) × (t .unread ≡ bytes)) room bytes
+  refused-runs-nothing =
+      by-room (λ t. t .refusal ≢ 0 → (run L T (t .events) ≡ T) × (decisions L T (t .events) ≡ []) × (t .unread ≡ bytes)) room bytes
       (λ h n. (refl, refl, refl)) (λ h n. absurd (n refl))
 
   -- The decisions have room in the buffer.
   pub decisions-fit : length (numbers (batch L T room bytes .decisions)) ≤ room
   unfolding batch decisions
   decisions-fit = by-room (λ t. length (numbers (decisions L T (t .events))) ≤ room) room bytes
-      (λ h. omega (arith, numbers-count [])) (λ h. omega (arith, numbers-count (decisions L T (complete bytes)), decisions-count L T (complete bytes)))
+      (λ h. omega (arith, numbers-count []))
+      (λ h. omega (arith, numbers-count (decisions L T (complete bytes)), decisions-count L T (complete bytes)))
 
-  -- "The result equals single calls in order, refused and malformed events included": each complete field, wherever it stands among them, has the
-  -- decision of a single call on the tables that the calls before it left; and the last call leaves the tables of the batch.
+  -- "The result equals single calls in order, refused and malformed events included": each complete field, wherever it stands among them,
+  -- has the decision of a single call on the tables that the calls before it left; and the last call leaves the tables of the batch.
   pub equals-single-calls : batch L T room bytes .refusal ≡ 0 → (es fs : Input) (e : List ℕ) → complete bytes ≡ es ++ (e ∷ fs) →
-      (batch L T room bytes .decisions ≡ decisions L T es ++ (step L (run L T es) e .decision ∷ decisions L (step L (run L T es) e .tables) fs))
+      (batch L T room bytes .decisions ≡ decisions L T es
+      ++ (step L (run L T es) e .decision ∷ decisions L (step L (run L T es) e .tables) fs))
       × (batch L T room bytes .tables ≡ run L (step L (run L T es) e .tables) fs)
   unfolding batch
   equals-single-calls = by-room
@@ -293,7 +302,8 @@ module _ (L : Limits) (T : Tables) (room : ℕ) (bytes : List ℕ) where
       ))
     where
       first-decision : (es fs : Input) (e : List ℕ) →
-          decisions L T es ++ decisions L (run L T es) (e ∷ fs) ≡ decisions L T es ++ (step L (run L T es) e .decision ∷ decisions L (step L (run L T es) e .tables) fs)
+          decisions L T es ++ decisions L (run L T es) (e ∷ fs) ≡ decisions L T es
+          ++ (step L (run L T es) e .decision ∷ decisions L (step L (run L T es) e .tables) fs)
       first-decision es fs e = unfold decisions in refl
 
       first-run : (es fs : Input) (e : List ℕ) → run L (run L T es) (e ∷ fs) ≡ run L (step L (run L T es) e .tables) fs
@@ -322,7 +332,8 @@ module _ (room : ℕ) (a b : List ℕ) where
   -- Where it is taken, the two equal the one: in the refusal, and, where that is 0, in events and unread end.
   pub taken-twice : first-taken .refusal ≡ 0 →
       (then-taken .refusal ≡ one-taken .refusal)
-      × (one-taken .refusal ≡ 0 → (first-taken .events ++ then-taken .events ≡ one-taken .events) × (then-taken .unread ≡ one-taken .unread))
+      × (one-taken .refusal ≡ 0 → (first-taken .events ++ then-taken .events ≡ one-taken .events)
+      × (then-taken .unread ≡ one-taken .unread))
   taken-twice z = (same-refusal, λ e. on (enough-for-one e))
     where
       fits : needed a ≤ room
@@ -344,17 +355,20 @@ module _ (room : ℕ) (a b : List ℕ) where
       enough-for-one : one-taken .refusal ≡ 0 → needed (a ++ b) ≤ room
       enough-for-one e = by-room (λ t. t .refusal ≡ 0 → needed (a ++ b) ≤ room) room (a ++ b) (λ h k. absurd (omega arith)) (λ h k. h) e
 
-      on : needed (a ++ b) ≤ room → (first-taken .events ++ then-taken .events ≡ one-taken .events) × (then-taken .unread ≡ one-taken .unread)
+      on : needed (a ++ b) ≤ room → (first-taken .events ++ then-taken .events ≡ one-taken .events)
+          × (then-taken .unread ≡ one-taken .unread)
       on h =
           let all-of-it = taken-whole room (a ++ b) h in
           let next = then-is ∙ taken-whole (room - needed a) (unread a ++ b) (omega (arith, all-needed, fits)) in (
-            ap₂ (λ (t u : Taken). t .events ++ u .events) was next ∙ (sym (more-comes b a .0) ∙ sym (ap (λ (t : Taken). t .events) all-of-it)),
+            ap₂ (λ (t u : Taken). t .events ++ u .events) was next
+                ∙ (sym (more-comes b a .0) ∙ sym (ap (λ (t : Taken). t .events) all-of-it)),
             ap (λ (t : Taken). t .unread) next ∙ (sym (more-comes b a .1) ∙ sym (ap (λ (t : Taken). t .unread) all-of-it)),
           )
 
   -- The first leaves the numbers of its decisions less.
   pub room-left : first-taken .refusal ≡ 0 → needed a ≡ decision-numbers * length (first-taken .events)
-  room-left = by-room (λ t. t .refusal ≡ 0 → needed a ≡ decision-numbers * length (t .events)) room a (λ h k. absurd (omega arith)) (λ h k. refl)
+  room-left =
+      by-room (λ t. t .refusal ≡ 0 → needed a ≡ decision-numbers * length (t .events)) room a (λ h k. absurd (omega arith)) (λ h k. refl)
 
 module _ (L : Limits) (T : Tables) (room : ℕ) (a b : List ℕ) where
   abbrev first : Batched
@@ -369,7 +383,8 @@ module _ (L : Limits) (T : Tables) (room : ℕ) (a b : List ℕ) where
   -- The same of the whole batch: in decisions, tables and unread end.
   pub two-equal-one : first .refusal ≡ 0 →
       (second .refusal ≡ one .refusal)
-      × (one .refusal ≡ 0 → (first .decisions ++ second .decisions ≡ one .decisions) × (second .tables ≡ one .tables) × (second .unread ≡ one .unread))
+      × (one .refusal ≡ 0 → (first .decisions ++ second .decisions ≡ one .decisions) × (second .tables ≡ one .tables)
+      × (second .unread ≡ one .unread))
   unfolding batch
   two-equal-one z = (
     ap (λ (t : Taken). t .refusal) same ∙ twice .0,
@@ -388,7 +403,8 @@ module _ (L : Limits) (T : Tables) (room : ℕ) (a b : List ℕ) where
       fs = taken (room - needed a) (taken room a .unread ++ b) .events
 
       twice : (taken (room - needed a) (taken room a .unread ++ b) .refusal ≡ one .refusal)
-          × (one .refusal ≡ 0 → (es ++ fs ≡ taken room (a ++ b) .events) × (taken (room - needed a) (taken room a .unread ++ b) .unread ≡ one .unread))
+          × (one .refusal ≡ 0 → (es ++ fs ≡ taken room (a ++ b) .events)
+          × (taken (room - needed a) (taken room a .unread ++ b) .unread ≡ one .unread))
       twice = taken-twice room a b z
 
       less : length (numbers (first .decisions)) ≡ needed a

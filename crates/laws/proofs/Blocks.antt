@@ -24,15 +24,18 @@ use Rattle.rules.specs.Events.{decode}
 use Rattle.rules.specs.Refusals.{_refuses_, needs-block, no-block-free, refusal}
 use Rattle.rules.specs.Step.{serve, act, step}
 use Rattle.rules.specs.Runs.{Input, run}
-use Rattle.laws.specs.Blocks.{queued-by, is-receive, is-message, received-by, entry-of, is-unset, ends, of-set, discarded-by, queued-in, received-in, discarded-in, blocks-free}
-use Rattle.laws.specs.Words.{Wanted, TrapKind, Trapped, Manager, Unset, Set, Gone, MessageKind, Ordinary, Notice, Message, Held, Oneself, Named, Send, Receive, CreateBrother, CreateSon, Terminate, SetManager, GetCpuTime, WaitForClock, WaitForIo, Trap, Event, Malformed, ByRunner, Tick, Interrupt}
+use Rattle.laws.specs.Words.{Wanted, TrapKind, Trapped, Manager, Unset, Set, Gone, MessageKind, Ordinary, Notice, Message, Held}
+use Rattle.laws.specs.Words.{Oneself, Named, Send, Receive, CreateBrother, CreateSon, Terminate, SetManager, GetCpuTime, WaitForClock}
+use Rattle.laws.specs.Words.{WaitForIo, Trap, Event, Malformed, ByRunner, Tick, Interrupt}
+use Rattle.laws.specs.Blocks.{queued-by, is-receive, is-message, received-by, entry-of, is-unset, ends, of-set, discarded-by}
+use Rattle.laws.specs.Blocks.{queued-in, received-in, discarded-in, blocks-free}
+use Rattle.laws.specs.Refusals.{call-is, is-send, block-needed, lacks-block, the-ten}
+use Rattle.laws.specs.Counts.{if-accepted, over-run}
 use Rattle.laws.proofs.Tests.{by-if, by-runs, and-true, and-false}
 use Rattle.laws.proofs.Tally.{count-add, count-same, count-zero, count-keep, count-insert, not-any}
 use Rattle.laws.proofs.Ordered.{pull-took}
 use Rattle.laws.proofs.Steps.{by-step, by-dispatch}
-use Rattle.laws.specs.Refusals.{call-is, is-send, block-needed, lacks-block, the-ten}
 use Rattle.laws.proofs.Refusals.{accepted-exactly}
-use Rattle.laws.specs.Counts.{if-accepted, over-run}
 
 -- ---- the account of one event
 
@@ -50,7 +53,12 @@ even T e = omega (arith, no-set T)
 
 end-balance : (n : ℕ) (T : Tables) → Balance T 0 0 (ended-set (T .threads) n) (end n T)
 unfolding end release remove wake-those of-set
-end-balance n T = omega (arith, count-keep (λ m. is-ordinary (m .kind)) (λ m. not (out m)) (T .messages), count-add (λ m. is-ordinary (m .kind)) (λ m. not (out m) && is-ordinary (m .kind)) (λ m. is-ordinary (m .kind) && out m) (T .messages) (λ m. split (out m) (is-ordinary (m .kind))))
+end-balance n T = omega (
+  arith,
+  count-keep (λ m. is-ordinary (m .kind)) (λ m. not (out m)) (T .messages),
+  count-add (λ m. is-ordinary (m .kind)) (λ m. not (out m) && is-ordinary (m .kind)) (λ m. is-ordinary (m .kind) && out m) (T .messages)
+      (λ m. split (out m) (is-ordinary (m .kind))),
+)
   where
     out : Message → Bool
     out m = has (m .to) (ended-set (T .threads) n) || has (m .from) (ended-set (T .threads) n)
@@ -62,15 +70,19 @@ end-balance n T = omega (arith, count-keep (λ m. is-ordinary (m .kind)) (λ m. 
     split false false = refl
 
 -- an ordinary message that nobody waits for is queued
-deliver-balance : (m : Message) (T : Tables) → Balance T (one-if (is-ordinary (m .kind) && not (any (accepts m) (T .threads)))) 0 [] (deliver m T)
+deliver-balance : (m : Message) (T : Tables) →
+    Balance T (one-if (is-ordinary (m .kind) && not (any (accepts m) (T .threads)))) 0 [] (deliver m T)
 unfolding deliver queue wake-those
 deliver-balance m T = go (any (accepts m) (T .threads)) refl
   where
-    go : (b : Bool) → any (accepts m) (T .threads) ≡ b → Balance T (one-if (is-ordinary (m .kind) && not (any (accepts m) (T .threads)))) 0 [] (deliver m T)
+    go : (b : Bool) → any (accepts m) (T .threads) ≡ b →
+        Balance T (one-if (is-ordinary (m .kind) && not (any (accepts m) (T .threads)))) 0 [] (deliver m T)
     go true e = rw e (rw (and-false (is-ordinary (m .kind))) (even T refl))
-    go false e = rw e (rw (and-true (is-ordinary (m .kind))) (omega (arith, no-set T, count-insert (λ x. is-ordinary (x .kind)) (λ x. leb (x .to) (m .to)) m (T .messages))))
+    go false e = rw e (rw (and-true (is-ordinary (m .kind)))
+        (omega (arith, no-set T, count-insert (λ x. is-ordinary (x .kind)) (λ x. leb (x .to) (m .to)) m (T .messages))))
 
-send-balance : (m to w : ℕ) (T : Tables) → Balance T (one-if (needs-block m to w T)) 0 (if decides m to T && not (w == 0) then ended-set (T .threads) to else []) (send m to w T)
+send-balance : (m to w : ℕ) (T : Tables) →
+    Balance T (one-if (needs-block m to w T)) 0 (if decides m to T && not (w == 0) then ended-set (T .threads) to else []) (send m to w T)
 unfolding send decide is-ordinary wake-those
 send-balance m to w T = go (decides m to T) refl w
   where
@@ -82,24 +94,31 @@ send-balance m to w T = go (decides m to T) refl w
         kind Ordinary = refl
         kind Notice = and-false (not (x .from == to))
 
-    go : (b : Bool) → decides m to T ≡ b → (w : ℕ) → Balance T (one-if (needs-block m to w T)) 0 (if decides m to T && not (w == 0) then ended-set (T .threads) to else []) (send m to w T)
-    go true d zero = rw d (even T (count-keep (λ x. is-ordinary (x .kind)) (λ x. not (notice-of to x)) (T .messages) ∙ count-same _ _ (T .messages) apart))
+    go : (b : Bool) → decides m to T ≡ b → (w : ℕ) →
+        Balance T (one-if (needs-block m to w T)) 0 (if decides m to T && not (w == 0) then ended-set (T .threads) to else [])
+        (send m to w T)
+    go true d zero = rw d (even T (count-keep (λ x. is-ordinary (x .kind)) (λ x. not (notice-of to x)) (T .messages)
+        ∙ count-same _ _ (T .messages) apart))
     go true d (suc w) = rw (d, ne-eqb (suc w) 0 (λ e. omega arith)) (end-balance to T)
     go false d w = rw d (deliver-balance (message to m w) T)
 
-receive-balance : (m : ℕ) (w : Wanted) (T : Tables) → Balance T 0 (one-if (is-message (pull (wanted-by m w) (T .messages)))) [] (receive m w T .tables)
+receive-balance : (m : ℕ) (w : Wanted) (T : Tables) →
+    Balance T 0 (one-if (is-message (pull (wanted-by m w) (T .messages)))) [] (receive m w T .tables)
 unfolding receive
 receive-balance m w T = go (pull (wanted-by m w) (T .messages)) refl
   where
     go : (x : Pulled Message) → pull (wanted-by m w) (T .messages) ≡ x → Balance T 0 (one-if (is-message x)) [] (received m w T x .tables)
     go missing e = unfold received is-message stop change in even T refl
-    go (pulled y ys) e = unfold received is-message in omega (arith, no-set T, pull-took (wanted-by m w) (T .messages) e .each (λ x. is-ordinary (x .kind)))
+    go (pulled y ys) e = unfold received is-message in
+        omega (arith, no-set T, pull-took (wanted-by m w) (T .messages) e .each (λ x. is-ordinary (x .kind)))
 
-trap-balance : (m : ℕ) (k : TrapKind) (c : ℕ) (T : Tables) → Balance T 0 0 (by-manager (ended-set (T .threads) m) (λ n. []) (entry-of k m T)) (trap m k c T)
+trap-balance : (m : ℕ) (k : TrapKind) (c : ℕ) (T : Tables) →
+    Balance T 0 0 (by-manager (ended-set (T .threads) m) (λ n. []) (entry-of k m T)) (trap m k c T)
 unfolding trap is-ordinary
 trap-balance m k c T = go (entry-of k m T)
   where
-    go : (g : Manager) → Balance T 0 0 (by-manager (ended-set (T .threads) m) (λ n. []) g) (by-manager (end m T) (λ n. deliver (notice n m c) (stop m (Trapped k) T)) g)
+    go : (g : Manager) → Balance T 0 0 (by-manager (ended-set (T .threads) m) (λ n. []) g)
+        (by-manager (end m T) (λ n. deliver (notice n m c) (stop m (Trapped k) T)) g)
     go Unset = end-balance m T
     go (Set n) = even T (delivered ∙ unfold stop change in refl)
       where
@@ -115,10 +134,13 @@ tick-messages T = turned (beat (charge T)) ∙ beaten (charge T) ∙ charged T
     charged U = unfold charge change in by-runs (λ (W : Tables). W .messages ≡ U .messages) (U .runner) (λ _. refl) (λ n s _. refl)
 
     beaten : (U : Tables) → beat U .messages ≡ U .messages
-    beaten U = unfold beat wake-those in by-if (λ (W : Tables). W .messages ≡ U .messages) (U .since + 1 == beat-ticks) (λ _. refl) (λ _. refl)
+    beaten U = unfold beat wake-those in
+        by-if (λ (W : Tables). W .messages ≡ U .messages) (U .since + 1 == beat-ticks) (λ _. refl) (λ _. refl)
 
     turned : (U : Tables) → rotate U .messages ≡ U .messages
-    turned U = unfold rotate wake-those in by-runs (λ (W : Tables). W .messages ≡ U .messages) (U .runner) (λ _. refl) (λ n s _. by-if (λ (W : Tables). W .messages ≡ U .messages) (s == 0) (λ _. refl) (λ _. refl))
+    turned U = unfold rotate wake-those in
+        by-runs (λ (W : Tables). W .messages ≡ U .messages) (U .runner) (λ _. refl)
+        (λ n s _. by-if (λ (W : Tables). W .messages ≡ U .messages) (s == 0) (λ _. refl) (λ _. refl))
 
 act-balance : (T : Tables) (e : Event) → Balance T (queued-by T e) (received-by T e) (ends T e) (act T e .tables)
 unfolding act serve queued-by received-by ends block-needed call-is is-send is-receive
@@ -144,14 +166,18 @@ act-balance T (ByRunner (WaitForIo d)) = even T (go (pull (held-for d) (T .held)
     go (pulled h hs) = unfold take-held in refl
 act-balance T (ByRunner (Trap k c)) = trap-balance (me (T .runner)) k c T
 act-balance T Tick = even T (ap (count (λ m. is-ordinary (m .kind))) (tick-messages T))
-act-balance T (Interrupt d w) = even T (unfold interrupt wake-those in by-if (λ (U : Tables). blocks-used U ≡ blocks-used T) (any (waits-for d) (T .threads)) (λ _. refl) (λ _. refl))
+act-balance T (Interrupt d w) = even T (unfold interrupt wake-those in
+    by-if (λ (U : Tables). blocks-used U ≡ blocks-used T) (any (waits-for d) (T .threads)) (λ _. refl) (λ _. refl))
 
 -- ---- steps and runs
 
 -- an accepted event finds a block free if it needs one
-block-free : (L : Limits) (T : Tables) (e : Event) → refusal L T e ≡ 0 → blocks-used T ≤ L .blocks → blocks-used T + queued-by T e ≤ L .blocks
+block-free : (L : Limits) (T : Tables) (e : Event) → refusal L T e ≡ 0 → blocks-used T ≤ L .blocks →
+    blocks-used T + queued-by T e ≤ L .blocks
 unfolding queued-by lacks-block the-ten
-block-free L T e a h = go (block-needed T e) (no-block-free L T) refl (not-any (λ r. r .holds) (the-ten L T e) (lacks-block L T e refuses 5) (accepted-exactly L T e .0 a) (List·Memᴰ·tail (List·Memᴰ·tail (List·Memᴰ·tail (List·Memᴰ·tail (List·Memᴰ·tail (List·Memᴰ·head refl)))))))
+block-free L T e a h = go (block-needed T e) (no-block-free L T) refl
+    (not-any (λ r. r .holds) (the-ten L T e) (lacks-block L T e refuses 5) (accepted-exactly L T e .0 a)
+    (List·Memᴰ·tail (List·Memᴰ·tail (List·Memᴰ·tail (List·Memᴰ·tail (List·Memᴰ·tail (List·Memᴰ·head refl)))))))
   where
     go : (b c : Bool) → no-block-free L T ≡ c → (b && c) ≡ false → blocks-used T + one-if b ≤ L .blocks
     go false c e k = omega arith
@@ -163,22 +189,28 @@ record Accounted (L : Limits) (T U : Tables) (q r d : ℕ) : Type 0 where
   balance : blocks-used U + r + d ≡ blocks-used T + q
   suffice : blocks-used T ≤ L .blocks → blocks-used U ≤ L .blocks
 
-stepped : (L : Limits) (T : Tables) (bytes : List ℕ) → Accounted L T (step L T bytes .tables) (if-accepted queued-by L T bytes) (if-accepted received-by L T bytes) (if-accepted discarded-by L T bytes)
+stepped : (L : Limits) (T : Tables) (bytes : List ℕ) →
+    Accounted L T (step L T bytes .tables) (if-accepted queued-by L T bytes) (if-accepted received-by L T bytes)
+    (if-accepted discarded-by L T bytes)
 stepped L T bytes =
-    by-step (λ (U : Tables) (b : Bool). Accounted L T U (if b then queued-by T e else 0) (if b then received-by T e else 0) (if b then discarded-by T e else 0)) L T bytes
+    by-step (λ (U : Tables) (b : Bool). Accounted L T U (if b then queued-by T e else 0) (if b then received-by T e else 0)
+    (if b then discarded-by T e else 0)) L T bytes
     (record { balance = omega arith; suffice = λ h. h })
-    (λ a. by-dispatch (λ (U : Tables). Accounted L T U (queued-by T e) (received-by T e) (discarded-by T e)) (act T e) (λ _ _ _. acted a) (λ _ _. acted a) (λ n q _ _. unfold change in record { balance = acted a .balance; suffice = acted a .suffice }))
+    (λ a. by-dispatch (λ (U : Tables). Accounted L T U (queued-by T e) (received-by T e) (discarded-by T e)) (act T e) (λ _ _ _. acted a)
+    (λ _ _. acted a) (λ n q _ _. unfold change in record { balance = acted a .balance; suffice = acted a .suffice }))
   where
     e : Event
     e = decode bytes
 
     acted : refusal L T e ≡ 0 → Accounted L T (act T e .tables) (queued-by T e) (received-by T e) (discarded-by T e)
-    acted a = unfold discarded-by in record { balance = act-balance T e; suffice = λ h. omega (arith, act-balance T e, block-free L T e a h) }
+    acted a = unfold discarded-by in
+        record { balance = act-balance T e; suffice = λ h. omega (arith, act-balance T e, block-free L T e a h) }
 
 -- ---- the laws
 
 -- Over any run: what was there and what is queued are what is received, what is discarded and what is there at the end.
-pub blocks-balance : (L : Limits) (T : Tables) (es : Input) → blocks-used T + queued-in L T es ≡ received-in L T es + discarded-in L T es + blocks-used (run L T es)
+pub blocks-balance : (L : Limits) (T : Tables) (es : Input) →
+    blocks-used T + queued-in L T es ≡ received-in L T es + discarded-in L T es + blocks-used (run L T es)
 unfolding run over-run
 blocks-balance L T [] = omega arith
 blocks-balance L T (e ∷ es) = omega (arith, stepped L T e .balance, blocks-balance L (step L T e .tables) es)
@@ -191,12 +223,15 @@ blocks-suffice L T (e ∷ es) h = blocks-suffice L (step L T e .tables) es (step
 
 -- A needed block is refused exactly if none is free.
 pub refused-without-block : (L : Limits) (T : Tables) → (no-block-free L T ≡ true) ↔ (blocks-free L T ≡ 0)
-refused-without-block L T = (λ e. omega (arith, leb-true (L .blocks) (blocks-used T) e), λ e. le-leb (L .blocks) (blocks-used T) (omega arith))
+refused-without-block L T =
+    (λ e. omega (arith, leb-true (L .blocks) (blocks-used T) e), λ e. le-leb (L .blocks) (blocks-used T) (omega arith))
 
--- From a start: ordinary messages queued are those received from inboxes, those discarded and those in inboxes now; at most as many as there are blocks are there, and the others are free.
+-- From a start: ordinary messages queued are those received from inboxes, those discarded and those in inboxes now; at most as many as
+-- there are blocks are there, and the others are free.
 pub blocks-accounted : (L : Limits) (es : Input) →
     (queued-in L start es ≡ received-in L start es + discarded-in L start es + blocks-used (run L start es))
     × (blocks-used (run L start es) ≤ L .blocks)
     × (blocks-used (run L start es) + blocks-free L (run L start es) ≡ L .blocks)
 unfolding count
-blocks-accounted L es = let h : blocks-used (run L start es) ≤ L .blocks = blocks-suffice L start es (omega arith) in (omega (arith, blocks-balance L start es), h, omega arith)
+blocks-accounted L es = let h : blocks-used (run L start es) ≤ L .blocks = blocks-suffice L start es (omega arith) in
+    (omega (arith, blocks-balance L start es), h, omega arith)

@@ -1,4 +1,5 @@
--- Two tests joined, where the first fails and where it passes; tests in a row; and what the code's "not" of an answer says of the rule's test.
+-- Two tests joined, where the first fails and where it passes; tests in a row; and what the code's "not" of an answer says of the rule's
+-- test.
 use Prim.Native.Nat.{ℕ, zero, suc}
 use mathlib.Core.Path.{_≡_, sym, _∙_}
 use mathlib.Core.Bool.{Bool, true, false, _&&_, not}

@@ -1,5 +1,5 @@
--- Big-endian numbers: two and four bytes are bytes, give back the number that they were made of, and make no larger one than they can. And the
--- number that four bytes somewhere in a list are.
+-- Big-endian numbers: two and four bytes are bytes, give back the number that they were made of, and make no larger one than they can.
+-- And the number that four bytes somewhere in a list are.
 use Prim.Native.Nat.{ℕ, _+_, _*_, _/_, _%_, _≤_, _<_}
 use mathlib.Core.Path.{_≡_, refl, ap}
 use mathlib.Core.Bool.{true}
@@ -43,16 +43,28 @@ pub number-below : (bs : List ℕ) → all is-byte bs ≡ true → length bs ≤
 unfolding all number-from
 number-below [] h l = omega arith
 number-below (a ∷ []) h l = omega (arith, ltb-true a 256 (and-left (is-byte a) _ h))
-number-below (a ∷ b ∷ []) h l = let i = and-right (is-byte a) _ h in omega (arith, ltb-true a 256 (and-left (is-byte a) _ h), ltb-true b 256 (and-left (is-byte b) _ i))
+number-below (a ∷ b ∷ []) h l =
+    let i = and-right (is-byte a) _ h in omega (arith, ltb-true a 256 (and-left (is-byte a) _ h), ltb-true b 256 (and-left (is-byte b) _ i))
 number-below (a ∷ b ∷ c ∷ []) h l =
     let i = and-right (is-byte a) _ h in
     let j = and-right (is-byte b) _ i in
-    omega (arith, ltb-true a 256 (and-left (is-byte a) _ h), ltb-true b 256 (and-left (is-byte b) _ i), ltb-true c 256 (and-left (is-byte c) _ j))
+    omega (
+      arith,
+      ltb-true a 256 (and-left (is-byte a) _ h),
+      ltb-true b 256 (and-left (is-byte b) _ i),
+      ltb-true c 256 (and-left (is-byte c) _ j),
+    )
 number-below (a ∷ b ∷ c ∷ d ∷ []) h l =
     let i = and-right (is-byte a) _ h in
     let j = and-right (is-byte b) _ i in
     let k = and-right (is-byte c) _ j in
-    omega (arith, ltb-true a 256 (and-left (is-byte a) _ h), ltb-true b 256 (and-left (is-byte b) _ i), ltb-true c 256 (and-left (is-byte c) _ j), ltb-true d 256 (and-left (is-byte d) _ k))
+    omega (
+      arith,
+      ltb-true a 256 (and-left (is-byte a) _ h),
+      ltb-true b 256 (and-left (is-byte b) _ i),
+      ltb-true c 256 (and-left (is-byte c) _ j),
+      ltb-true d 256 (and-left (is-byte d) _ k),
+    )
 number-below (a ∷ b ∷ c ∷ d ∷ e ∷ bs) h l = absurd (omega arith)
 
 pub first-four : (l : List ℕ) → 4 ≤ length l → take 4 l ≡ getD l 0 0 ∷ getD l 1 0 ∷ getD l 2 0 ∷ getD l 3 0 ∷ []

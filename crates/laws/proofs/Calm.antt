@@ -9,8 +9,6 @@ use borrow.Author.Tests.{eqb-true}
 use Rattle.rules.specs.Lists.{_==_, Pulled, missing, pulled, any, has}
 use Rattle.rules.specs.Numbers.{full-slice, beat-ticks}
 use Rattle.rules.specs.Words.{by-manager, by-runner}
-use Rattle.laws.specs.Calm.{is-tick}
-use Rattle.laws.specs.Words.{Wanted, TrapKind, State, Running, Ready, Receiving, Clock, Device, Trapped, Answer, Nothing, Manager, Unset, Set, Gone, Parent, Thread, Message, Held, Runner, NoRunner, Runs, Target, Oneself, Named, Call, Send, Receive, CreateBrother, CreateSon, Terminate, SetManager, GetCpuTime, WaitForClock, WaitForIo, Trap, Event, Malformed, ByRunner, Tick, Interrupt}
 use Rattle.rules.specs.Tables.{Tables, in-state, named, live, of-thread, change, manager, runs-as, me}
 use Rattle.rules.specs.States.{waits-for}
 use Rattle.rules.specs.Waking.{Outcome, _handing_, wake-those, accepts, queue, deliver, stop}
@@ -23,6 +21,11 @@ use Rattle.rules.specs.Interrupt.{interrupt}
 use Rattle.rules.specs.Requests.{create, terminate, set-over, wait-for-clock, take-held}
 use Rattle.rules.specs.Dispatch.{dispatch}
 use Rattle.rules.specs.Step.{serve, act}
+use Rattle.laws.specs.Words.{Wanted, TrapKind, State, Running, Ready, Receiving, Clock, Device, Trapped, Answer, Nothing, Manager}
+use Rattle.laws.specs.Words.{Unset, Set, Gone, Parent, Thread, Message, Held, Runner, NoRunner, Runs, Target, Oneself, Named, Call}
+use Rattle.laws.specs.Words.{Send, Receive, CreateBrother, CreateSon, Terminate, SetManager, GetCpuTime, WaitForClock, WaitForIo}
+use Rattle.laws.specs.Words.{Trap, Event, Malformed, ByRunner, Tick, Interrupt}
+use Rattle.laws.specs.Calm.{is-tick}
 use Rattle.laws.proofs.Tests.{by-if, by-runs, same?}
 use Rattle.laws.proofs.Tally.{zero-any, none-left}
 use Rattle.laws.proofs.Queues.{ahead, ahead-keep, Longer, longer-same, longer-trans, longer-place}
@@ -69,7 +72,13 @@ goes-trans (off a) (on b) = off (b ∙ a)
 goes-trans (off a) (off b) = off b
 
 onward-trans : {T U W : Tables} → Onward T U → Onward U W → Onward T W
-onward-trans a b = record { longer = longer-trans (a .longer) (b .longer); goes = goes-trans (a .goes) (b .goes); since = b .since ∙ a .since; beats = b .beats ∙ a .beats }
+onward-trans a b = record {
+  longer = longer-trans (a .longer) (b .longer);
+  goes = goes-trans (a .goes) (b .goes);
+  since = b .since
+      ∙ a .since;
+  beats = b .beats ∙ a .beats;
+}
 
 -- queue, runner and time are as they were
 same-front : {T U : Tables} → U .ready ≡ T .ready → U .runner ≡ T .runner → U .since ≡ T .since → U .beats ≡ T .beats → Onward T U
@@ -187,7 +196,8 @@ unfolding is-tick act interrupt
 act-calm Malformed T h = still T
 act-calm (ByRunner c) T h = serve-calm (me (T .runner)) c T
 act-calm Tick T h = absurd (true≢false h)
-act-calm (Interrupt d w) T h = by-if (Calm T) (any (waits-for d) (T .threads)) (λ _. calm (wake-onward _ _ _ T)) (λ _. calm (same-front refl refl refl refl))
+act-calm (Interrupt d w) T h =
+    by-if (Calm T) (any (waits-for d) (T .threads)) (λ _. calm (wake-onward _ _ _ T)) (λ _. calm (same-front refl refl refl refl))
 
 -- ---- the rank of a ready thread: the ticks that are left before its turn, at most
 
@@ -219,10 +229,12 @@ dispatch-nearer n o h =
 
 dispatch-dead : (n : ℕ) (o : Outcome) → live n (o .tables) ≡ false → live n (dispatch o .tables) ≡ false
 dispatch-dead n o d =
-    by-dispatch (λ U. live n U ≡ false) o (λ _ _ _. d) (λ _ _. d) (λ x q _ _. unfold change in turned-live (named x) (in-state Running Nothing) (λ t. refl) n (o .tables .threads) ∙ d)
+    by-dispatch (λ U. live n U ≡ false) o (λ _ _ _. d) (λ _ _. d) (λ x q _ _. unfold change in
+    turned-live (named x) (in-state Running Nothing) (λ t. refl) n (o .tables .threads) ∙ d)
 
 -- An event other than a tick, with its dispatch: the rank of a ready thread does not rise, unless the thread runs or has ended.
-pub act-nearer : (n : ℕ) (e : Event) (T : Tables) → is-tick e ≡ false → has n (T .ready) ≡ true → Nearer n (rank n T) (dispatch (act T e) .tables)
+pub act-nearer : (n : ℕ) (e : Event) (T : Tables) → is-tick e ≡ false → has n (T .ready) ≡ true →
+    Nearer n (rank n T) (dispatch (act T e) .tables)
 act-nearer n e T d h = let c = act-calm e T d in go (c .goes) (c .queue n h)
   where
     lower : Goes T (act T e .tables) → slice-left (act T e .tables .runner) ≤ slice-left (T .runner)
@@ -245,7 +257,8 @@ charge-slice T = by-runs (λ (U : Tables). slice-left (U .runner) ≡ slice-left
 
 beat-longer : (T : Tables) → Longer (T .ready) (beat T .ready)
 unfolding beat wake-those
-beat-longer T = by-if (λ (U : Tables). Longer (T .ready) (U .ready)) (T .since + 1 == beat-ticks) (λ _. record { more = T .clock; whole = refl }) (λ _. longer-same refl)
+beat-longer T = by-if (λ (U : Tables). Longer (T .ready) (U .ready)) (T .since + 1 == beat-ticks)
+    (λ _. record { more = T .clock; whole = refl }) (λ _. longer-same refl)
 
 pub beat-runner : (T : Tables) → beat T .runner ≡ T .runner
 unfolding beat wake-those
@@ -255,13 +268,15 @@ rotate-longer : (T : Tables) → Longer (T .ready) (rotate T .ready)
 unfolding rotate wake-those
 rotate-longer T =
     by-runs (λ (U : Tables). Longer (T .ready) (U .ready)) (T .runner) (λ _. longer-same refl)
-    (λ n s _. by-if (λ (U : Tables). Longer (T .ready) (U .ready)) (s == 0) (λ _. record { more = n ∷ []; whole = refl }) (λ _. longer-same refl))
+    (λ n s _. by-if (λ (U : Tables). Longer (T .ready) (U .ready)) (s == 0) (λ _. record { more = n ∷ []; whole = refl })
+    (λ _. longer-same refl))
 
 rotate-slice : (T : Tables) → slice-left (rotate T .runner) ≡ slice-left (T .runner)
 unfolding rotate wake-those slice-left
 rotate-slice T =
     by-runs (λ (U : Tables). slice-left (U .runner) ≡ slice-left (T .runner)) (T .runner) (λ _. refl)
-    (λ n s e. by-if (λ (U : Tables). slice-left (U .runner) ≡ slice-left (T .runner)) (s == 0) (λ z. rw e (sym (eqb-true s 0 z))) (λ _. refl))
+    (λ n s e. by-if (λ (U : Tables). slice-left (U .runner) ≡ slice-left (T .runner)) (s == 0) (λ z. rw e (sym (eqb-true s 0 z)))
+    (λ _. refl))
 
 tick-longer : (T : Tables) → Longer (T .ready) (tick T .ready)
 unfolding tick
@@ -272,7 +287,8 @@ unfolding tick
 tick-slice T = rotate-slice (beat (charge T)) ∙ ap slice-left (beat-runner (charge T)) ∙ charge-slice T
 
 -- With a runner, a tick and its dispatch lower the rank of a ready thread, or the thread runs.
-pub tick-nearer : (n : ℕ) (T : Tables) (a : Answer) → has n (T .ready) ≡ true → 1 ≤ slice-left (T .runner) → Nearer n (rank n T - 1) (dispatch (tick T handing a) .tables)
+pub tick-nearer : (n : ℕ) (T : Tables) (a : Answer) → has n (T .ready) ≡ true → 1 ≤ slice-left (T .runner) →
+    Nearer n (rank n T - 1) (dispatch (tick T handing a) .tables)
 unfolding rank
 tick-nearer n T a h s =
     let p = longer-place n (tick-longer T) h in

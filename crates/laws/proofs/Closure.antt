@@ -9,11 +9,11 @@ use lib.ListN.{length}
 use borrow.Author.Tests.{eqb-true, eq-eqb}
 use Rattle.rules.specs.Lists.{_==_, one-if, any, count, times, has}
 use Rattle.rules.specs.Words.{by-parent}
-use Rattle.laws.specs.Closure.{Closed}
-use Rattle.laws.specs.Words.{Parent, NoParent, ParentIs, Thread}
 use Rattle.rules.specs.Tables.{named}
 use Rattle.rules.specs.States.{awaits}
 use Rattle.rules.specs.Ending.{depends, grow, ended-set}
+use Rattle.laws.specs.Words.{Parent, NoParent, ParentIs, Thread}
+use Rattle.laws.specs.Closure.{Closed}
 use Rattle.laws.proofs.Tests.{clash, and-left, and-right, _&_, or-cases, or-left, or-right, not-true}
 use Rattle.laws.proofs.Tally.{count-add-le, count-length, keep-none, none-passes, any-member}
 use Rattle.laws.proofs.Members.{member-has, kept-has, has-kept, has-left, has-right, has-split, has-any}
@@ -62,7 +62,8 @@ module _ (ts : List Thread) where
   closes zero set h = omega (arith, falls set)
   closes (suc k) set h = go (count (joins set) ts) refl (closes k (grow ts set))
     where
-      go : (c : ℕ) → count (joins set) ts ≡ c → (outside (grow ts set) ≤ k → count (joins (times k (grow ts) (grow ts set))) ts ≡ 0) → count (joins (times k (grow ts) (grow ts set))) ts ≡ 0
+      go : (c : ℕ) → count (joins set) ts ≡ c → (outside (grow ts set) ≤ k → count (joins (times k (grow ts) (grow ts set))) ts ≡ 0) →
+          count (joins (times k (grow ts) (grow ts set))) ts ≡ 0
       go zero e later = rw (rests set e, stays k set e) e
       go (suc c) e later = later (omega (arith, falls set))
 
@@ -73,7 +74,8 @@ module _ (ts : List Thread) where
 
   module _ (p : ℕ → Bool) (C : Closed p ts) where
     -- who depends on names that pass, passes
-    joins-within : (set : List ℕ) → ((x : ℕ) → has x set ≡ true → p x ≡ true) → (t : Thread) → List·Memᴰ t ts → depends set t ≡ true → p (t .name) ≡ true
+    joins-within : (set : List ℕ) → ((x : ℕ) → has x set ≡ true → p x ≡ true) → (t : Thread) → List·Memᴰ t ts → depends set t ≡ true →
+        p (t .name) ≡ true
     joins-within set h t m d =
         ⊎-elim (λ e. C .children t m (up (t .parent) e))
         (λ e. let r = any-member (λ x. awaits x t) set e in C .trapped t m (r .0) (r .2) (h (r .0) (member-has set (r .1))))
@@ -90,7 +92,8 @@ module _ (ts : List Thread) where
         (λ k. let s = has-kept (λ t. t .name) (joins set) ts x k in rw (s .3) (joins-within set h (s .0) (s .1) (and-left _ _ (s .2))))
         (has-split x set _ i)
 
-    times-within : (k : ℕ) (set : List ℕ) → ((x : ℕ) → has x set ≡ true → p x ≡ true) → (x : ℕ) → has x (times k (grow ts) set) ≡ true → p x ≡ true
+    times-within : (k : ℕ) (set : List ℕ) → ((x : ℕ) → has x set ≡ true → p x ≡ true) → (x : ℕ) → has x (times k (grow ts) set) ≡ true →
+        p x ≡ true
     unfolding times
     times-within zero set h = h
     times-within (suc k) set h = times-within k (grow ts set) (grow-within set h)
@@ -117,13 +120,15 @@ module _ (ts : List Thread) where
   pub ended-set-closed : (n : ℕ) → Closed (λ x. has x (ended-set ts n)) ts
   ended-set-closed n = record {
     children = λ t m e. ended-closed n t m (or-left _ _ e);
-    trapped = λ t m x e h. ended-closed n t m (or-right (by-parent false (λ y. has y (ended-set ts n)) (t .parent)) _ (has-any x (λ y. awaits y t) (ended-set ts n) h e));
+    trapped = λ t m x e h. ended-closed n t m
+        (or-right (by-parent false (λ y. has y (ended-set ts n)) (t .parent)) _ (has-any x (λ y. awaits y t) (ended-set ts n) h e));
   }
 
   -- It lies in every set that holds the named thread and, with each member, its children and those trapped on it.
   pub ended-least : (p : ℕ → Bool) → Closed p ts → (n : ℕ) → p n ≡ true → (x : ℕ) → has x (ended-set ts n) ≡ true → p x ≡ true
   unfolding ended-set any
-  ended-least p C n s = times-within p C (length ts) (n ∷ []) (λ x h. ⊎-elim (λ e. rw (eqb-true x n e) s) (λ e. absurd (false≢true e)) (or-cases (x == n) _ h))
+  ended-least p C n s = times-within p C (length ts) (n ∷ [])
+      (λ x h. ⊎-elim (λ e. rw (eqb-true x n e) s) (λ e. absurd (false≢true e)) (or-cases (x == n) _ h))
 
   -- Its members other than the named one are names of threads.
   pub ended-live : (n x : ℕ) → has x (ended-set ts n) ≡ true → (x ≡ n) ⊎ (any (named x) ts ≡ true)

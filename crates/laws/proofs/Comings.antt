@@ -9,7 +9,8 @@ use lib.Dec.{ltb}
 use Rattle.rules.specs.Lists.{_==_, any, Pulled, missing, pulled, pull}
 use Rattle.rules.specs.Numbers.{beat-ticks}
 use Rattle.rules.specs.Words.{by-manager}
-use Rattle.rules.specs.Tables.{Tables, in-state, with-managers, with-ticks, named, live, of-thread, change, manager, set-entry, new-thread, me}
+use Rattle.rules.specs.Tables.{Tables, in-state, with-managers, with-ticks, named, live, of-thread, change, manager, set-entry, new-thread}
+use Rattle.rules.specs.Tables.{me}
 use Rattle.rules.specs.States.{waits-for}
 use Rattle.rules.specs.Waking.{Outcome, wake-those, accepts, queue, deliver, stop}
 use Rattle.rules.specs.Ending.{remove, release, end}
@@ -21,8 +22,11 @@ use Rattle.rules.specs.Interrupt.{interrupt}
 use Rattle.rules.specs.Requests.{next-name, create, terminate, set-over, wait-for-clock, take-held}
 use Rattle.rules.specs.Dispatch.{dispatch}
 use Rattle.rules.specs.Step.{serve, act}
+use Rattle.laws.specs.Words.{Wanted, TrapKind, State, Running, Ready, Receiving, Clock, Device, Trapped, Answer, Nothing, Manager}
+use Rattle.laws.specs.Words.{Unset, Set, Gone, Parent, Thread, Message, Held, Oneself, Named, Call, Send, Receive, CreateBrother}
+use Rattle.laws.specs.Words.{CreateSon, Terminate, SetManager, GetCpuTime, WaitForClock, WaitForIo, Trap, Event, Malformed, ByRunner}
+use Rattle.laws.specs.Words.{Tick, Interrupt}
 use Rattle.laws.specs.Comings.{creates, NobodyComes}
-use Rattle.laws.specs.Words.{Wanted, TrapKind, State, Running, Ready, Receiving, Clock, Device, Trapped, Answer, Nothing, Manager, Unset, Set, Gone, Parent, Thread, Message, Held, Oneself, Named, Call, Send, Receive, CreateBrother, CreateSon, Terminate, SetManager, GetCpuTime, WaitForClock, WaitForIo, Trap, Event, Malformed, ByRunner, Tick, Interrupt}
 use Rattle.laws.proofs.Tests.{by-if, by-runs}
 use Rattle.laws.proofs.Members.{insert-new, insert-old, mem-insert}
 use Rattle.laws.proofs.Threads.{member-live, live-member, turned-live}
@@ -66,7 +70,8 @@ unfolding end release remove wake-those
 ended m T = record { last = refl; before = λ n l. survived n (live-member (end m T .threads) n l) }
   where
     survived : (n : ℕ) → (u : Thread) × List·Memᴰ u (end m T .threads) × (n ≡ u .name) → live n T ≡ true
-    survived n r = let o = origins m T (r .0) (r .1) in ap (λ (x : ℕ). live x T) (r .2 ∙ o .3 .name) ∙ member-live (T .threads) (o .0) (o .1)
+    survived n r = let o = origins m T (r .0) (r .1) in
+        ap (λ (x : ℕ). live x T) (r .2 ∙ o .3 .name) ∙ member-live (T .threads) (o .0) (o .1)
 
 -- ---- each event
 
@@ -125,13 +130,16 @@ unfolding tick charge beat rotate
 ticked T = and-on (charged T) (and-on (beaten (charge T)) (rotated (beat (charge T))))
   where
     charged : (U : Tables) → NobodyComes U (charge U)
-    charged U = by-runs (NobodyComes U) (U .runner) (λ _. unmoved U) (λ m s _. and-on (changed m (λ t. with-ticks (one-more (t .ticks)) t) (λ t. refl) U) (aside _ _ refl refl))
+    charged U = by-runs (NobodyComes U) (U .runner) (λ _. unmoved U)
+        (λ m s _. and-on (changed m (λ t. with-ticks (one-more (t .ticks)) t) (λ t. refl) U) (aside _ _ refl refl))
 
     beaten : (U : Tables) → NobodyComes U (beat U)
-    beaten U = by-if (NobodyComes U) (U .since + 1 == beat-ticks) (λ _. and-on (aside U _ refl refl) (woken _ _ _ _)) (λ _. aside U _ refl refl)
+    beaten U =
+        by-if (NobodyComes U) (U .since + 1 == beat-ticks) (λ _. and-on (aside U _ refl refl) (woken _ _ _ _)) (λ _. aside U _ refl refl)
 
     rotated : (U : Tables) → NobodyComes U (rotate U)
-    rotated U = by-runs (NobodyComes U) (U .runner) (λ _. unmoved U) (λ m s _. by-if (NobodyComes U) (s == 0) (λ _. and-on (woken _ _ _ U) (aside _ _ refl refl)) (λ _. unmoved U))
+    rotated U = by-runs (NobodyComes U) (U .runner) (λ _. unmoved U)
+        (λ m s _. by-if (NobodyComes U) (s == 0) (λ _. and-on (woken _ _ _ U) (aside _ _ refl refl)) (λ _. unmoved U))
 
 -- ---- the laws
 
@@ -163,14 +171,16 @@ pub creation-brings : (p : Parent) (T : Tables) (n : ℕ) → live n (create p T
 unfolding create
 creation-brings p T n l =
     let r = live-member (create p T .tables .threads) n l in
-    ⊎-elim (λ i. inl (r .2 ∙ ap (λ (x : Thread). x .name) i)) (λ i. inr (ap (λ (x : ℕ). live x T) (r .2) ∙ member-live (T .threads) (r .0) i)) (mem-insert _ _ (T .threads) (r .1))
+    ⊎-elim (λ i. inl (r .2 ∙ ap (λ (x : Thread). x .name) i))
+    (λ i. inr (ap (λ (x : ℕ). live x T) (r .2) ∙ member-live (T .threads) (r .0) i)) (mem-insert _ _ (T .threads) (r .1))
 
 -- and whoever was there stays
 pub creation-keeps : (p : Parent) (T : Tables) (n : ℕ) → live n T ≡ true → live n (create p T .tables) ≡ true
 unfolding create
 creation-keeps p T n l =
     let r = live-member (T .threads) n l in
-    ap (λ (x : ℕ). live x (create p T .tables)) (r .2) ∙ member-live (create p T .tables .threads) (r .0) (insert-old _ _ (T .threads) (r .1))
+    ap (λ (x : ℕ). live x (create p T .tables)) (r .2)
+    ∙ member-live (create p T .tables .threads) (r .0) (insert-old _ _ (T .threads) (r .1))
 
 pub created-last : (p : Parent) (T : Tables) → create p T .tables .last ≡ next-name T
 unfolding create

@@ -10,7 +10,8 @@ use borrow.Author.Tests.{eqb-true, eqb-false, eq-eqb}
 use Rattle.rules.specs.Lists.{if_then_else_, _==_, one-if, any, has, keep, count, insert, Pulled, missing, pulled, pull}
 use Rattle.rules.specs.Numbers.{Limits, names, beat-ticks, wrap}
 use Rattle.rules.specs.Words.{by-manager}
-use Rattle.rules.specs.Tables.{Tables, in-state, with-managers, with-ticks, named, live, of-thread, change, manager, set-entry, new-thread, runs-as, me, start}
+use Rattle.rules.specs.Tables.{Tables, in-state, with-managers, with-ticks, named, live, of-thread, change, manager, set-entry, new-thread}
+use Rattle.rules.specs.Tables.{runs-as, me, start}
 use Rattle.rules.specs.States.{waits-for, on-clock}
 use Rattle.rules.specs.Waking.{wake-those, accepts, queue, deliver, stop}
 use Rattle.rules.specs.Ending.{ended-set, without-managers, remove, misses, told-gone, release, end}
@@ -25,8 +26,12 @@ use Rattle.rules.specs.Events.{decode}
 use Rattle.rules.specs.Step.{serve, act, step}
 use Rattle.rules.specs.Runs.{Input, run}
 use Rattle.rules.specs.TableRules.{table-rules}
-use Rattle.laws.specs.Counts.{if-accepted, over-run, beats-by, ticks-by, own-ticks-by, beats-in, ticks-in, ticks-of, ticks-at, lives-through}
-use Rattle.laws.specs.Words.{TrapKind, State, Running, Ready, Receiving, Clock, Device, Trapped, Answer, Nothing, Result, Manager, Unset, Set, Gone, Parent, Thread, Message, Held, Runner, NoRunner, Runs, Oneself, Named, Call, Send, Receive, CreateBrother, CreateSon, Terminate, SetManager, GetCpuTime, WaitForClock, WaitForIo, Trap, Event, Malformed, ByRunner, Tick, Interrupt}
+use Rattle.laws.specs.Words.{TrapKind, State, Running, Ready, Receiving, Clock, Device, Trapped, Answer, Nothing, Result, Manager}
+use Rattle.laws.specs.Words.{Unset, Set, Gone, Parent, Thread, Message, Held, Runner, NoRunner, Runs, Oneself, Named, Call, Send}
+use Rattle.laws.specs.Words.{Receive, CreateBrother, CreateSon, Terminate, SetManager, GetCpuTime, WaitForClock, WaitForIo, Trap}
+use Rattle.laws.specs.Words.{Event, Malformed, ByRunner, Tick, Interrupt}
+use Rattle.laws.specs.Counts.{if-accepted, over-run, beats-by, ticks-by, own-ticks-by, beats-in, ticks-in, ticks-of, ticks-at}
+use Rattle.laws.specs.Counts.{lives-through}
 use Rattle.laws.proofs.Tests.{by-if, by-runs, same?, and-left, and-right, _&_}
 use Rattle.laws.proofs.Tally.{count-insert, none-left, count-any, any-count}
 use Rattle.laws.proofs.Threads.{names-kept, turned, turned-name, put-name}
@@ -37,18 +42,22 @@ use Rattle.laws.proofs.Kept.{rules-are-kept}
 -- ---- tick counts in a changed list of threads
 
 module _ (n : ℕ) where
-  ticks-map : (f : Thread → Thread) → ((t : Thread) → f t .name ≡ t .name) → ((t : Thread) → named n t ≡ true → f t .ticks ≡ t .ticks) → (ts : List Thread) → ticks-at n (map f ts) ≡ ticks-at n ts
+  ticks-map : (f : Thread → Thread) → ((t : Thread) → f t .name ≡ t .name) → ((t : Thread) → named n t ≡ true → f t .ticks ≡ t .ticks) →
+      (ts : List Thread) → ticks-at n (map f ts) ≡ ticks-at n ts
   unfolding of-thread
   ticks-map f a b [] = refl
   ticks-map f a b (t ∷ ts) = rw (a t) (go (named n t) refl (ticks-map f a b ts))
     where
-      go : (x : Bool) → named n t ≡ x → ticks-at n (map f ts) ≡ ticks-at n ts → (if x then f t .ticks else ticks-at n (map f ts)) ≡ (if x then t .ticks else ticks-at n ts)
+      go : (x : Bool) → named n t ≡ x → ticks-at n (map f ts) ≡ ticks-at n ts →
+          (if x then f t .ticks else ticks-at n (map f ts)) ≡ (if x then t .ticks else ticks-at n ts)
       go true e later = b t e
       go false e later = later
 
   -- those that pass are changed
-  ticks-some : (p : Thread → Bool) (f : Thread → Thread) → ((t : Thread) → f t .name ≡ t .name) → ((t : Thread) → f t .ticks ≡ t .ticks) → (ts : List Thread) → ticks-at n (map (λ t. if p t then f t else t) ts) ≡ ticks-at n ts
-  ticks-some p f a b ts = ticks-map (turned p f) (turned-name p f a) (λ t _. by-if (λ (u : Thread). u .ticks ≡ t .ticks) (p t) (λ _. b t) (λ _. refl)) ts
+  ticks-some : (p : Thread → Bool) (f : Thread → Thread) → ((t : Thread) → f t .name ≡ t .name) → ((t : Thread) → f t .ticks ≡ t .ticks) →
+      (ts : List Thread) → ticks-at n (map (λ t. if p t then f t else t) ts) ≡ ticks-at n ts
+  ticks-some p f a b ts =
+      ticks-map (turned p f) (turned-name p f a) (λ t _. by-if (λ (u : Thread). u .ticks ≡ t .ticks) (p t) (λ _. b t) (λ _. refl)) ts
 
   ticks-keep : (set : List ℕ) → has n set ≡ false → (ts : List Thread) → ticks-at n (keep (λ t. not (has (t .name) set)) ts) ≡ ticks-at n ts
   unfolding of-thread keep
@@ -56,7 +65,8 @@ module _ (n : ℕ) where
   ticks-keep set o (t ∷ ts) =
       ⊎-elim
       (λ e. rw (ap (λ (m : ℕ). has m set) (sym (e .0)) ∙ o, e .1))
-      (λ e. by-if (λ (l : List Thread). ticks-at n l ≡ ticks-at n (t ∷ ts)) (not (has (t .name) set)) (λ _. rw (e .1) (ticks-keep set o ts)) (λ _. rw (e .1) (ticks-keep set o ts)))
+      (λ e. by-if (λ (l : List Thread). ticks-at n l ≡ ticks-at n (t ∷ ts)) (not (has (t .name) set)) (λ _. rw (e .1) (ticks-keep set o ts))
+      (λ _. rw (e .1) (ticks-keep set o ts)))
       (same? n (t .name))
 
   ticks-insert : (p : Thread → Bool) (a : Thread) → named n a ≡ false → (ts : List Thread) → ticks-at n (insert p a ts) ≡ ticks-at n ts
@@ -68,21 +78,29 @@ module _ (n : ℕ) where
       (λ _. rw d)
 
   -- the runner's rises
-  ticks-own : (ts : List Thread) → any (named n) ts ≡ true → ticks-at n (map (λ t. if named n t then with-ticks (one-more (t .ticks)) t else t) ts) ≡ one-more (ticks-at n ts)
+  ticks-own : (ts : List Thread) → any (named n) ts ≡ true →
+      ticks-at n (map (λ t. if named n t then with-ticks (one-more (t .ticks)) t else t) ts) ≡ one-more (ticks-at n ts)
   unfolding of-thread any
   ticks-own [] h = absurd (false≢true h)
   ticks-own (t ∷ ts) h = go (named n t) refl h (ticks-own ts)
     where
-      go : (b : Bool) → named n t ≡ b → (b || any (named n) ts) ≡ true → (any (named n) ts ≡ true → ticks-at n (map (λ t. if named n t then with-ticks (one-more (t .ticks)) t else t) ts) ≡ one-more (ticks-at n ts)) → ticks-at n (map (λ t. if named n t then with-ticks (one-more (t .ticks)) t else t) (t ∷ ts)) ≡ one-more (ticks-at n (t ∷ ts))
+      go : (b : Bool) → named n t ≡ b → (b || any (named n) ts) ≡ true →
+          (any (named n) ts ≡ true → ticks-at n (map (λ t. if named n t then with-ticks (one-more (t .ticks)) t else t) ts) ≡ one-more
+          (ticks-at n ts)) → ticks-at n (map (λ t. if named n t then with-ticks (one-more (t .ticks)) t else t) (t ∷ ts)) ≡ one-more
+          (ticks-at n (t ∷ ts))
       go true e i later = rw (e, e)
       go false e i later = rw (e, e) (later i)
 
   -- and no other
-  ticks-charge : (m : ℕ) (ts : List Thread) → count (named n) ts ≡ 1 → ticks-at n ts < wrap → ticks-at n (map (λ t. if named m t then with-ticks (one-more (t .ticks)) t else t) ts) ≡ (ticks-at n ts + one-if (n == m)) % wrap
-  ticks-charge m ts o l = ⊎-elim (λ d. rw (d .1, sym (d .0)) (ticks-own ts (count-any (named n) ts (omega arith)))) (λ d. rw (d .1) (others (d .0) ∙ omega arith)) (same? n m)
+  ticks-charge : (m : ℕ) (ts : List Thread) → count (named n) ts ≡ 1 → ticks-at n ts < wrap →
+      ticks-at n (map (λ t. if named m t then with-ticks (one-more (t .ticks)) t else t) ts) ≡ (ticks-at n ts + one-if (n == m)) % wrap
+  ticks-charge m ts o l = ⊎-elim (λ d. rw (d .1, sym (d .0)) (ticks-own ts (count-any (named n) ts (omega arith))))
+      (λ d. rw (d .1) (others (d .0) ∙ omega arith)) (same? n m)
     where
       others : n ≢ m → ticks-at n (map (λ t. if named m t then with-ticks (one-more (t .ticks)) t else t) ts) ≡ ticks-at n ts
-      others d = ticks-map _ (turned-name (named m) _ (λ t. refl)) (λ t e. by-if (λ (u : Thread). u .ticks ≡ t .ticks) (named m t) (λ k. absurd (d (eqb-true n (t .name) e ∙ sym (eqb-true m (t .name) k)))) (λ _. refl)) ts
+      others d = ticks-map _ (turned-name (named m) _ (λ t. refl))
+          (λ t e. by-if (λ (u : Thread). u .ticks ≡ t .ticks) (named m t)
+          (λ k. absurd (d (eqb-true n (t .name) e ∙ sym (eqb-true m (t .name) k)))) (λ _. refl)) ts
 
 -- ---- events other than the tick leave time and tick counts as they are
 
@@ -113,7 +131,8 @@ module _ (n : ℕ) where
   unfolding wake-those
   woken p a ns T = record { since = refl; beats = refl; ticks = ticks-some n p _ (λ t. refl) (λ t. refl) (T .threads) }
 
-  woken-names : (p : Thread → Bool) (a : Thread → Answer) (ns : List ℕ) (T : Tables) → count (named n) (wake-those p a ns T .threads) ≡ count (named n) (T .threads)
+  woken-names : (p : Thread → Bool) (a : Thread → Answer) (ns : List ℕ) (T : Tables) →
+      count (named n) (wake-those p a ns T .threads) ≡ count (named n) (T .threads)
   unfolding wake-those
   woken-names p a ns T = names-kept _ (put-name p Ready a) n (T .threads)
 
@@ -123,11 +142,14 @@ module _ (n : ℕ) where
 
   delivered : (m : Message) (T : Tables) → Still n T (deliver m T)
   unfolding deliver queue
-  delivered m T = by-if (Still n T) (any (accepts m) (T .threads)) (λ _. woken _ _ _ T) (λ _. record { since = refl; beats = refl; ticks = refl })
+  delivered m T =
+      by-if (Still n T) (any (accepts m) (T .threads)) (λ _. woken _ _ _ T) (λ _. record { since = refl; beats = refl; ticks = refl })
 
   ended : (m : ℕ) (T : Tables) → Same n T (end m T)
   unfolding end release remove without-managers
-  ended m T = let W = woken (λ t. misses set (t .state)) (λ t. told-gone (t .state)) (map (λ t. t .name) (keep (λ t. misses set (t .state)) (R .threads))) R in record { since = W .since; beats = W .beats; ticks = λ _ o. W .ticks ∙ left (has n set) refl (sym (woken-names _ _ _ R) ∙ o) }
+  ended m T = let W = woken (λ t. misses set (t .state)) (λ t. told-gone (t .state))
+      (map (λ t. t .name) (keep (λ t. misses set (t .state)) (R .threads))) R in
+      record { since = W .since; beats = W .beats; ticks = λ _ o. W .ticks ∙ left (has n set) refl (sym (woken-names _ _ _ R) ∙ o) }
     where
       set : List ℕ
       set = ended-set (T .threads) m
@@ -136,7 +158,13 @@ module _ (n : ℕ) where
       R = remove set T
 
       left : (b : Bool) → has n set ≡ b → One n R → ticks-at n (R .threads) ≡ ticks-at n (T .threads)
-      left true e o = absurd (omega (arith, none-left (λ (t : Thread). t .name) (λ x. has x set) (named n) n (λ t k. eqb-true n (t .name) k) e (T .threads), names-kept (without-managers set) (λ t. refl) n (keep (λ t. not (has (t .name) set)) (T .threads))))
+      left true e o =
+          absurd (omega (
+            arith,
+            none-left (λ (t : Thread). t .name) (λ x. has x set) (named n) n (λ t k. eqb-true n (t .name) k) e
+                (T .threads),
+            names-kept (without-managers set) (λ t. refl) n (keep (λ t. not (has (t .name) set)) (T .threads)),
+          ))
       left false e o = ticks-map n (without-managers set) (λ t. refl) (λ t _. refl) _ ∙ ticks-keep n set e (T .threads)
 
   sent : (m to w : ℕ) (T : Tables) → Same n T (send m to w T)
@@ -153,12 +181,18 @@ module _ (n : ℕ) where
     where
       go : (g : Manager) → Same n T (by-manager (end m T) (λ x. deliver (notice x m c) (stop m (Trapped k) T)) g)
       go Unset = ended m T
-      go (Set x) = let D = delivered (notice x m c) (stop m (Trapped k) T) in let S = stopped m (Trapped k) T in record { since = D .since ∙ S .since; beats = D .beats ∙ S .beats; ticks = λ _ _. D .ticks ∙ S .ticks }
+      go (Set x) = let D = delivered (notice x m c) (stop m (Trapped k) T) in let S = stopped m (Trapped k) T in
+          record { since = D .since ∙ S .since; beats = D .beats ∙ S .beats; ticks = λ _ _. D .ticks ∙ S .ticks }
       go Gone = ended m T
 
   created : (p : Parent) (T : Tables) → Same n T (create p T .tables)
   unfolding create
-  created p T = record { since = refl; beats = refl; ticks = λ a b. ticks-insert n _ new (other (named n new) (omega (arith, count-insert (named n) (λ t. ltb (t .name) (next-name T)) new (T .threads)))) (T .threads) }
+  created p T = record {
+    since = refl;
+    beats = refl;
+    ticks = λ a b. ticks-insert n _ new
+        (other (named n new) (omega (arith, count-insert (named n) (λ t. ltb (t .name) (next-name T)) new (T .threads)))) (T .threads);
+  }
     where
       new : Thread
       new = new-thread (next-name T) p Ready
@@ -182,7 +216,8 @@ module _ (n : ℕ) where
   served m T (SetManager k x) = go (of-thread Unset (λ t. manager k (t .managers)) m (T .threads))
     where
       go : (g : Manager) → Same n T (set-over g m k x T .tables)
-      go Unset = still refl refl (ticks-some n (named m) (λ t. with-managers (set-entry k (Set x) (t .managers)) t) (λ t. refl) (λ t. refl) (T .threads))
+      go Unset = still refl refl (ticks-some n (named m) (λ t. with-managers (set-entry k (Set x) (t .managers)) t) (λ t. refl) (λ t. refl)
+          (T .threads))
       go (Set y) = ended m T
       go Gone = ended m T
   served m T GetCpuTime = still refl refl refl
@@ -200,25 +235,41 @@ module _ (n : ℕ) where
 
   -- ---- the tick
 
-  charged : (T : Tables) → (charge T .since ≡ T .since) × (charge T .beats ≡ T .beats) × (One n T → ticks-at n (T .threads) < wrap → ticks-at n (charge T .threads) ≡ (ticks-at n (T .threads) + one-if (runs-as n (T .runner))) % wrap)
+  charged : (T : Tables) → (charge T .since ≡ T .since) × (charge T .beats ≡ T .beats)
+      × (One n T → ticks-at n (T .threads) < wrap →
+      ticks-at n (charge T .threads) ≡ (ticks-at n (T .threads) + one-if (runs-as n (T .runner))) % wrap)
   unfolding charge change runs-as
   charged T = go (T .runner) refl
     where
-      go : (r : Runner) → T .runner ≡ r → (charge T .since ≡ T .since) × (charge T .beats ≡ T .beats) × (One n T → ticks-at n (T .threads) < wrap → ticks-at n (charge T .threads) ≡ (ticks-at n (T .threads) + one-if (runs-as n (T .runner))) % wrap)
+      go : (r : Runner) → T .runner ≡ r → (charge T .since ≡ T .since) × (charge T .beats ≡ T .beats)
+          × (One n T → ticks-at n (T .threads) < wrap →
+          ticks-at n (charge T .threads) ≡ (ticks-at n (T .threads) + one-if (runs-as n (T .runner))) % wrap)
       go NoRunner e = rw e (refl, refl, λ o l. omega arith)
       go (Runs m s) e = rw e (refl, refl, ticks-charge n m (T .threads))
 
-  beaten : (T : Tables) → (T .since + 1 ≡ beat-ticks * one-if (T .since + 1 == beat-ticks) + beat T .since) × (T .beats < wrap → beat T .beats ≡ (T .beats + one-if (T .since + 1 == beat-ticks)) % wrap) × (ticks-at n (beat T .threads) ≡ ticks-at n (T .threads)) × (T .since < beat-ticks → beat T .since < beat-ticks)
+  beaten : (T : Tables) → (T .since + 1 ≡ beat-ticks * one-if (T .since + 1 == beat-ticks) + beat T .since)
+      × (T .beats < wrap → beat T .beats ≡ (T .beats + one-if (T .since + 1 == beat-ticks)) % wrap)
+      × (ticks-at n (beat T .threads) ≡ ticks-at n (T .threads)) × (T .since < beat-ticks → beat T .since < beat-ticks)
   unfolding beat wake-those
   beaten T = go (T .since + 1 == beat-ticks) refl
     where
-      go : (b : Bool) → (T .since + 1 == beat-ticks) ≡ b → (T .since + 1 ≡ beat-ticks * one-if (T .since + 1 == beat-ticks) + beat T .since) × (T .beats < wrap → beat T .beats ≡ (T .beats + one-if (T .since + 1 == beat-ticks)) % wrap) × (ticks-at n (beat T .threads) ≡ ticks-at n (T .threads)) × (T .since < beat-ticks → beat T .since < beat-ticks)
-      go true e = rw e (eqb-true (T .since + 1) beat-ticks e, λ _. refl, ticks-some n (λ t. on-clock (t .state)) (in-state Ready (Result (one-more (T .beats)))) (λ t. refl) (λ t. refl) (T .threads), λ _. omega arith)
+      go : (b : Bool) → (T .since + 1 == beat-ticks) ≡ b → (T .since + 1 ≡ beat-ticks * one-if (T .since + 1 == beat-ticks) + beat T .since)
+          × (T .beats < wrap → beat T .beats ≡ (T .beats + one-if (T .since + 1 == beat-ticks)) % wrap)
+          × (ticks-at n (beat T .threads) ≡ ticks-at n (T .threads)) × (T .since < beat-ticks → beat T .since < beat-ticks)
+      go true e = rw e (
+        eqb-true (T .since + 1) beat-ticks e,
+        λ _. refl,
+        ticks-some n (λ t. on-clock (t .state))
+            (in-state Ready (Result (one-more (T .beats)))) (λ t. refl) (λ t. refl) (T .threads),
+        λ _. omega arith,
+      )
       go false e = rw e (omega arith, λ l. omega arith, refl, λ l. omega (arith, eqb-false (T .since + 1) beat-ticks e))
 
   rotated : (T : Tables) → Still n T (rotate T)
   unfolding rotate
-  rotated T = by-runs (Still n T) (T .runner) (λ _. record { since = refl; beats = refl; ticks = refl }) (λ m s _. by-if (Still n T) (s == 0) (λ _. let W = woken (named m) (λ t. Nothing) (m ∷ []) T in record { since = W .since; beats = W .beats; ticks = W .ticks }) (λ _. record { since = refl; beats = refl; ticks = refl }))
+  rotated T = by-runs (Still n T) (T .runner) (λ _. record { since = refl; beats = refl; ticks = refl })
+      (λ m s _. by-if (Still n T) (s == 0) (λ _. let W = woken (named m) (λ t. Nothing) (m ∷ []) T in
+      record { since = W .since; beats = W .beats; ticks = W .ticks }) (λ _. record { since = refl; beats = refl; ticks = refl }))
 
 -- what an accepted event adds to the ticks since the beat, to the beats and to the count of thread n
 record Counted (n : ℕ) (T U : Tables) (ticks beats own : ℕ) : Type 0 where
@@ -237,8 +288,14 @@ module _ (n : ℕ) where
       let C = charged n T in
       let B = beaten n (charge T) in
       let R = rotated n (beat (charge T)) in
-      let same-test : one-if (charge T .since + 1 == beat-ticks) ≡ one-if (T .since + 1 == beat-ticks) = ap (λ (s : ℕ). one-if (s + 1 == beat-ticks)) (C .0) in
-      record { time = omega (arith, B .0, C .0, R .since, same-test); low = λ l. omega (arith, R .since, B .3 (omega (arith, C .0))); beat = λ l. R .beats ∙ B .1 (omega (arith, C .1)) ∙ rw (C .1, same-test); count = λ l a b. R .ticks ∙ B .2 ∙ C .2 a l }
+      let same-test : one-if (charge T .since + 1 == beat-ticks) ≡ one-if (T .since + 1 == beat-ticks) =
+      ap (λ (s : ℕ). one-if (s + 1 == beat-ticks)) (C .0) in
+      record {
+        time = omega (arith, B .0, C .0, R .since, same-test);
+        low = λ l. omega (arith, R .since, B .3 (omega (arith, C .0)));
+        beat = λ l. R .beats ∙ B .1 (omega (arith, C .1)) ∙ rw (C .1, same-test);
+        count = λ l a b. R .ticks ∙ B .2 ∙ C .2 a l;
+      }
 
   acted : (T : Tables) (e : Event) → Counted n T (act T e .tables) (ticks-by T e) (beats-by T e) (own-ticks-by n T e)
   unfolding act ticks-by beats-by own-ticks-by
@@ -248,18 +305,33 @@ module _ (n : ℕ) where
   acted T (Interrupt d w) = nothing (interrupted n d w T)
 
   dispatched : (T : Tables) (e : Event) → Counted n T (dispatch (act T e) .tables) (ticks-by T e) (beats-by T e) (own-ticks-by n T e)
-  dispatched T e = by-dispatch (λ (U : Tables). Counted n T U (ticks-by T e) (beats-by T e) (own-ticks-by n T e)) (act T e) (λ _ _ _. A) (λ _ _. A) (λ m q _ _. unfold change in record { time = A .time; low = A .low; beat = A .beat; count = λ l a b. ticks-some n (named m) (in-state Running Nothing) (λ t. refl) (λ t. refl) (act T e .tables .threads) ∙ A .count l a (sym (names-kept _ (put-name (named m) Running (λ t. Nothing)) n (act T e .tables .threads)) ∙ b) })
+  dispatched T e = by-dispatch (λ (U : Tables). Counted n T U (ticks-by T e) (beats-by T e) (own-ticks-by n T e)) (act T e) (λ _ _ _. A)
+      (λ _ _. A) (λ m q _ _. unfold change in
+      record {
+        time = A .time;
+        low = A .low;
+        beat = A .beat;
+        count = λ l a b. ticks-some n (named m) (in-state Running Nothing) (λ t. refl)
+            (λ t. refl) (act T e .tables .threads)
+            ∙ A .count l a (sym (names-kept _ (put-name (named m) Running (λ t. Nothing)) n (act T e .tables .threads)) ∙ b);
+      })
     where
       A : Counted n T (act T e .tables) (ticks-by T e) (beats-by T e) (own-ticks-by n T e)
       A = acted T e
 
-  stepped : (L : Limits) (T : Tables) (bytes : List ℕ) → Counted n T (step L T bytes .tables) (if-accepted ticks-by L T bytes) (if-accepted beats-by L T bytes) (if-accepted (own-ticks-by n) L T bytes)
-  stepped L T bytes = by-step (λ (U : Tables) (b : Bool). Counted n T U (if b then ticks-by T (decode bytes) else 0) (if b then beats-by T (decode bytes) else 0) (if b then own-ticks-by n T (decode bytes) else 0)) L T bytes (nothing (still n refl refl refl)) (λ _. dispatched T (decode bytes))
+  stepped : (L : Limits) (T : Tables) (bytes : List ℕ) →
+      Counted n T (step L T bytes .tables) (if-accepted ticks-by L T bytes) (if-accepted beats-by L T bytes)
+      (if-accepted (own-ticks-by n) L T bytes)
+  stepped L T bytes = by-step (λ (U : Tables) (b : Bool). Counted n T U (if b then ticks-by T (decode bytes) else 0)
+      (if b then beats-by T (decode bytes) else 0) (if b then own-ticks-by n T (decode bytes) else 0)) L T bytes
+      (nothing (still n refl refl refl)) (λ _. dispatched T (decode bytes))
 
 -- ---- the laws
 
--- Twenty ticks make a beat: along a run, the ticks since the last beat at its begin and the accepted ticks are 20 for each beat and the ticks since the last beat at its end.
-pub ticks-make-beats : (L : Limits) (T : Tables) (es : Input) → T .since + ticks-in L T es ≡ beat-ticks * beats-in L T es + run L T es .since
+-- Twenty ticks make a beat: along a run, the ticks since the last beat at its begin and the accepted ticks are 20 for each beat and the
+-- ticks since the last beat at its end.
+pub ticks-make-beats : (L : Limits) (T : Tables) (es : Input) →
+    T .since + ticks-in L T es ≡ beat-ticks * beats-in L T es + run L T es .since
 unfolding run over-run
 ticks-make-beats L T [] = omega arith
 ticks-make-beats L T (e ∷ es) = omega (arith, stepped 0 L T e .time, ticks-make-beats L (step L T e .tables) es)
@@ -274,14 +346,17 @@ since-low L T [] l = l
 since-low L T (e ∷ es) l = since-low L (step L T e .tables) es (stepped 0 L T e .low l)
 
 -- So the beats from the start are the accepted ticks divided by 20, and the ticks since the last beat are the rest.
-pub every-twentieth : (L : Limits) (es : Input) → (beats-in L start es ≡ ticks-in L start es / beat-ticks) × (run L start es .since ≡ ticks-in L start es % beat-ticks)
-every-twentieth L es = let l = since-low L start es (omega arith) in (omega (arith, ticks-from-start L es), omega (arith, ticks-from-start L es))
+pub every-twentieth : (L : Limits) (es : Input) → (beats-in L start es ≡ ticks-in L start es / beat-ticks)
+    × (run L start es .since ≡ ticks-in L start es % beat-ticks)
+every-twentieth L es = let l =
+    since-low L start es (omega arith) in (omega (arith, ticks-from-start L es), omega (arith, ticks-from-start L es))
 
 -- Beats rise by one at each accepted tick that is a twentieth, modulo 2^32.
 pub beats-counted : (L : Limits) (T : Tables) (es : Input) → T .beats < wrap → run L T es .beats ≡ (T .beats + beats-in L T es) % wrap
 unfolding run over-run
 beats-counted L T [] l = omega arith
-beats-counted L T (e ∷ es) l = let B : step L T e .tables .beats ≡ (T .beats + if-accepted beats-by L T e) % wrap = stepped 0 L T e .beat l in omega (arith, beats-counted L (step L T e .tables) es (omega arith))
+beats-counted L T (e ∷ es) l = let B : step L T e .tables .beats ≡ (T .beats + if-accepted beats-by L T e) % wrap =
+    stepped 0 L T e .beat l in omega (arith, beats-counted L (step L T e .tables) es (omega arith))
 
 -- n is the name of one thread at every point of a run, so it is the same thread: it would be missing behind the event that ends it
 unfoldable pub one-through : Limits → ℕ → Tables → Input → Bool
@@ -294,22 +369,26 @@ one-first L n T [] h = eqb-true _ 1 h
 one-first L n T (e ∷ es) h = eqb-true _ 1 (and-left (count (named n) (T .threads) == 1) _ h)
 
 -- A thread's tick count rises by one at each accepted tick while it is the runner, modulo 2^32.
-pub ticks-counted : (L : Limits) (n : ℕ) (T : Tables) (es : Input) → one-through L n T es ≡ true → ticks-at n (T .threads) < wrap → ticks-at n (run L T es .threads) ≡ (ticks-at n (T .threads) + ticks-of L n T es) % wrap
+pub ticks-counted : (L : Limits) (n : ℕ) (T : Tables) (es : Input) → one-through L n T es ≡ true → ticks-at n (T .threads) < wrap →
+    ticks-at n (run L T es .threads) ≡ (ticks-at n (T .threads) + ticks-of L n T es) % wrap
 unfolding run over-run one-through
 ticks-counted L n T [] h l = omega arith
 ticks-counted L n T (e ∷ es) h l =
     let later = and-right (count (named n) (T .threads) == 1) _ h in
-    let C : ticks-at n (step L T e .tables .threads) ≡ (ticks-at n (T .threads) + if-accepted (own-ticks-by n) L T e) % wrap = stepped n L T e .count l (one-first L n T (e ∷ es) h) (one-first L n (step L T e .tables) es later) in
+    let C : ticks-at n (step L T e .tables .threads) ≡ (ticks-at n (T .threads) + if-accepted (own-ticks-by n) L T e) % wrap =
+    stepped n L T e .count l (one-first L n T (e ∷ es) h) (one-first L n (step L T e .tables) es later) in
     omega (arith, ticks-counted L n (step L T e .tables) es later (omega arith))
 
 module _ (L : Limits) (n : ℕ) (l : L .threads < names) where
   one-of : (T : Tables) → table-rules L T ≡ true → live n T ≡ true → (count (named n) (T .threads) == 1) ≡ true
-  one-of T R h = eq-eqb (count (named n) (T .threads)) 1 (omega (arith, tested-ruled L T R .inv .agree .once n, any-count (named n) (T .threads) h))
+  one-of T R h =
+      eq-eqb (count (named n) (T .threads)) 1 (omega (arith, tested-ruled L T R .inv .agree .once n, any-count (named n) (T .threads) h))
 
   one-alive : (T : Tables) (es : Input) → table-rules L T ≡ true → lives-through L n T es ≡ true → one-through L n T es ≡ true
   unfolding one-through lives-through
   one-alive T [] R h = one-of T R h
-  one-alive T (e ∷ es) R h = one-of T R (and-left (live n T) _ h) & one-alive (step L T e .tables) es (rules-are-kept L T e l R) (and-right (live n T) _ h)
+  one-alive T (e ∷ es) R h =
+      one-of T R (and-left (live n T) _ h) & one-alive (step L T e .tables) es (rules-are-kept L T e l R) (and-right (live n T) _ h)
 
   ticks-low : (T : Tables) → table-rules L T ≡ true → ticks-at n (T .threads) < wrap
   unfolding of-thread
@@ -320,5 +399,6 @@ module _ (L : Limits) (n : ℕ) (l : L .threads < names) where
       go (t ∷ ts) h = by-if (λ (x : ℕ). x < wrap) (named n t) (λ _. h t (List·Memᴰ·head refl)) (λ _. go ts (λ u m. h u (List·Memᴰ·tail m)))
 
   -- The same from tables that meet the rules, of a thread that is live at every point.
-  pub ticks-counted-alive : (T : Tables) (es : Input) → table-rules L T ≡ true → lives-through L n T es ≡ true → ticks-at n (run L T es .threads) ≡ (ticks-at n (T .threads) + ticks-of L n T es) % wrap
+  pub ticks-counted-alive : (T : Tables) (es : Input) → table-rules L T ≡ true → lives-through L n T es ≡ true →
+      ticks-at n (run L T es .threads) ≡ (ticks-at n (T .threads) + ticks-of L n T es) % wrap
   ticks-counted-alive T es R h = ticks-counted L n T es (one-alive T es R h) (ticks-low T R)

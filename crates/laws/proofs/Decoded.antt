@@ -54,7 +54,8 @@ unfolding meaning Proper ProperCall
 meaning-proper tag v b e =
     by-if Proper (tag == 16) (λ t. word 1 v (e ∙ at 16 t ∙ sizes .0) b) λ n16.
     by-if Proper (tag == 17) (λ t. tt) λ n17.
-    by-if Proper (tag == 18) (λ t. by-if Proper (meets (argument-rule (getD v 0 0)) (number (drop 1 v))) (λ h. request-proper _ _ h) (λ _. tt)) λ n18.
+    by-if Proper (tag == 18) (λ t. by-if Proper (meets (argument-rule (getD v 0 0)) (number (drop 1 v))) (λ h. request-proper _ _ h)
+    (λ _. tt)) λ n18.
     by-if Proper (tag == 19) (λ t. trap-proper _ _ (word 1 v (e ∙ at 19 t ∙ sizes .1) b)) λ n19.
     by-if Proper (tag == 20) (λ t. tt) λ n20.
     by-if Proper (tag == 21) (λ t. interrupt-proper (number (take 8 v)) (number (drop 8 v)) (word 8 v (e ∙ at 21 t ∙ sizes .2) b)) (λ _. tt)
@@ -74,7 +75,8 @@ field-proper (tag ∷ high ∷ low ∷ v) b =
     by-if Proper (tag-facts tag .known && (high * 256 + low == tag-facts tag .length) && (length v == high * 256 + low))
     (λ h.
     let k = and-left (tag-facts tag .known && (high * 256 + low == tag-facts tag .length)) _ h in
-    meaning-proper tag v rest (eqb-true (length v) _ (and-right (tag-facts tag .known && (high * 256 + low == tag-facts tag .length)) _ h) ∙ eqb-true (high * 256 + low) _ (and-right (tag-facts tag .known) _ k)))
+    meaning-proper tag v rest (eqb-true (length v) _ (and-right (tag-facts tag .known && (high * 256 + low == tag-facts tag .length)) _ h)
+    ∙ eqb-true (high * 256 + low) _ (and-right (tag-facts tag .known) _ k)))
     (λ _. tt)
   where
     rest : Bytes v

@@ -15,8 +15,10 @@ pub determined : {A : Type 0} {x y z : A} → x ≡ z → y ≡ z → x ≡ y
 determined p q = p ∙ sym q
 
 -- A step: the decision, and the tables after it as the dump shows them. Refusals are steps too.
-pub step-determined : (L : Limits) (T : Tables) (bytes : List ℕ) (a b : Stepped) → a ≡ step L T bytes → b ≡ step L T bytes → (a .decision ≡ b .decision) × (dump (a .tables) ≡ dump (b .tables))
-step-determined L T bytes a b p q = let e : a ≡ b = determined p q in (ap (λ (s : Stepped). s .decision) e, ap (λ (s : Stepped). dump (s .tables)) e)
+pub step-determined : (L : Limits) (T : Tables) (bytes : List ℕ) (a b : Stepped) → a ≡ step L T bytes → b ≡ step L T bytes →
+    (a .decision ≡ b .decision) × (dump (a .tables) ≡ dump (b .tables))
+step-determined L T bytes a b p q =
+    let e : a ≡ b = determined p q in (ap (λ (s : Stepped). s .decision) e, ap (λ (s : Stepped). dump (s .tables)) e)
 
 -- The start: the tables.
 pub start-determined : (a b : Tables) → a ≡ start → b ≡ start → dump a ≡ dump b

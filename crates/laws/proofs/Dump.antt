@@ -11,7 +11,6 @@ use borrow.Author.Tests.{ne-eqb, eq-eqb, le-leb, ltb-true, lt-ltb}
 use Rattle.rules.specs.Lists.{if_then_else_, _==_, all, any, keep, each, times-in, same, is-byte, number, two-bytes, four-bytes}
 use Rattle.rules.specs.Numbers.{Limits, names, service, nobody, devices, wrap}
 use Rattle.rules.specs.Words.{by-state, by-wanted, by-manager, by-parent, by-runner}
-use Rattle.laws.specs.Words.{Wanted, Anybody, Only, TrapKind, Program, Tlb, SysBp, State, Running, Ready, Receiving, Clock, Device, Trapped, Answer, Nothing, FromMessage, FromNotice, SenderGone, Result, Manager, Unset, Set, Gone, Managers, Parent, NoParent, ParentIs, Thread, MessageKind, Ordinary, Notice, Message, Held, Runner, NoRunner, Runs, Status, Working, Idle, Halted, Panicked}
 use Rattle.rules.specs.Tables.{Tables, named, manager, me}
 use Rattle.rules.specs.States.{is-ready, on-clock}
 use Rattle.rules.specs.Dispatch.{status}
@@ -20,14 +19,20 @@ use Rattle.rules.specs.Events.{wanted}
 use Rattle.rules.specs.Codes.{status-code, slice-code, answer-numbers, trap-code, state-numbers, manager-code, parent-code, message-code}
 use Rattle.rules.specs.TableRules.{answer-in-range, table-rules}
 use Rattle.rules.specs.Dump.{field, head-value, answer-value, thread-value, message-value, held-value, dump}
-use Rattle.rules.specs.Load.{Field, as-field, fields-of, runner-from, parent-from, manager-from, trap-kind-from, state-from, answer-from, message-kind-from, at, word-at, thread-from, message-from, held-from, values-of, value-of, tables-from, told, Loaded, no-dump, loaded, load}
+use Rattle.rules.specs.Load.{Field, as-field, fields-of, runner-from, parent-from, manager-from, trap-kind-from, state-from, answer-from}
+use Rattle.rules.specs.Load.{message-kind-from, at, word-at, thread-from, message-from, held-from, values-of, value-of, tables-from, told}
+use Rattle.rules.specs.Load.{Loaded, no-dump, loaded, load}
+use Rattle.laws.specs.Words.{Wanted, Anybody, Only, TrapKind, Program, Tlb, SysBp, State, Running, Ready, Receiving, Clock, Device}
+use Rattle.laws.specs.Words.{Trapped, Answer, Nothing, FromMessage, FromNotice, SenderGone, Result, Manager, Unset, Set, Gone}
+use Rattle.laws.specs.Words.{Managers, Parent, NoParent, ParentIs, Thread, MessageKind, Ordinary, Notice, Message, Held, Runner}
+use Rattle.laws.specs.Words.{NoRunner, Runs, Status, Working, Idle, Halted, Panicked}
+use Rattle.laws.specs.Batch.{one-field, joined}
+use Rattle.laws.specs.Types.{here, Entry, Detail, Ruled}
 use Rattle.laws.proofs.Tests.{by-if, same?, and-left, and-right, _&_}
 use Rattle.laws.proofs.Tally.{all-of, all-both, each-append, all-each}
 use Rattle.laws.proofs.Members.{map-back, member-times, same-refl, same-true}
-use Rattle.laws.specs.Batch.{one-field, joined}
 use Rattle.laws.proofs.Batch.{cut-is-the-only-one}
 use Rattle.laws.proofs.Bytes.{two-are-bytes, four-are-bytes, two-back, four-back}
-use Rattle.laws.specs.Types.{here, Entry, Detail, Ruled}
 use Rattle.laws.proofs.Threads.{member-live, here-live}
 use Rattle.laws.proofs.PlacesKept.{runner-live}
 use Rattle.laws.proofs.Sound.{tested-ruled}
@@ -67,7 +72,8 @@ state-back Clock h = refl
 state-back (Device d) h = refl
 state-back (Trapped k) h = ap Trapped (trap-back k)
 
-answer-back : (a : Answer) → answer-in-range a ≡ true → answer-from (answer-numbers a .kind) (answer-numbers a .sender) (number (four-bytes (answer-numbers a .word))) ≡ a
+answer-back : (a : Answer) → answer-in-range a ≡ true →
+    answer-from (answer-numbers a .kind) (answer-numbers a .sender) (number (four-bytes (answer-numbers a .word))) ≡ a
 unfolding answer-numbers answer-in-range
 answer-back Nothing h = refl
 answer-back (FromMessage n w) h = ap (FromMessage n) (four-back w (ltb-true w wrap (and-right (ltb n names) _ h)))
@@ -261,7 +267,9 @@ unfolding keep
 values-tagged n m [] = by-if (λ (l : List (List ℕ)). [] ≡ l) (m == n) (λ e. refl) (λ e. refl)
 values-tagged n m (v ∷ vs) = go (m == n) (values-tagged n m vs)
   where
-    go : (b : Bool) → values-of n (tagged m vs) ≡ (if b then vs else []) → map (λ f. f .value) (if b then record { tag = m; value = v } ∷ keep (λ f. f .tag == n) (tagged m vs) else keep (λ f. f .tag == n) (tagged m vs)) ≡ (if b then v ∷ vs else [])
+    go : (b : Bool) → values-of n (tagged m vs) ≡ (if b then vs else []) →
+        map (λ f. f .value) (if b then record { tag = m; value = v }
+        ∷ keep (λ f. f .tag == n) (tagged m vs) else keep (λ f. f .tag == n) (tagged m vs)) ≡ (if b then v ∷ vs else [])
     go true e = ap (λ (l : List (List ℕ)). v ∷ l) e
     go false e = e
 
@@ -270,7 +278,9 @@ unfolding keep
 values-append n [] gs = refl
 values-append n (f ∷ fs) gs = go (f .tag == n) (values-append n fs gs)
   where
-    go : (b : Bool) → values-of n (fs ++ gs) ≡ values-of n fs ++ values-of n gs → map (λ f. f .value) (if b then f ∷ keep (λ f. f .tag == n) (fs ++ gs) else keep (λ f. f .tag == n) (fs ++ gs)) ≡ map (λ f. f .value) (if b then f ∷ keep (λ f. f .tag == n) fs else keep (λ f. f .tag == n) fs) ++ values-of n gs
+    go : (b : Bool) → values-of n (fs ++ gs) ≡ values-of n fs ++ values-of n gs →
+        map (λ f. f .value) (if b then f ∷ keep (λ f. f .tag == n) (fs ++ gs) else keep (λ f. f .tag == n) (fs ++ gs)) ≡ map (λ f. f .value)
+        (if b then f ∷ keep (λ f. f .tag == n) fs else keep (λ f. f .tag == n) fs) ++ values-of n gs
     go true e = ap (λ (l : List (List ℕ)). f .value ∷ l) e
     go false e = e
 
@@ -300,7 +310,8 @@ one-value : (v : List ℕ) (vs : List (List ℕ)) → vs ≡ v ∷ [] → each (
 unfolding each
 one-value v vs e = ap (each (λ x. x)) e ∙ append-nil v
 
-values-back : {A : Type 0} (code : A → List ℕ) (read : List ℕ → A) (xs : List A) (vs : List (List ℕ)) → vs ≡ map code xs → ((x : A) → List·Memᴰ x xs → read (code x) ≡ x) → map read vs ≡ xs
+values-back : {A : Type 0} (code : A → List ℕ) (read : List ℕ → A) (xs : List A) (vs : List (List ℕ)) → vs ≡ map code xs →
+    ((x : A) → List·Memᴰ x xs → read (code x) ≡ x) → map read vs ≡ xs
 values-back code read xs vs e h = ap (map read) e ∙ map-back code read xs h
 
 -- The fields of tables that meet the rules give back the tables.
@@ -312,10 +323,12 @@ tables-back L T r =
       runner = (ap (λ (v : List ℕ). runner-from (at v 2) (at v 3)) head ∙ told .runner) i;
       since = (ap (λ (v : List ℕ). at v 4) head ∙ told .since) i;
       beats = (ap (λ (v : List ℕ). word-at v 5) head ∙ told .beats) i;
-      threads = values-back thread-value thread-from (T .threads) _ (values-fields 2 T ∙ simp append-nil) (λ t m. thread-back t (thread-ranged L T r t m)) i;
+      threads = values-back thread-value thread-from (T .threads) _ (values-fields 2 T ∙ simp append-nil)
+          (λ t m. thread-back t (thread-ranged L T r t m)) i;
       ready = one-value (T .ready) _ (values-fields 3 T ∙ simp append-nil) i;
       clock = one-value (T .clock) _ (values-fields 4 T ∙ simp append-nil) i;
-      messages = values-back message-value message-from (T .messages) _ (values-fields 5 T ∙ simp append-nil) (λ m n. message-back m (r .fits .messages m n .word)) i;
+      messages = values-back message-value message-from (T .messages) _ (values-fields 5 T ∙ simp append-nil)
+          (λ m n. message-back m (r .fits .messages m n .word)) i;
       held = values-back held-value held-from (T .held) _ (values-fields 6 T) (λ h m. held-back h (r .fits .held h m .1)) i;
     }
   where
@@ -327,7 +340,8 @@ tables-back L T r =
 
 -- ---- the fields are short
 
-short-tagged : {A : Type 0} (n k : ℕ) (f : A → List ℕ) (xs : List A) → ((x : A) → length (f x) ≡ k) → k < 65536 → all short (tagged n (map f xs)) ≡ true
+short-tagged : {A : Type 0} (n k : ℕ) (f : A → List ℕ) (xs : List A) → ((x : A) → length (f x) ≡ k) → k < 65536 →
+    all short (tagged n (map f xs)) ≡ true
 unfolding all
 short-tagged n k f [] h l = refl
 short-tagged n k f (x ∷ xs) h l = lt-ltb (length (f x)) 65536 (omega (arith, h x)) & short-tagged n k f xs h l
@@ -345,7 +359,8 @@ fields-short L T r =
     (all-both short _ _
     (all-both short _ _
     (all-both short _ _
-    (all-both short _ _ (short-one 1 (head-value T) (omega (arith, head-length T))) (short-tagged 2 17 thread-value (T .threads) thread-length (omega arith)))
+    (all-both short _ _ (short-one 1 (head-value T) (omega (arith, head-length T)))
+    (short-tagged 2 17 thread-value (T .threads) thread-length (omega arith)))
     (short-one 3 (T .ready) (omega arith)))
     (short-one 4 (T .clock) (omega arith)))
     (short-tagged 5 7 message-value (T .messages) message-length (omega arith)))
@@ -413,8 +428,10 @@ thread-bytes t r =
     let s = state-bytes (t .state) (r .state) in
     let a = answer-bytes (t .answer) (r .answer) in
     a-byte (t .name) (omega (arith, r .name)) & (a-byte _ (parent-byte (t .parent) (r .parent)) & (a-byte _ (s .0) & (a-byte _ (s .1)
-    & (a-byte _ (manager-byte _ (r .managers Program)) & (a-byte _ (manager-byte _ (r .managers Tlb)) & (a-byte _ (manager-byte _ (r .managers SysBp))
-    & all-both is-byte (four-bytes (t .ticks)) (answer-value (t .answer)) (four-are-bytes (t .ticks)) (a-byte _ (a .0) & (a-byte _ (a .1) & four-are-bytes (answer-numbers (t .answer) .word)))))))))
+    & (a-byte _ (manager-byte _ (r .managers Program))
+    & (a-byte _ (manager-byte _ (r .managers Tlb)) & (a-byte _ (manager-byte _ (r .managers SysBp))
+    & all-both is-byte (four-bytes (t .ticks)) (answer-value (t .answer)) (four-are-bytes (t .ticks))
+    (a-byte _ (a .0) & (a-byte _ (a .1) & four-are-bytes (answer-numbers (t .answer) .word)))))))))
 
 status-byte : (s : Status) → status-code s < 256
 unfolding status-code
@@ -440,18 +457,21 @@ module _ (L : Limits) (T : Tables) (r : Ruled L T) where
   head-bytes : all is-byte (head-value T) ≡ true
   unfolding all head-value
   head-bytes =
-      a-byte _ (status-byte (status T)) & (a-byte (T .last) (omega (arith, r .inv .last)) & (a-byte _ (runner-bytes .0) & (a-byte _ (runner-bytes .1)
+      a-byte _ (status-byte (status T))
+      & (a-byte (T .last) (omega (arith, r .inv .last)) & (a-byte _ (runner-bytes .0) & (a-byte _ (runner-bytes .1)
       & (a-byte (T .since) (omega (arith, r .steady .since)) & four-are-bytes (T .beats)))))
 
   -- a queue holds names of live threads
   queue-bytes : (p : State → Bool) (q : List ℕ) → ((n : ℕ) → here p n (T .threads) ≡ times-in q n) → all is-byte q ≡ true
-  queue-bytes p q h = all-of is-byte q (λ n m. a-byte n (omega (arith, r .inv .low n (here-live p n (T .threads) (omega (arith, h n, member-times q n m))))))
+  queue-bytes p q h = all-of is-byte q
+      (λ n m. a-byte n (omega (arith, r .inv .low n (here-live p n (T .threads) (omega (arith, h n, member-times q n m))))))
 
   message-bytes : (m : Message) → List·Memᴰ m (T .messages) → all is-byte (message-value m) ≡ true
   unfolding all message-value
   message-bytes m i =
       let p = r .fits .messages m i in
-      a-byte (m .to) (omega (arith, r .inv .low (m .to) (p .to-live))) & (a-byte (m .from) (omega (arith, r .inv .low (m .from) (p .from-live)))
+      a-byte (m .to) (omega (arith, r .inv .low (m .to) (p .to-live)))
+      & (a-byte (m .from) (omega (arith, r .inv .low (m .from) (p .from-live)))
       & (a-byte _ (kind-byte (m .kind)) & four-are-bytes (m .word)))
 
   held-bytes : (h : Held) → List·Memᴰ h (T .held) → all is-byte (held-value h) ≡ true
@@ -469,10 +489,12 @@ dump-bytes L T h =
     (all-both is-byte _ _
     (all-both is-byte _ _
     (field-bytes 1 (head-value T) (omega arith) (head-bytes L T r))
-    (all-each is-byte (λ t. field 2 (thread-value t)) (T .threads) (λ t m. field-bytes 2 (thread-value t) (omega arith) (thread-bytes t (thread-ranged L T r t m)))))
+    (all-each is-byte (λ t. field 2 (thread-value t)) (T .threads)
+    (λ t m. field-bytes 2 (thread-value t) (omega arith) (thread-bytes t (thread-ranged L T r t m)))))
     (field-bytes 3 (T .ready) (omega arith) (queue-bytes L T r is-ready (T .ready) (r .inv .agree .wait))))
     (field-bytes 4 (T .clock) (omega arith) (queue-bytes L T r on-clock (T .clock) (r .inv .agree .beat))))
-    (all-each is-byte (λ m. field 5 (message-value m)) (T .messages) (λ m i. field-bytes 5 (message-value m) (omega arith) (message-bytes L T r m i))))
+    (all-each is-byte (λ m. field 5 (message-value m)) (T .messages)
+    (λ m i. field-bytes 5 (message-value m) (omega arith) (message-bytes L T r m i))))
     (all-each is-byte (λ h. field 6 (held-value h)) (T .held) (λ h i. field-bytes 6 (held-value h) (omega arith) (held-bytes L T r h i)))
 
 -- ---- reading
@@ -496,10 +518,14 @@ load-is-dump L bytes T h = go _ refl h
     U : Tables
     U = told bytes
 
-    go : (b : Bool) → (table-rules L U && same (dump U) bytes) ≡ b → (if b then loaded U else no-dump) ≡ loaded T → (table-rules L T ≡ true) × (dump T ≡ bytes)
+    go : (b : Bool) → (table-rules L U && same (dump U) bytes) ≡ b → (if b then loaded U else no-dump) ≡ loaded T → (table-rules L T ≡ true)
+        × (dump T ≡ bytes)
     go true e k =
-        let s : U ≡ T = cc in
-        (ap (table-rules L) (sym s) ∙ and-left (table-rules L U) _ e, ap dump (sym s) ∙ same-true (dump U) bytes (and-right (table-rules L U) _ e))
+        let s : U ≡ T = cc in (
+          ap (table-rules L) (sym s) ∙ and-left (table-rules L U) _ e,
+          ap dump (sym s)
+              ∙ same-true (dump U) bytes (and-right (table-rules L U) _ e),
+        )
     go false e k = let z : _≡_ {A = ℕ} 0 1 = cc in absurd (omega arith)
 
 -- Two tables that meet the rules and have the same dump are the same.
@@ -513,7 +539,8 @@ pub loaded-exactly : (L : Limits) (bytes : List ℕ) (T : Tables) → (load L by
 loaded-exactly L bytes T = (load-is-dump L bytes T, λ h. ap (load L) (sym (h .1)) ∙ load-dump L T (h .0))
 
 -- Reading refuses bytes exactly if they are the dump of no tables that meet the rules.
-pub accepted-exactly-dumps : (L : Limits) (bytes : List ℕ) → (load L bytes ≡ no-dump) ↔ ((T : Tables) → table-rules L T ≡ true → dump T ≢ bytes)
+pub accepted-exactly-dumps : (L : Limits) (bytes : List ℕ) →
+    (load L bytes ≡ no-dump) ↔ ((T : Tables) → table-rules L T ≡ true → dump T ≢ bytes)
 accepted-exactly-dumps L bytes = (refused, λ h. go (load L bytes) refl h)
   where
     refused : load L bytes ≡ no-dump → (T : Tables) → table-rules L T ≡ true → dump T ≢ bytes

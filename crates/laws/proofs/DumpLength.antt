@@ -9,16 +9,17 @@ use lib.ListN.{length, length-append, length-map}
 use borrow.Author.Tests.{eqb-true}
 use Rattle.rules.specs.Lists.{_==_, keep, count, times-in}
 use Rattle.rules.specs.Numbers.{Limits, small, names, devices}
-use Rattle.laws.specs.Words.{Thread, Message, Held, Runner}
 use Rattle.rules.specs.Tables.{Tables, named}
 use Rattle.rules.specs.Waking.{is-ordinary, notice-of}
 use Rattle.rules.specs.TableRules.{table-rules}
 use Rattle.rules.specs.Tags.{head-size, thread-tag, thread-size, message-tag, message-size, held-tag, held-size}
 use Rattle.rules.specs.Dump.{field, head-value, thread-value, message-value, held-value, dump}
-use Rattle.laws.proofs.Tests.{same?, same-turned, and-right}
-use Rattle.laws.proofs.Tally.{count-append, count-map, count-same, count-not, count-keep, length-keep, any-count, count-any, any-member, length-each}
-use Rattle.laws.proofs.Ordered.{up-few}
+use Rattle.laws.specs.Words.{Thread, Message, Held, Runner}
 use Rattle.laws.specs.Types.{Places, Good, Ruled}
+use Rattle.laws.proofs.Tests.{same?, same-turned, and-right}
+use Rattle.laws.proofs.Tally.{count-append, count-map, count-same, count-not, count-keep, length-keep, any-count, count-any}
+use Rattle.laws.proofs.Tally.{any-member, length-each}
+use Rattle.laws.proofs.Ordered.{up-few}
 use Rattle.laws.proofs.Queues.{no-longer}
 use Rattle.laws.proofs.Threads.{member-live, apart}
 use Rattle.laws.proofs.Sound.{tested-ruled}
@@ -55,7 +56,13 @@ is-notice m = not (is-ordinary (m .kind))
 -- the senders of notices live, and each has sent one at most
 notices-few : (b : ℕ) (ts : List Thread) (ms : List Message) (hs : List Held) → Good b ts ms hs → count is-notice ms ≤ length ts
 notices-few b ts ms hs g =
-    omega (arith, no-longer senders (map (λ t. t .name) ts) at-most, length-map (keep is-notice ms) (λ m. m .from), length-keep is-notice ms, length-map ts (λ t. t .name))
+    omega (
+      arith,
+      no-longer senders (map (λ t. t .name) ts) at-most,
+      length-map (keep is-notice ms) (λ m. m .from),
+      length-keep is-notice ms,
+      length-map ts (λ t. t .name),
+    )
   where
     senders : List ℕ
     senders = map (λ m. m .from) (keep is-notice ms)
@@ -84,7 +91,8 @@ messages-few b ts ms hs g =
 
 -- devices rise and are below 48
 pub held-few : (b : ℕ) (ts : List Thread) (ms : List Message) (hs : List Held) → Good b ts ms hs → length hs ≤ devices
-held-few b ts ms hs g = omega (arith, up-few (λ h. h .device) 0 devices hs (omega arith) (g .held-order) (λ h m. (omega arith, g .held h m .0)))
+held-few b ts ms hs g =
+    omega (arith, up-few (λ h. h .device) 0 devices hs (omega arith) (g .held-order) (λ h m. (omega arith, g .held h m .0)))
 
 -- ---- the dump
 
@@ -105,7 +113,8 @@ unfolding head-value
 head-length T = refl
 
 -- The length of a dump, by the lengths of its parts.
-pub dump-length : (T : Tables) → length (dump T) ≡ 12 + 20 * length (T .threads) + (3 + length (T .ready)) + (3 + length (T .clock)) + 10 * length (T .messages) + 8 * length (T .held)
+pub dump-length : (T : Tables) → length (dump T) ≡ 12 + 20 * length (T .threads) + (3 + length (T .ready)) + (3 + length (T .clock)) + 10
+    * length (T .messages) + 8 * length (T .held)
 unfolding dump
 dump-length T =
     simp length-append

@@ -7,16 +7,17 @@ use mathlib.Core.List.{List, map, List·Memᴰ, List·Memᴰ·append-cases}
 use native.Mathlib.Omega.{arith}
 use Rattle.rules.specs.Lists.{if_then_else_, keep, has}
 use Rattle.rules.specs.Words.{by-parent, by-runner}
-use Rattle.laws.specs.Ending.{Forgotten, Survives}
-use Rattle.laws.specs.Words.{Anybody, Only, TrapKind, Program, Tlb, SysBp, State, Running, Ready, Receiving, Clock, Device, Trapped, SenderGone, Manager, Unset, Set, Gone, Managers, ParentIs, Thread, Message, Runner, NoRunner, Runs}
 use Rattle.rules.specs.Tables.{Tables, in-state, manager}
 use Rattle.rules.specs.States.{awaits}
 use Rattle.rules.specs.Waking.{wake-those}
 use Rattle.rules.specs.Ending.{ended-set, gone-if, without-managers, remove, misses, told-gone, release, end}
+use Rattle.laws.specs.Words.{Anybody, Only, TrapKind, Program, Tlb, SysBp, State, Running, Ready, Receiving, Clock, Device, Trapped}
+use Rattle.laws.specs.Words.{SenderGone, Manager, Unset, Set, Gone, Managers, ParentIs, Thread, Message, Runner, NoRunner, Runs}
+use Rattle.laws.specs.Ending.{Forgotten, Survives}
+use Rattle.laws.specs.Closure.{Closed}
 use Rattle.laws.proofs.Tests.{by-if, clash, or-false, not-true}
 use Rattle.laws.proofs.Members.{mem-keep, keep-mem, mem-map, map-mem}
 use Rattle.laws.proofs.Threads.{left}
-use Rattle.laws.specs.Closure.{Closed}
 use Rattle.laws.proofs.Closure.{ended-set-closed}
 
 -- ---- the threads that stay, for any set
@@ -84,7 +85,8 @@ module _ (set : List ℕ) where
       })
 
   -- where a thread that stays comes from
-  pub origin : (ts : List Thread) (u : Thread) → List·Memᴰ u (stay ts) → (t : Thread) × List·Memᴰ t ts × (has (t .name) set ≡ false) × (u ≡ freed (without-managers set t)) × Survives set t u
+  pub origin : (ts : List Thread) (u : Thread) → List·Memᴰ u (stay ts) → (t : Thread) × List·Memᴰ t ts × (has (t .name) set ≡ false)
+      × (u ≡ freed (without-managers set t)) × Survives set t u
   origin ts u m =
       let a = mem-map freed (map (without-managers set) (left set ts)) m in
       let b = mem-map (without-managers set) (left set ts) (a .1) in
@@ -93,8 +95,10 @@ module _ (set : List ℕ) where
       (b .0, c .0, not-true _ (c .1), e, subst (λ (x : Thread). Survives set (b .0) x) (sym e) (survives (b .0)))
 
   -- a thread that is no member stays
-  pub lasting : (ts : List Thread) (t : Thread) → List·Memᴰ t ts → has (t .name) set ≡ false → List·Memᴰ (freed (without-managers set t)) (stay ts)
-  lasting ts t m o = map-mem freed _ (map-mem (without-managers set) (left set ts) (keep-mem (λ u. not (has (u .name) set)) ts m (ap not o)))
+  pub lasting : (ts : List Thread) (t : Thread) → List·Memᴰ t ts → has (t .name) set ≡ false →
+      List·Memᴰ (freed (without-managers set t)) (stay ts)
+  lasting ts t m o =
+      map-mem freed _ (map-mem (without-managers set) (left set ts) (keep-mem (λ u. not (has (u .name) set)) ts m (ap not o)))
 
   -- ---- what the parts no longer name
 
@@ -108,7 +112,8 @@ module _ (set : List ℕ) where
       go false h i = let j : m ≡ n = cc in rw j at h
   set-left Gone n e = let z : _≡_ {A = ℕ} 0 1 = cc in absurd (omega arith)
 
-  runner-left : (r : Runner) (n s : ℕ) → by-runner NoRunner (λ m z. if has m set then NoRunner else Runs m z) r ≡ Runs n s → has n set ≡ false
+  runner-left : (r : Runner) (n s : ℕ) → by-runner NoRunner (λ m z. if has m set then NoRunner else Runs m z) r ≡ Runs n s →
+      has n set ≡ false
   runner-left NoRunner n s e = let z : _≡_ {A = ℕ} 0 1 = cc in absurd (omega arith)
   runner-left (Runs m z) n s e = go (has m set) refl e
     where
@@ -121,7 +126,8 @@ module _ (set : List ℕ) where
   wanted-left t u S n e = go (misses set (t .state)) refl
     where
       go : (b : Bool) → misses set (t .state) ≡ b → has n set ≡ false
-      go true h = let r = missed (t .state) h in let w = S .told (r .0) (r .1) (r .2) in let z : _≡_ {A = ℕ} 0 1 = cc (w .0) in absurd (omega arith)
+      go true h = let r = missed (t .state) h in let w = S .told (r .0) (r .1) (r .2) in let z : _≡_ {A = ℕ} 0 1 = cc (w .0) in
+          absurd (omega arith)
       go false h = let w = S .same (λ m i. sym (receiver-misses m i) ∙ h) in sym (receiver-misses n (sym (w .0) ∙ e)) ∙ h
 
   -- a name that is kept is no member's
@@ -129,16 +135,20 @@ module _ (set : List ℕ) where
   kept-left l x m = not-true _ (mem-keep (λ y. not (has y set)) l m .1)
 
   -- nor is that of a thread that is told of an end
-  woken-left : (ts : List Thread) (x : ℕ) → List·Memᴰ x (map (λ t. t .name) (keep (λ t. misses set (t .state)) (map (without-managers set) (left set ts)))) → has x set ≡ false
+  woken-left : (ts : List Thread) (x : ℕ) →
+      List·Memᴰ x (map (λ t. t .name) (keep (λ t. misses set (t .state)) (map (without-managers set) (left set ts)))) → has x set ≡ false
   unfolding without-managers
   woken-left ts x m =
       let a = mem-map (λ (t : Thread). t .name) (keep (λ t. misses set (t .state)) (map (without-managers set) (left set ts))) m in
-      let b = mem-map (without-managers set) (left set ts) (mem-keep (λ t. misses set (t .state)) (map (without-managers set) (left set ts)) (a .1) .0) in
+      let b = mem-map (without-managers set) (left set ts)
+      (mem-keep (λ t. misses set (t .state)) (map (without-managers set) (left set ts)) (a .1) .0) in
       let e : x ≡ b .0 .name = a .2 ∙ ap (λ (t : Thread). t .name) (b .2) in
       ap (λ (y : ℕ). has y set) e ∙ not-true _ (mem-keep (λ t. not (has (t .name) set)) ts (b .1) .1)
 
-  pub message-left : (ms : List Message) (m : Message) → List·Memᴰ m (stay-messages ms) → List·Memᴰ m ms × (has (m .to) set ≡ false) × (has (m .from) set ≡ false)
-  message-left ms m i = let k = mem-keep (λ x. not (has (x .to) set || has (x .from) set)) ms i in let o = or-false (has (m .to) set) _ (not-true _ (k .1)) in (k .0, o .0, o .1)
+  pub message-left : (ms : List Message) (m : Message) → List·Memᴰ m (stay-messages ms) → List·Memᴰ m ms × (has (m .to) set ≡ false)
+      × (has (m .from) set ≡ false)
+  message-left ms m i = let k = mem-keep (λ x. not (has (x .to) set || has (x .from) set)) ms i in
+      let o = or-false (has (m .to) set) _ (not-true _ (k .1)) in (k .0, o .0, o .1)
 
   -- what stays has no member as parent and is trapped on none
   module _ {ts : List Thread} (C : Closed (λ x. has x set) ts) (t : Thread) (m : List·Memᴰ t ts) (o : has (t .name) set ≡ false) where
@@ -169,18 +179,21 @@ origins n T u m = let r = origin (ended-set (T .threads) n) (T .threads) u m in 
 pub survivors : (n : ℕ) (T : Tables) (t : Thread) → List·Memᴰ t (T .threads) → has (t .name) (ended-set (T .threads) n) ≡ false →
     (u : Thread) × List·Memᴰ u (end n T .threads) × Survives (ended-set (T .threads) n) t u
 unfolding end release remove wake-those
-survivors n T t m o = let set = ended-set (T .threads) n in (freed set (without-managers set t), lasting set (T .threads) t m o, survives set t)
+survivors n T t m o = let set =
+    ended-set (T .threads) n in (freed set (without-managers set t), lasting set (T .threads) t m o, survives set t)
 
 -- After an ending no place of the tables names a member of the ended set.
 pub ending-forgets : (n : ℕ) (T : Tables) → Forgotten (ended-set (T .threads) n) (end n T)
 ending-forgets n T = let set = ended-set (T .threads) n in record {
   threads = λ u m. let r = origins n T u m in ap (λ (x : ℕ). has x set) (r .3 .name) ∙ r .2;
-  parents = λ u m p e. let r = origins n T u m in parent-left set (ended-set-closed (T .threads) n) (r .0) (r .1) (r .2) p (sym (r .3 .parent) ∙ e);
+  parents = λ u m p e. let r = origins n T u m in
+      parent-left set (ended-set-closed (T .threads) n) (r .0) (r .1) (r .2) p (sym (r .3 .parent) ∙ e);
   wanted = λ u m x e. let r = origins n T u m in wanted-left set (r .0) u (r .3) x e;
   managers = λ u m k x e. let r = origins n T u m in set-left set _ x (sym (r .3 .managers k) ∙ e);
   senders = λ x m. message-left set (T .messages) x (unfold end release remove wake-those in m) .2;
   receivers = λ x m. message-left set (T .messages) x (unfold end release remove wake-those in m) .1;
-  ready = λ x m. unfold end release remove wake-those in ⊎-elim (kept-left set (T .ready) x) (woken-left set (T .threads) x) (List·Memᴰ·append-cases _ m);
+  ready = λ x m. unfold end release remove wake-those in
+      ⊎-elim (kept-left set (T .ready) x) (woken-left set (T .threads) x) (List·Memᴰ·append-cases _ m);
   clock = λ x m. kept-left set (T .clock) x (unfold end release remove wake-those in m);
   runner = λ x s e. runner-left set (T .runner) x s (unfold end release remove wake-those in e);
 }

@@ -25,11 +25,15 @@ use Rattle.rules.specs.Dispatch.{dispatch}
 use Rattle.rules.specs.Events.{decode}
 use Rattle.rules.specs.Step.{serve, act, step}
 use Rattle.rules.specs.TableRules.{table-rules}
+use Rattle.laws.specs.Words.{TrapKind, Program, Tlb, SysBp, State, Running, Ready, Receiving, Clock, Device, Trapped, Answer, Nothing}
+use Rattle.laws.specs.Words.{Result, Manager, Unset, Set, Gone, Parent, Thread, Message, Held, Runs, Oneself, Named, Call, Send}
+use Rattle.laws.specs.Words.{Receive, CreateBrother, CreateSon, Terminate, SetManager, GetCpuTime, WaitForClock, WaitForIo, Trap}
+use Rattle.laws.specs.Words.{Event, Malformed, ByRunner, Tick, Interrupt}
 use Rattle.laws.specs.Entries.{Fate, stays, goes, is-set}
-use Rattle.laws.specs.Words.{TrapKind, Program, Tlb, SysBp, State, Running, Ready, Receiving, Clock, Device, Trapped, Answer, Nothing, Result, Manager, Unset, Set, Gone, Parent, Thread, Message, Held, Runs, Oneself, Named, Call, Send, Receive, CreateBrother, CreateSon, Terminate, SetManager, GetCpuTime, WaitForClock, WaitForIo, Trap, Event, Malformed, ByRunner, Tick, Interrupt}
+use Rattle.laws.specs.Types.{Entry}
+use Rattle.laws.specs.Requests.{entry, requester}
 use Rattle.laws.proofs.Tests.{by-if, by-runs, clash, same?}
 use Rattle.laws.proofs.Tally.{none-any}
-use Rattle.laws.specs.Types.{Entry}
 use Rattle.laws.proofs.Threads.{live-member, of-only, left, turned, turned-name, turned-live}
 use Rattle.laws.proofs.Steps.{by-step, by-dispatch}
 use Rattle.laws.proofs.Single.{of-none}
@@ -37,7 +41,6 @@ use Rattle.laws.proofs.Names.{name-free}
 use Rattle.laws.proofs.Ending.{gone-all, gone-manager, origins, ending-forgets}
 use Rattle.laws.proofs.Sound.{tested-ruled}
 use Rattle.laws.proofs.Kept.{rules-are-kept}
-use Rattle.laws.specs.Requests.{entry, requester}
 use Rattle.laws.proofs.Requests.{put, put-sets, put-keeps}
 
 -- ---- an ending
@@ -57,7 +60,8 @@ gone-other set Gone h = refl
 pub ended-managers-are-gone : (n : ℕ) (T : Tables) (u : Thread) → List·Memᴰ u (end n T .threads) →
     (t : Thread) × List·Memᴰ t (T .threads) × (t .name ≡ u .name)
     × ((k : TrapKind) (m : ℕ) → manager k (t .managers) ≡ Set m → has m (ended-set (T .threads) n) ≡ true → manager k (u .managers) ≡ Gone)
-    × ((k : TrapKind) → ((m : ℕ) → manager k (t .managers) ≡ Set m → has m (ended-set (T .threads) n) ≡ false) → manager k (u .managers) ≡ manager k (t .managers))
+    × ((k : TrapKind) → ((m : ℕ) → manager k (t .managers) ≡ Set m → has m (ended-set (T .threads) n) ≡ false) →
+    manager k (u .managers) ≡ manager k (t .managers))
 ended-managers-are-gone n T u i =
     let r = origins n T u i in
     let set = ended-set (T .threads) n in (
@@ -72,12 +76,15 @@ ended-managers-are-gone n T u i =
 
 module _ (k : TrapKind) (n : ℕ) where
   -- those that pass are changed, and keep name and managers
-  entry-some : (p : Thread → Bool) (f : Thread → Thread) → ((t : Thread) → f t .name ≡ t .name) → ((t : Thread) → f t .managers ≡ t .managers) → (ts : List Thread) → entry k n (map (turned p f) ts) ≡ entry k n ts
+  entry-some : (p : Thread → Bool) (f : Thread → Thread) → ((t : Thread) → f t .name ≡ t .name) →
+      ((t : Thread) → f t .managers ≡ t .managers) → (ts : List Thread) → entry k n (map (turned p f) ts) ≡ entry k n ts
   unfolding of-thread
   entry-some p f a b [] = refl
   entry-some p f a b (t ∷ ts) =
       rw (turned-name p f a t)
-      (ap₂ (λ (x y : Manager). if named n t then x else y) (by-if (λ (u : Thread). manager k (u .managers) ≡ manager k (t .managers)) (p t) (λ _. ap (manager k) (b t)) (λ _. refl)) (entry-some p f a b ts))
+      (ap₂ (λ (x y : Manager). if named n t then x else y)
+      (by-if (λ (u : Thread). manager k (u .managers) ≡ manager k (t .managers)) (p t) (λ _. ap (manager k) (b t)) (λ _. refl))
+      (entry-some p f a b ts))
 
   entry-gone : (set : List ℕ) (ts : List Thread) → entry k n (map (without-managers set) ts) ≡ gone-if set (entry k n ts)
   unfolding of-thread without-managers gone-if
@@ -85,7 +92,8 @@ module _ (k : TrapKind) (n : ℕ) where
   entry-gone set (t ∷ ts) = go (named n t) (entry-gone set ts)
     where
       go : (b : Bool) → entry k n (map (without-managers set) ts) ≡ gone-if set (entry k n ts) →
-          (if b then manager k (gone-all set (t .managers)) else entry k n (map (without-managers set) ts)) ≡ gone-if set (if b then manager k (t .managers) else entry k n ts)
+          (if b then manager k (gone-all set (t .managers)) else entry k n (map (without-managers set) ts)) ≡ gone-if set
+          (if b then manager k (t .managers) else entry k n ts)
       go true later = gone-manager set k (t .managers)
       go false later = later
 
@@ -95,7 +103,8 @@ module _ (k : TrapKind) (n : ℕ) where
   entry-left set o (t ∷ ts) =
       ⊎-elim
       (λ e. rw (ap (λ (m : ℕ). has m set) (sym (e .0)) ∙ o, e .1))
-      (λ e. by-if (λ (l : List Thread). entry k n l ≡ entry k n (t ∷ ts)) (not (has (t .name) set)) (λ _. rw (e .1) (entry-left set o ts)) (λ _. rw (e .1) (entry-left set o ts)))
+      (λ e. by-if (λ (l : List Thread). entry k n l ≡ entry k n (t ∷ ts)) (not (has (t .name) set)) (λ _. rw (e .1) (entry-left set o ts))
+      (λ _. rw (e .1) (entry-left set o ts)))
       (same? n (t .name))
 
   entry-insert : (p : Thread → Bool) (a : Thread) → named n a ≡ false → (ts : List Thread) → entry k n (insert p a ts) ≡ entry k n ts
@@ -116,7 +125,8 @@ module _ (k : TrapKind) (n : ℕ) (e : Event) where
   same : (T U : Tables) → entry k n (U .threads) ≡ entry k n (T .threads) → Fared k n T e U
   same T U i = record { fate = λ _. stays i }
 
-  woken : (p : Thread → Bool) (a : Thread → Answer) (ns : List ℕ) (T : Tables) → entry k n (wake-those p a ns T .threads) ≡ entry k n (T .threads)
+  woken : (p : Thread → Bool) (a : Thread → Answer) (ns : List ℕ) (T : Tables) →
+      entry k n (wake-those p a ns T .threads) ≡ entry k n (T .threads)
   unfolding wake-those
   woken p a ns T = entry-some k n p (λ t. in-state Ready (a t) t) (λ t. refl) (λ t. refl) (T .threads)
 
@@ -126,17 +136,23 @@ module _ (k : TrapKind) (n : ℕ) (e : Event) where
 
   delivered : (m : Message) (T : Tables) → entry k n (deliver m T .threads) ≡ entry k n (T .threads)
   unfolding deliver queue
-  delivered m T = by-if (λ (U : Tables). entry k n (U .threads) ≡ entry k n (T .threads)) (any (accepts m) (T .threads)) (λ _. woken _ _ _ T) (λ _. refl)
+  delivered m T = by-if (λ (U : Tables). entry k n (U .threads) ≡ entry k n (T .threads)) (any (accepts m) (T .threads))
+      (λ _. woken _ _ _ T) (λ _. refl)
 
   ended : (m : ℕ) (T : Tables) → Fared k n T e (end m T)
   unfolding end release remove wake-those
-  ended m T = record { fate = λ l. let r = live-member (end m T .threads) n l in go (entry k n (T .threads)) refl (looked (ap (λ (x : ℕ). has x set) (r .2) ∙ ending-forgets m T .threads (r .0) (r .1))) }
+  ended m T = record {
+    fate = λ l. let r = live-member (end m T .threads) n l in
+        go (entry k n (T .threads)) refl (looked (ap (λ (x : ℕ). has x set) (r .2) ∙ ending-forgets m T .threads (r .0) (r .1)));
+  }
     where
       set : List ℕ
       set = ended-set (T .threads) m
 
       looked : has n set ≡ false → entry k n (end m T .threads) ≡ gone-if set (entry k n (T .threads))
-      looked o = entry-some k n (λ t. misses set (t .state)) (λ t. in-state Ready (told-gone (t .state)) t) (λ t. refl) (λ t. refl) (map (without-managers set) (left set (T .threads))) ∙ entry-gone k n set (left set (T .threads)) ∙ ap (gone-if set) (entry-left k n set o (T .threads))
+      looked o = entry-some k n (λ t. misses set (t .state)) (λ t. in-state Ready (told-gone (t .state)) t) (λ t. refl) (λ t. refl)
+          (map (without-managers set) (left set (T .threads))) ∙ entry-gone k n set (left set (T .threads))
+          ∙ ap (gone-if set) (entry-left k n set o (T .threads))
 
       dead : (x : ℕ) → has x set ≡ true → live x (end m T) ≡ false
       dead x h = none-any (named x) (end m T .threads) (λ u i. out u i (named x u) refl)
@@ -145,7 +161,8 @@ module _ (k : TrapKind) (n : ℕ) (e : Event) where
           out u i true q = absurd (clash h (ap (λ (y : ℕ). has y set) (eqb-true x (u .name) q) ∙ ending-forgets m T .threads u i))
           out u i false q = q
 
-      go : (g : Manager) → entry k n (T .threads) ≡ g → entry k n (end m T .threads) ≡ gone-if set (entry k n (T .threads)) → Fate k n T e (end m T)
+      go : (g : Manager) → entry k n (T .threads) ≡ g → entry k n (end m T .threads) ≡ gone-if set (entry k n (T .threads)) →
+          Fate k n T e (end m T)
       go Unset i h = stays (h ∙ gone-other set _ (λ x j. let z : _≡_ {A = ℕ} 0 1 = cc in absurd (omega arith)))
       go (Set x) i h = in-set (has x set) refl
         where
@@ -173,7 +190,8 @@ module _ (k : TrapKind) (n : ℕ) (e : Event) where
 
   created : (p : Parent) (T : Tables) → live n T ≡ true → live (next-name T) T ≡ false → Fared k n T e (create p T .tables)
   unfolding create
-  created p T l d = same T _ (entry-insert k n (λ t. ltb (t .name) (next-name T)) (new-thread (next-name T) p Ready) (ne-eqb n (next-name T) (λ i. clash (ap (λ (x : ℕ). live x T) (sym i) ∙ l) d)) (T .threads))
+  created p T l d = same T _ (entry-insert k n (λ t. ltb (t .name) (next-name T)) (new-thread (next-name T) p Ready)
+      (ne-eqb n (next-name T) (λ i. clash (ap (λ (x : ℕ). live x T) (sym i) ∙ l) d)) (T .threads))
 
 -- two kinds are the same, or not
 kind? : (j k : TrapKind) → (j ≡ k) ⊎ (j ≢ k)
@@ -188,7 +206,8 @@ kind? SysBp Tlb = inr (λ e. let z : _≡_ {A = ℕ} 0 1 = cc in absurd (omega a
 kind? SysBp SysBp = inl refl
 
 module _ (k : TrapKind) (n : ℕ) (T : Tables) (l : live n T ≡ true) (d : live (next-name T) T ≡ false) where
-  set-by : (j : TrapKind) (x : ℕ) → entry j (requester T) (T .threads) ≡ Unset → Fared k n T (ByRunner (SetManager j x)) (put j x (requester T) T)
+  set-by : (j : TrapKind) (x : ℕ) → entry j (requester T) (T .threads) ≡ Unset →
+      Fared k n T (ByRunner (SetManager j x)) (put j x (requester T) T)
   set-by j x u = record {
     fate = λ _. ⊎-elim
         (λ i. ⊎-elim (λ h. own (i .0) h) (λ h. stays (put-keeps j x (requester T) T k n (inr h))) (kind? k j))
@@ -196,7 +215,10 @@ module _ (k : TrapKind) (n : ℕ) (T : Tables) (l : live n T ≡ true) (d : live
   }
     where
       own : n ≡ requester T → k ≡ j → Fate k n T (ByRunner (SetManager j x)) (put j x (requester T) T)
-      own i h = is-set x (ap₂ (λ (y : TrapKind) (m : ℕ). entry y m (T .threads)) h i ∙ u) (ap₂ (λ (y : TrapKind) (m : ℕ). entry y m (put j x (requester T) T .threads)) h i ∙ put-sets j x (requester T) T (ap (λ (m : ℕ). live m T) (sym i) ∙ l)) (ap (λ (y : TrapKind). ByRunner (SetManager y x)) (sym h)) (sym i)
+      own i h = is-set x (ap₂ (λ (y : TrapKind) (m : ℕ). entry y m (T .threads)) h i ∙ u)
+          (ap₂ (λ (y : TrapKind) (m : ℕ). entry y m (put j x (requester T) T .threads)) h i
+          ∙ put-sets j x (requester T) T (ap (λ (m : ℕ). live m T) (sym i) ∙ l)) (ap (λ (y : TrapKind). ByRunner (SetManager y x)) (sym h))
+          (sym i)
 
   served : (c : Call) → Fared k n T (ByRunner c) (serve (requester T) T c .tables)
   unfolding serve receive received wait-for-clock terminate set-over change take-held
@@ -212,7 +234,8 @@ module _ (k : TrapKind) (n : ℕ) (T : Tables) (l : live n T ≡ true) (d : live
   served (Terminate (Named x)) = ended k n _ x T
   served (SetManager j x) = go (entry j (requester T) (T .threads)) refl
     where
-      go : (g : Manager) → entry j (requester T) (T .threads) ≡ g → Fared k n T (ByRunner (SetManager j x)) (set-over g (requester T) j x T .tables)
+      go : (g : Manager) → entry j (requester T) (T .threads) ≡ g →
+          Fared k n T (ByRunner (SetManager j x)) (set-over g (requester T) j x T .tables)
       go Unset i = set-by j x i
       go (Set y) i = ended k n (ByRunner (SetManager j x)) (requester T) T
       go Gone i = ended k n (ByRunner (SetManager j x)) (requester T) T
@@ -227,23 +250,31 @@ module _ (k : TrapKind) (n : ℕ) (T : Tables) (l : live n T ≡ true) (d : live
 
   ticked : entry k n (tick T .threads) ≡ entry k n (T .threads)
   unfolding tick charge beat rotate change
-  ticked = rotated (beat (charge T)) ∙ beaten (charge T) ∙ by-runs (λ (U : Tables). entry k n (U .threads) ≡ entry k n (T .threads)) (T .runner) (λ _. refl) (λ m s _. entry-some k n (named m) (λ t. with-ticks (one-more (t .ticks)) t) (λ t. refl) (λ t. refl) (T .threads))
+  ticked = rotated (beat (charge T)) ∙ beaten (charge T)
+      ∙ by-runs (λ (U : Tables). entry k n (U .threads) ≡ entry k n (T .threads)) (T .runner) (λ _. refl)
+      (λ m s _. entry-some k n (named m) (λ t. with-ticks (one-more (t .ticks)) t) (λ t. refl) (λ t. refl) (T .threads))
     where
       rotated : (U : Tables) → entry k n (rotate U .threads) ≡ entry k n (U .threads)
-      rotated U = by-runs (λ (W : Tables). entry k n (W .threads) ≡ entry k n (U .threads)) (U .runner) (λ _. refl) (λ m s _. by-if (λ (W : Tables). entry k n (W .threads) ≡ entry k n (U .threads)) (s == 0) (λ _. woken k n Tick (named m) (λ t. Nothing) (m ∷ []) U) (λ _. refl))
+      rotated U = by-runs (λ (W : Tables). entry k n (W .threads) ≡ entry k n (U .threads)) (U .runner) (λ _. refl)
+          (λ m s _. by-if (λ (W : Tables). entry k n (W .threads) ≡ entry k n (U .threads)) (s == 0)
+          (λ _. woken k n Tick (named m) (λ t. Nothing) (m ∷ []) U) (λ _. refl))
 
       beaten : (U : Tables) → entry k n (beat U .threads) ≡ entry k n (U .threads)
-      beaten U = by-if (λ (W : Tables). entry k n (W .threads) ≡ entry k n (U .threads)) (U .since + 1 == beat-ticks) (λ _. unfold wake-those in entry-some k n (λ t. on-clock (t .state)) (in-state Ready (Result (one-more (U .beats)))) (λ t. refl) (λ t. refl) (U .threads)) (λ _. refl)
+      beaten U = by-if (λ (W : Tables). entry k n (W .threads) ≡ entry k n (U .threads)) (U .since + 1 == beat-ticks)
+          (λ _. unfold wake-those in entry-some k n (λ t. on-clock (t .state)) (in-state Ready (Result (one-more (U .beats)))) (λ t. refl)
+          (λ t. refl) (U .threads)) (λ _. refl)
 
   acted : (e : Event) → Fared k n T e (act T e .tables)
   unfolding act interrupt
   acted Malformed = same k n _ T T refl
   acted (ByRunner c) = served c
   acted Tick = same k n _ T _ ticked
-  acted (Interrupt x w) = by-if (Fared k n T (Interrupt x w)) (any (waits-for x) (T .threads)) (λ _. same k n _ T _ (woken k n (Interrupt x w) _ _ _ T)) (λ _. same k n _ T _ refl)
+  acted (Interrupt x w) = by-if (Fared k n T (Interrupt x w)) (any (waits-for x) (T .threads))
+      (λ _. same k n _ T _ (woken k n (Interrupt x w) _ _ _ T)) (λ _. same k n _ T _ refl)
 
   -- the front of the queue runs: entries and names stay
-  next : (e : Event) (m : ℕ) (q : List ℕ) (U : Tables) → Fared k n T e U → Fared k n T e (with-runner (Runs m full-slice) (with-ready q (change m (in-state Running Nothing) U)))
+  next : (e : Event) (m : ℕ) (q : List ℕ) (U : Tables) → Fared k n T e U →
+      Fared k n T e (with-runner (Runs m full-slice) (with-ready q (change m (in-state Running Nothing) U)))
   unfolding change
   next e m q U F = record { fate = λ i. go (F .fate (sym (alive n) ∙ i)) }
     where
@@ -262,7 +293,8 @@ module _ (k : TrapKind) (n : ℕ) (T : Tables) (l : live n T ≡ true) (d : live
       go (is-set x i j h o) = is-set x i (kept ∙ j) h o
 
   dispatched : (e : Event) → Fared k n T e (dispatch (act T e) .tables)
-  dispatched e = by-dispatch (Fared k n T e) (act T e) (λ _ _ _. acted e) (λ _ _. acted e) (λ m q _ _. next e m q (act T e .tables) (acted e))
+  dispatched e =
+      by-dispatch (Fared k n T e) (act T e) (λ _ _ _. acted e) (λ _ _. acted e) (λ m q _ _. next e m q (act T e .tables) (acted e))
 
 -- ---- the laws
 
@@ -274,13 +306,16 @@ entry-lives ts own m h = h .0
 module _ (L : Limits) (T : Tables) (bytes : List ℕ) (few : L .threads < names) (R : table-rules L T ≡ true) where
   -- Over any event, an entry of a thread that is live before and after it stays; or it named a thread that has ended, and is gone; or it
   -- was unset, and its thread has set it.
-  pub entry-fares : (k : TrapKind) (n : ℕ) → live n T ≡ true → live n (step L T bytes .tables) ≡ true → Fate k n T (decode bytes) (step L T bytes .tables)
+  pub entry-fares : (k : TrapKind) (n : ℕ) → live n T ≡ true → live n (step L T bytes .tables) ≡ true →
+      Fate k n T (decode bytes) (step L T bytes .tables)
   entry-fares k n l i =
       let I = tested-ruled L T R .inv in
-      by-step (λ (U : Tables) (b : Bool). Fared k n T (decode bytes) U) L T bytes (same k n _ T T refl) (λ _. dispatched k n T l (name-free L T few (I .last) (I .few)) (decode bytes)) .fate i
+      by-step (λ (U : Tables) (b : Bool). Fared k n T (decode bytes) U) L T bytes (same k n _ T T refl)
+      (λ _. dispatched k n T l (name-free L T few (I .last) (I .few)) (decode bytes)) .fate i
 
   -- An entry that named a thread that is no longer there is gone, not unset.
-  pub entry-of-the-ended-is-gone : (k : TrapKind) (n m : ℕ) → live n (step L T bytes .tables) ≡ true → entry k n (T .threads) ≡ Set m → live m (step L T bytes .tables) ≡ false →
+  pub entry-of-the-ended-is-gone : (k : TrapKind) (n m : ℕ) → live n (step L T bytes .tables) ≡ true → entry k n (T .threads) ≡ Set m →
+      live m (step L T bytes .tables) ≡ false →
       entry k n (step L T bytes .tables .threads) ≡ Gone
   entry-of-the-ended-is-gone k n m i e d = go (entry-fares k n (alive (live n T) refl) i)
     where
@@ -296,7 +331,8 @@ module _ (L : Limits) (T : Tables) (bytes : List ℕ) (few : L .threads < names)
           let S = tested-ruled L U (rules-are-kept L T bytes few R) in
           let r = live-member (U .threads) n i in
           let o = of-only Unset (λ t. manager k (t .managers)) n (U .threads) (S .inv .agree .once n) (r .0) (r .1) (sym (r .2)) in
-          entry-lives (U .threads) (r .0 .name) m (subst (Entry (U .threads) (r .0 .name)) (sym o ∙ h) (S .fits .threads (r .0) (r .1) .entries k))
+          entry-lives (U .threads) (r .0 .name) m
+          (subst (Entry (U .threads) (r .0 .name)) (sym o ∙ h) (S .fits .threads (r .0) (r .1) .entries k))
 
       go : Fate k n T (decode bytes) U → entry k n (U .threads) ≡ Gone
       go (stays h) = absurd (clash (set-lives (h ∙ e)) d)

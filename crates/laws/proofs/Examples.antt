@@ -1,4 +1,5 @@
--- Runs of the rules, computed: an answer that is due may name a thread that has ended; and the incident, in which no late answer is handed over.
+-- Runs of the rules, computed: an answer that is due may name a thread that has ended; and the incident, in which no late answer is
+-- handed over.
 use mathlib.Core.Path.{_≡_, refl}
 use mathlib.Core.Bool.{false}
 use mathlib.Core.List.{[], _∷_}
@@ -8,13 +9,13 @@ use Rattle.rules.specs.Tables.{live, start}
 use Rattle.rules.specs.Runs.{run, lines}
 use Rattle.rules.specs.Benches.{from}
 use Rattle.rules.specs.Opened.{opened}
-use Rattle.laws.specs.Examples.{due, message-of-the-ended, notice-of-the-ended, end-of-the-sender, incident}
 use Rattle.laws.specs.Words.{FromMessage, FromNotice, SenderGone}
+use Rattle.laws.specs.Examples.{due, message-of-the-ended, notice-of-the-ended, end-of-the-sender, incident}
 
 -- ---- "An answer already due to a thread stays, even if its sender has ended."
 
--- The exception of `nothing-names-the-ended` is needed: in each of these runs 1 has ended, and an answer that names it is due to 0. It is handed
--- over when 2 waits.
+-- The exception of `nothing-names-the-ended` is needed: in each of these runs 1 has ended, and an answer that names it is due to 0. It is
+-- handed over when 2 waits.
 pub answers-due-may-name-the-ended :
     (live 1 (run small start message-of-the-ended) ≡ false)
     × (due 0 (run small start message-of-the-ended) ≡ FromMessage 1 7)
@@ -28,7 +29,8 @@ answers-due-may-name-the-ended = (refl, refl, refl, refl, refl, refl, refl)
 
 -- ---- the incident
 
--- The new fetch has another name than the ended one: 3. The late answer is refused with 4, and nobody is handed it. The new fetch is handed the answer to its own question.
+-- The new fetch has another name than the ended one: 3. The late answer is refused with 4, and nobody is handed it. The new fetch is
+-- handed the answer to its own question.
 pub the-incident :
     (lines small start incident ≡
     (0 ∷ 0 ∷ 0 ∷ 4 ∷ 254 ∷ 1 ∷ [])

@@ -20,20 +20,26 @@ use Rattle.rules.specs.TableRules.{state-in-range, answer-in-range, manager-set
 use Rattle.rules.specs.Fields.{complete}
 use Rattle.rules.specs.Dump.{head-value, thread-value, message-value, held-value, dump}
 use Rattle.rules.specs.Load.{Field, fields-of, at, runner-from, parent-from, state-from, answer-from, thread-from}
-use Rattle.rules.specs.Faults.{Placed, placed, wrong-length, ends-badly, faults-15, faults-16, is-name, status-fits, runner-fits, state-fits, answer-fits, head-fits, thread-fits, message-fits, value-fits, out-of-range, faults-17, entry-lives, wanted-lives, head-lives, thread-lives, message-lives, value-lives, names-nobody, faults-18}
-use Rattle.laws.specs.Words.{TrapKind, Program, Tlb, SysBp, State, Running, Ready, Receiving, Clock, Device, Trapped, Answer, Nothing, FromMessage, FromNotice, SenderGone, Result, Anybody, Only, Manager, Unset, Set, Gone, Managers, Parent, NoParent, ParentIs, Thread, Message, Held, Runner, NoRunner, Runs, Status, Working, Idle, Halted, Panicked}
+use Rattle.rules.specs.Faults.{Placed, placed, wrong-length, ends-badly, faults-15, faults-16, is-name, status-fits, runner-fits}
+use Rattle.rules.specs.Faults.{state-fits, answer-fits, head-fits, thread-fits, message-fits, value-fits, out-of-range, faults-17}
+use Rattle.rules.specs.Faults.{entry-lives, wanted-lives, head-lives, thread-lives, message-lives, value-lives, names-nobody, faults-18}
+use Rattle.laws.specs.Words.{TrapKind, Program, Tlb, SysBp, State, Running, Ready, Receiving, Clock, Device, Trapped, Answer, Nothing}
+use Rattle.laws.specs.Words.{FromMessage, FromNotice, SenderGone, Result, Anybody, Only, Manager, Unset, Set, Gone, Managers, Parent}
+use Rattle.laws.specs.Words.{NoParent, ParentIs, Thread, Message, Held, Runner, NoRunner, Runs, Status, Working, Idle, Halted}
+use Rattle.laws.specs.Words.{Panicked}
+use Rattle.laws.specs.Types.{here, Entry, Detail, Ruled}
 use Rattle.laws.proofs.Tests.{by-runs, and-right, _&_, and-false, same?, not-true}
 use Rattle.laws.proofs.Tally.{all-of, all-at, all-both}
 use Rattle.laws.proofs.Members.{map-mem, member-has, member-times}
 use Rattle.laws.proofs.Bytes.{four-back}
-use Rattle.laws.specs.Types.{here, Entry, Detail, Ruled}
 use Rattle.laws.proofs.Threads.{here-live}
 use Rattle.laws.proofs.PlacesKept.{runner-live}
 use Rattle.laws.proofs.Sound.{tested-ruled}
 use Rattle.laws.proofs.DumpLength.{thread-length, message-length, held-length, head-length}
 use Rattle.laws.proofs.Offsets.{placed-field, none-exactly}
 use Rattle.laws.proofs.FaultOrder.{queues-on, threads-on, fields-on, none-16}
-use Rattle.laws.proofs.Dump.{StateRanged, Ranged, thread-back, kind-back, head-back, thread-ranged, runner-ranged, tagged, fields, cut-dump, fields-dump, read-back}
+use Rattle.laws.proofs.Dump.{StateRanged, Ranged, thread-back, kind-back, head-back, thread-ranged, runner-ranged, tagged, fields}
+use Rattle.laws.proofs.Dump.{cut-dump, fields-dump, read-back}
 
 -- ---- fields of a dump that pass a test
 
@@ -121,7 +127,8 @@ module _ (L : Limits) (T : Tables) (r : Ruled L T) where
 
   none-15 : faults-15 (dump T) ≡ []
   unfolding faults-15
-  none-15 = rw (none-exactly (λ f. wrong-length (f .field)) (placed (dump T)) .1 (none-at-fault L T r wrong-length (right-lengths T)), ends-well)
+  none-15 =
+      rw (none-exactly (λ f. wrong-length (f .field)) (placed (dump T)) .1 (none-at-fault L T r wrong-length (right-lengths T)), ends-well)
 
 -- ---- 17: each value is in its range
 
@@ -139,7 +146,8 @@ status-right Idle = refl
 status-right Halted = refl
 status-right Panicked = refl
 
-state-ranged : (s : State) → StateRanged s → (state-in-range s ≡ true) × (by-state true (by-wanted true is-name) (λ d. true) (λ k. true) s ≡ true)
+state-ranged : (s : State) → StateRanged s → (state-in-range s ≡ true)
+    × (by-state true (by-wanted true is-name) (λ d. true) (λ k. true) s ≡ true)
 unfolding state-in-range
 state-ranged Running h = (refl, refl)
 state-ranged Ready h = (refl, refl)
@@ -167,7 +175,8 @@ unfolding thread-fits state-fits answer-fits thread-value thread-from
 thread-right t r =
     let back = thread-back t r in
     let parent : parent-from (parent-code (t .parent)) ≡ t .parent = ap (λ (u : Thread). u .parent) back in
-    let state : state-from (state-numbers (t .state) .state) (state-numbers (t .state) .detail) ≡ t .state = ap (λ (u : Thread). u .state) back in
+    let state : state-from (state-numbers (t .state) .state) (state-numbers (t .state) .detail) ≡ t .state =
+    ap (λ (u : Thread). u .state) back in
     let n = answer-numbers (t .answer) in
     let word : number (four-bytes (n .word)) ≡ n .word = four-back (n .word) (answer-word (t .answer) (r .answer)) in
     let told = ap (λ (u : Thread). u .answer) back in
@@ -187,13 +196,15 @@ module _ (L : Limits) (T : Tables) (r : Ruled L T) where
   head-right : head-fits (head-value T) ≡ true
   unfolding head-fits runner-fits head-value
   head-right =
-      let back : runner-from (me (T .runner)) (slice-code (T .runner)) ≡ T .runner = head-back T (runner-ranged L T r) (r .steady .beats) .runner in
+      let back : runner-from (me (T .runner)) (slice-code (T .runner)) ≡ T .runner =
+      head-back T (runner-ranged L T r) (r .steady .beats) .runner in
       status-right (status T) & lt-ltb (T .last) names (r .inv .last)
       & rw back (itself (slice-code (T .runner)) & runner-right (T .runner) (runner-ranged L T r) (r .steady .slice))
       & lt-ltb (T .since) beat-ticks (r .steady .since)
 
   -- a queue holds names of live threads
-  queue-lives : (p : State → Bool) (q : List ℕ) → ((n : ℕ) → here p n (T .threads) ≡ times-in q n) → (n : ℕ) → List·Memᴰ n q → live n T ≡ true
+  queue-lives : (p : State → Bool) (q : List ℕ) → ((n : ℕ) → here p n (T .threads) ≡ times-in q n) → (n : ℕ) → List·Memᴰ n q →
+      live n T ≡ true
   queue-lives p q h n m = here-live p n (T .threads) (omega (arith, h n, member-times q n m))
 
   queue-right : (p : State → Bool) (q : List ℕ) → ((n : ℕ) → here p n (T .threads) ≡ times-in q n) → all is-name q ≡ true
@@ -246,7 +257,8 @@ module _ (L : Limits) (T : Tables) (r : Ruled L T) where
   entry-is-live own (Set n) e = e .0
   entry-is-live own Gone e = refl
 
-  state-lives : (n : ℕ) (g : Managers) (s : State) → Detail (T .threads) (T .messages) n g s → (wanted-lives lives s ≡ true) × (manager-set g s ≡ true)
+  state-lives : (n : ℕ) (g : Managers) (s : State) → Detail (T .threads) (T .messages) n g s → (wanted-lives lives s ≡ true)
+      × (manager-set g s ≡ true)
   unfolding Detail manager-set
   state-lives n g Running d = (refl, refl)
   state-lives n g Ready d = (refl, refl)

@@ -12,9 +12,9 @@ use Rattle.rules.specs.Tags.{dump-facts-in, dump-facts}
 use Rattle.rules.specs.Dump.{head-value, thread-value, message-value, held-value, dump}
 use Rattle.rules.specs.Load.{Field}
 use Rattle.rules.specs.Faults.{Placed, placed-from, place-before, misplaced, faults-16}
+use Rattle.laws.specs.Types.{Ruled}
 use Rattle.laws.proofs.Tests.{and-false}
 use Rattle.laws.proofs.Tally.{none-any}
-use Rattle.laws.specs.Types.{Ruled}
 use Rattle.laws.proofs.Offsets.{none-exactly}
 use Rattle.laws.proofs.Dump.{tagged, fields, spelled, cut-dump}
 

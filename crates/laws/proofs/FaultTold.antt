@@ -1,5 +1,5 @@
--- What bytes tell that have no fault of a number: with none of 15 and 17 every value is in its range, with none of 15 and 18 every name lives where
--- document 01 asks for a live one. So 18 is given for no range, and 19 for other rules only.
+-- What bytes tell that have no fault of a number: with none of 15 and 17 every value is in its range, with none of 15 and 18 every name
+-- lives where document 01 asks for a live one. So 18 is given for no range, and 19 for other rules only.
 use Prim.Native.Nat.{ℕ, zero, suc, _<_}
 use mathlib.Core.Path.{_≡_, refl, sym, ap, ap₂, _∙_, subst}
 use mathlib.Core.Bool.{Bool, true, false, _&&_, not}
@@ -16,15 +16,18 @@ use Rattle.rules.specs.Fields.{whole, complete, field-size}
 use Rattle.rules.specs.Tags.{dump-facts-in, dump-facts}
 use Rattle.rules.specs.TableRules.{state-in-range, answer-in-range, manager-set, wanted-live}
 use Rattle.rules.specs.Codes.{slice-code, answer-numbers, state-numbers}
-use Rattle.rules.specs.Load.{Field, as-field, fields-of, told, tables-from, at, word-at, runner-from, state-from, answer-from, thread-from, message-from, held-from, values-of, value-of}
-use Rattle.rules.specs.Faults.{Placed, placed-from, placed, wrong-length, faults-15, faults-17, faults-18, is-name, status-fits, runner-fits, state-fits, answer-fits, head-fits, thread-fits, value-fits, out-of-range, wanted-lives, entries-live, head-lives, thread-lives, message-lives, value-lives, names-nobody, verdict}
-use Rattle.laws.specs.FaultTold.{InRange, Alive}
+use Rattle.rules.specs.Load.{Field, as-field, fields-of, told, tables-from, at, word-at, runner-from, state-from, answer-from, thread-from}
+use Rattle.rules.specs.Load.{message-from, held-from, values-of, value-of}
+use Rattle.rules.specs.Faults.{Placed, placed-from, placed, wrong-length, faults-15, faults-17, faults-18, is-name, status-fits}
+use Rattle.rules.specs.Faults.{runner-fits, state-fits, answer-fits, head-fits, thread-fits, value-fits, out-of-range, wanted-lives}
+use Rattle.rules.specs.Faults.{entries-live, head-lives, thread-lives, message-lives, value-lives, names-nobody, verdict}
 use Rattle.laws.specs.Words.{Thread, Message, Held}
+use Rattle.laws.specs.FaultTold.{InRange, Alive}
+use Rattle.laws.specs.Batch.{past}
 use Rattle.laws.proofs.Tests.{and-left, and-right, _&_, three, four, not-false}
 use Rattle.laws.proofs.Tally.{all-of, all-drop, all-each}
 use Rattle.laws.proofs.Members.{mem-keep, keep-mem, mem-map, map-mem, has-member}
 use Rattle.laws.proofs.Bytes.{number-below}
-use Rattle.laws.specs.Batch.{past}
 use Rattle.laws.proofs.Batch.{by-fields, complete-none, complete-first}
 use Rattle.laws.proofs.Offsets.{none-exactly}
 use Rattle.laws.proofs.Faults.{free-of-15, refused-18, refused-19}
@@ -60,7 +63,8 @@ bytes-within = by-fields (λ l. all is-byte l ≡ true → (f : List ℕ) → Li
     none : (l : List ℕ) → whole l ≡ false → all is-byte l ≡ true → (f : List ℕ) → List·Memᴰ f (complete l) → all is-byte f ≡ true
     none l w b f m = absurd (List·Memᴰ·not-nil (subst (λ (fs : List (List ℕ)). List·Memᴰ f fs) (complete-none l w .0) m))
 
-    one : (l : List ℕ) → whole l ≡ true → (all is-byte (past l) ≡ true → (f : List ℕ) → List·Memᴰ f (complete (past l)) → all is-byte f ≡ true)
+    one : (l : List ℕ) → whole l ≡ true →
+        (all is-byte (past l) ≡ true → (f : List ℕ) → List·Memᴰ f (complete (past l)) → all is-byte f ≡ true)
         → all is-byte l ≡ true → (f : List ℕ) → List·Memᴰ f (complete l) → all is-byte f ≡ true
     one l w h b f m = go (subst (λ (fs : List (List ℕ)). List·Memᴰ f fs) (complete-first l w .0) m)
       where
@@ -74,7 +78,8 @@ word-below v i b =
     (number-below (take 4 (drop i v)) (all-take 4 is-byte (drop i v) (all-drop i is-byte v b)) (simp length-take (omega arith)))
 
 -- a value that stands opens the values that stand
-opening : (vs : List (List ℕ)) {u : List ℕ} → List·Memᴰ u vs → (v : List ℕ) × (rest : List ℕ) × List·Memᴰ v vs × (each (λ x. x) vs ≡ v ++ rest)
+opening : (vs : List (List ℕ)) {u : List ℕ} → List·Memᴰ u vs → (v : List ℕ) × (rest : List ℕ) × List·Memᴰ v vs
+    × (each (λ x. x) vs ≡ v ++ rest)
 unfolding each
 opening [] m = absurd (List·Memᴰ·not-nil m)
 opening (v ∷ vs) m = (v, each (λ x. x) vs, List·Memᴰ·head refl, refl)
@@ -104,7 +109,8 @@ module _ (bytes : List ℕ) (none-15 : faults-15 bytes ≡ []) where
   fs = fields-of bytes
 
   -- a test that the values of right length fail where there is a fault
-  looked-at : (pass : Field → Bool) → ((f : Placed) → List·Memᴰ f (placed bytes) → (not (wrong-length (f .field)) && not (pass (f .field))) ≡ false)
+  looked-at : (pass : Field → Bool) →
+      ((f : Placed) → List·Memᴰ f (placed bytes) → (not (wrong-length (f .field)) && not (pass (f .field))) ≡ false)
       → (n : ℕ) (v : List ℕ) → List·Memᴰ v (values-of n fs)
       → (wrong-length (record { tag = n; value = v }) ≡ false) × (pass (record { tag = n; value = v }) ≡ true)
   unfolding fields-of
@@ -159,18 +165,21 @@ module _ (bytes : List ℕ) (b : all is-byte bytes ≡ true) (none-15 : faults-1
       → (wrong-length (record { tag = n; value = v }) ≡ false) × (value-fits n v ≡ true)
   unfolding faults-17 out-of-range
   fits n v m =
-      looked-at bytes none-15 (λ f. value-fits (f .tag) (f .value)) (none-exactly (λ f. out-of-range (f .field)) (placed bytes) .0 none-17) n v m
+      looked-at bytes none-15 (λ f. value-fits (f .tag) (f .value)) (none-exactly (λ f. out-of-range (f .field)) (placed bytes) .0 none-17)
+      n v m
 
   -- what its field says of a thread
   thread-fit : (v : List ℕ) → List·Memᴰ v (values-of 2 (fields-of bytes))
-      → (ltb (thread-from v .name) names ≡ true) × (state-in-range (thread-from v .state) ≡ true) × (answer-in-range (thread-from v .answer) ≡ true)
+      → (ltb (thread-from v .name) names ≡ true) × (state-in-range (thread-from v .state) ≡ true)
+      × (answer-in-range (thread-from v .answer) ≡ true)
   unfolding value-fits thread-fits thread-from
   thread-fit v m =
       let t = four _ _ _ _ (fits 2 v m .1) in
       (t .0, state-fit (at v 2) (at v 3) (t .2), answer-fit (at v 11) (at v 12) (word-at v 13) (t .3))
 
   -- and what field 1 says
-  head-fit : (ltb (told bytes .last) names ≡ true) × (by-runner true (λ n s. ltb n names && leb 1 s && leb s full-slice) (told bytes .runner) ≡ true)
+  head-fit : (ltb (told bytes .last) names ≡ true)
+      × (by-runner true (λ n s. ltb n names && leb 1 s && leb s full-slice) (told bytes .runner) ≡ true)
       × (ltb (told bytes .since) beat-ticks ≡ true)
   unfolding value-fits head-fits runner-fits told tables-from
   head-fit =
@@ -200,7 +209,8 @@ module _ (bytes : List ℕ) (b : all is-byte bytes ≡ true) (none-15 : faults-1
   unfolding message-from
   message-below v m = word-below v 3 (value-bytes 5 v m)
 
-  held-fit : (v : List ℕ) → List·Memᴰ v (values-of 6 (fields-of bytes)) → (ltb (held-from v .device) devices && ltb (held-from v .word) wrap) ≡ true
+  held-fit : (v : List ℕ) → List·Memᴰ v (values-of 6 (fields-of bytes)) →
+      (ltb (held-from v .device) devices && ltb (held-from v .word) wrap) ≡ true
   unfolding held-from value-fits
   held-fit v m = fits 6 v m .1 & word-below v 1 (value-bytes 6 v m)
 
@@ -244,7 +254,8 @@ module _ (bytes : List ℕ) (none-15 : faults-15 bytes ≡ []) (none-18 : faults
   unfolding value-lives thread-lives
   thread-living v m = four _ _ _ _ (living 2 v m .1)
 
-  message-living : (v : List ℕ) → List·Memᴰ v (values-of 5 (fields-of bytes)) → (lives (message-from v .to) && lives (message-from v .from)) ≡ true
+  message-living : (v : List ℕ) → List·Memᴰ v (values-of 5 (fields-of bytes)) →
+      (lives (message-from v .to) && lives (message-from v .from)) ≡ true
   unfolding value-lives message-lives message-from
   message-living v m = living 5 v m .1
 

@@ -1,10 +1,12 @@
--- Where bytes are bad (document 02, CR 4). Reading accepts exactly the dumps of tables that meet the rules. Other bytes are refused with 15 to 19:
--- each exactly if its list of faults is the first that has one, at the earliest of them. The offset is that of a complete field, or the length.
+-- Where bytes are bad (document 02, CR 4). Reading accepts exactly the dumps of tables that meet the rules. Other bytes are refused with
+-- 15 to 19: each exactly if its list of faults is the first that has one, at the earliest of them. The offset is that of a complete
+-- field, or the length.
 use Prim.Native.Nat.{ℕ, _≤_, _<_}
 use mathlib.Core.Path.{_≡_, refl, sym, _∙_, subst}
 use mathlib.Core.Logic.{_↔_, _≢_, _⊎_, ⊎-elim}
 use mathlib.Core.Bool.{Bool, true, false, not}
-use mathlib.Core.List.{List, [], _∷_, _++_, map, List·Memᴰ, List·Memᴰ·head, List·Memᴰ·tail, List·Memᴰ·not-nil, List·Memᴰ·append-cases, List·Memᴰ·eq-of-singleton}
+use mathlib.Core.List.{List, [], _∷_, _++_, map, List·Memᴰ, List·Memᴰ·head, List·Memᴰ·tail, List·Memᴰ·not-nil, List·Memᴰ·append-cases}
+use mathlib.Core.List.{List·Memᴰ·eq-of-singleton}
 use native.Mathlib.Omega.{arith}
 use lib.Dec.{ltb}
 use lib.ListN.{length, take}
@@ -17,13 +19,15 @@ use Rattle.rules.specs.TableRules.{table-rules}
 use Rattle.rules.specs.Dump.{dump}
 use Rattle.rules.specs.Load.{Field, as-field, fields-of, Loaded, no-dump, loaded, load}
 use Rattle.rules.specs.declared.Verdict.{Verdict}
-use Rattle.rules.specs.Faults.{Placed, placed-from, placed, offsets, wrong-length, ends-badly, faults-15, faults-16, faults-17, faults-18, earliest, where-bad, verdict-on, verdict}
+use Rattle.rules.specs.Faults.{Placed, placed-from, placed, offsets, wrong-length, ends-badly, faults-15, faults-16, faults-17, faults-18}
+use Rattle.rules.specs.Faults.{earliest, where-bad, verdict-on, verdict}
+use Rattle.laws.specs.Offsets.{BeginsAt, Earliest}
 use Rattle.laws.proofs.Tests.{or-false, not-false}
 use Rattle.laws.proofs.Members.{has-member}
 use Rattle.laws.proofs.Batch.{complete-none, complete-first}
 use Rattle.laws.proofs.Dump.{load-is-dump, accepted-exactly-dumps}
-use Rattle.laws.specs.Offsets.{BeginsAt, Earliest}
-use Rattle.laws.proofs.Offsets.{placed-begins, begins-within, offset-begins, offset-below, First, offsets-rise, first-and-end, first-is-earliest, none-exactly}
+use Rattle.laws.proofs.Offsets.{placed-begins, begins-within, offset-begins, offset-below, First, offsets-rise, first-and-end}
+use Rattle.laws.proofs.Offsets.{first-is-earliest, none-exactly}
 use Rattle.laws.proofs.FaultFree.{no-fault-in-a-dump}
 
 -- ---- the lists rise
@@ -59,7 +63,8 @@ empty : (l : List ℕ) → ltb 0 (length l) ≡ false → l ≡ []
 empty [] h = refl
 empty (x ∷ l) h = absurd (omega (arith, ltb-false 0 (length (x ∷ l)) h))
 
--- There is no fault of 15 exactly if nothing is left behind the complete fields, each is as long as its tag says, and fields 1, 3 and 4 stand.
+-- There is no fault of 15 exactly if nothing is left behind the complete fields, each is as long as its tag says, and fields 1, 3 and 4
+-- stand.
 pub free-of-15 : (bytes : List ℕ) → (faults-15 bytes ≡ []) ↔
     ((unread bytes ≡ []) × ((f : Placed) → List·Memᴰ f (placed bytes) → wrong-length (f .field) ≡ false)
     × ((n : ℕ) → List·Memᴰ n (1 ∷ 3 ∷ 4 ∷ []) → has n (map (λ f. f .tag) (fields-of bytes)) ≡ true))
@@ -166,10 +171,12 @@ module _ (L : Limits) (bytes : List ℕ) where
       → (IsDump → P (record { refusal = 0; offset = 0 }))
       → ((o : ℕ) (more : List ℕ) → faults-15 bytes ≡ o ∷ more → P (record { refusal = 15; offset = o }))
       → ((o : ℕ) (more : List ℕ) → faults-16 bytes ≡ o ∷ more → faults-15 bytes ≡ [] → P (record { refusal = 16; offset = o }))
-      → ((o : ℕ) (more : List ℕ) → faults-17 bytes ≡ o ∷ more → faults-15 bytes ≡ [] → faults-16 bytes ≡ [] → P (record { refusal = 17; offset = o }))
+      → ((o : ℕ) (more : List ℕ) → faults-17 bytes ≡ o ∷ more → faults-15 bytes ≡ [] → faults-16 bytes ≡ [] →
+      P (record { refusal = 17; offset = o }))
       → ((o : ℕ) (more : List ℕ) → faults-18 bytes ≡ o ∷ more → faults-15 bytes ≡ [] → faults-16 bytes ≡ [] → faults-17 bytes ≡ []
       → P (record { refusal = 18; offset = o }))
-      → (NoDump → faults-15 bytes ≡ [] → faults-16 bytes ≡ [] → faults-17 bytes ≡ [] → faults-18 bytes ≡ [] → P (record { refusal = 19; offset = 0 }))
+      → (NoDump → faults-15 bytes ≡ [] → faults-16 bytes ≡ [] → faults-17 bytes ≡ [] → faults-18 bytes ≡ [] →
+      P (record { refusal = 19; offset = 0 }))
       → P (verdict L bytes)
   unfolding verdict verdict-on where-bad
   by-cause P is at-15 at-16 at-17 at-18 at-19 = go (load L bytes) refl
@@ -194,7 +201,8 @@ module _ (L : Limits) (bytes : List ℕ) where
     by-cause (λ v. v .refusal ≡ 0 → IsDump) (λ d n. d) (λ o m e n. absurd (omega arith)) (λ o m e a n. absurd (omega arith))
         (λ o m e a b n. absurd (omega arith)) (λ o m e a b c n. absurd (omega arith)) (λ no a b c d n. absurd (omega arith)),
     λ h. by-cause (λ v. v .refusal ≡ 0) (λ d. refl) (λ o m e. absurd (some e (clean h .0))) (λ o m e a. absurd (some e (clean h .1)))
-        (λ o m e a b. absurd (some e (clean h .2))) (λ o m e a b c. absurd (some e (clean h .3))) (λ no a b c d. absurd (no (h .0) (h .1) (h .2))),
+        (λ o m e a b. absurd (some e (clean h .2))) (λ o m e a b c. absurd (some e (clean h .3)))
+        (λ no a b c d. absurd (no (h .0) (h .1) (h .2))),
   )
 
   -- The offset is 0 then.
@@ -211,20 +219,24 @@ module _ (L : Limits) (bytes : List ℕ) where
       (λ o m e n. (omega arith, omega arith)) (λ o m e a n. (omega arith, omega arith)) (λ o m e a b n. (omega arith, omega arith))
       (λ o m e a b c n. (omega arith, omega arith)) (λ no a b c d n. (omega arith, omega arith))
 
-  -- "Where several rules fail, the first in the list below counts": a number is given exactly if its list has a fault and no list before it has one.
+  -- "Where several rules fail, the first in the list below counts": a number is given exactly if its list has a fault and no list before
+  -- it has one.
 
   pub refused-15 : (verdict L bytes .refusal ≡ 15) ↔ (faults-15 bytes ≢ [])
   refused-15 = (
-    by-cause (λ v. v .refusal ≡ 15 → faults-15 bytes ≢ []) (λ d n. absurd (omega arith)) (λ o m e n. some e) (λ o m e a n. absurd (omega arith))
+    by-cause (λ v. v .refusal ≡ 15 → faults-15 bytes ≢ []) (λ d n. absurd (omega arith)) (λ o m e n. some e)
+        (λ o m e a n. absurd (omega arith))
         (λ o m e a b n. absurd (omega arith)) (λ o m e a b c n. absurd (omega arith)) (λ no a b c d n. absurd (omega arith)),
-    λ h. by-cause (λ v. v .refusal ≡ 15) (λ d. absurd (h (clean d .0))) (λ o m e. refl) (λ o m e a. absurd (h a)) (λ o m e a b. absurd (h a))
+    λ h. by-cause (λ v. v .refusal ≡ 15) (λ d. absurd (h (clean d .0))) (λ o m e. refl) (λ o m e a. absurd (h a))
+        (λ o m e a b. absurd (h a))
         (λ o m e a b c. absurd (h a)) (λ no a b c d. absurd (h a)),
   )
 
   pub refused-16 : (verdict L bytes .refusal ≡ 16) ↔ ((faults-15 bytes ≡ []) × (faults-16 bytes ≢ []))
   refused-16 = (
     by-cause (λ v. v .refusal ≡ 16 → (faults-15 bytes ≡ []) × (faults-16 bytes ≢ [])) (λ d n. absurd (omega arith))
-        (λ o m e n. absurd (omega arith)) (λ o m e a n. (a, some e)) (λ o m e a b n. absurd (omega arith)) (λ o m e a b c n. absurd (omega arith))
+        (λ o m e n. absurd (omega arith)) (λ o m e a n. (a, some e)) (λ o m e a b n. absurd (omega arith))
+        (λ o m e a b c n. absurd (omega arith))
         (λ no a b c d n. absurd (omega arith)),
     λ h. by-cause (λ v. v .refusal ≡ 16) (λ d. absurd (h .1 (clean d .1))) (λ o m e. absurd (some e (h .0))) (λ o m e a. refl)
         (λ o m e a b. absurd (h .1 b)) (λ o m e a b c. absurd (h .1 b)) (λ no a b c d. absurd (h .1 b)),
@@ -235,7 +247,8 @@ module _ (L : Limits) (bytes : List ℕ) where
     by-cause (λ v. v .refusal ≡ 17 → (faults-15 bytes ≡ []) × (faults-16 bytes ≡ []) × (faults-17 bytes ≢ [])) (λ d n. absurd (omega arith))
         (λ o m e n. absurd (omega arith)) (λ o m e a n. absurd (omega arith)) (λ o m e a b n. (a, b, some e))
         (λ o m e a b c n. absurd (omega arith)) (λ no a b c d n. absurd (omega arith)),
-    λ h. by-cause (λ v. v .refusal ≡ 17) (λ d. absurd (h .2 (clean d .2))) (λ o m e. absurd (some e (h .0))) (λ o m e a. absurd (some e (h .1)))
+    λ h. by-cause (λ v. v .refusal ≡ 17) (λ d. absurd (h .2 (clean d .2))) (λ o m e. absurd (some e (h .0)))
+        (λ o m e a. absurd (some e (h .1)))
         (λ o m e a b. refl) (λ o m e a b c. absurd (h .2 c)) (λ no a b c d. absurd (h .2 c)),
   )
 
@@ -243,9 +256,11 @@ module _ (L : Limits) (bytes : List ℕ) where
       ((faults-15 bytes ≡ []) × (faults-16 bytes ≡ []) × (faults-17 bytes ≡ []) × (faults-18 bytes ≢ []))
   refused-18 = (
     by-cause (λ v. v .refusal ≡ 18 → (faults-15 bytes ≡ []) × (faults-16 bytes ≡ []) × (faults-17 bytes ≡ []) × (faults-18 bytes ≢ []))
-        (λ d n. absurd (omega arith)) (λ o m e n. absurd (omega arith)) (λ o m e a n. absurd (omega arith)) (λ o m e a b n. absurd (omega arith))
+        (λ d n. absurd (omega arith)) (λ o m e n. absurd (omega arith)) (λ o m e a n. absurd (omega arith))
+        (λ o m e a b n. absurd (omega arith))
         (λ o m e a b c n. (a, b, c, some e)) (λ no a b c d n. absurd (omega arith)),
-    λ h. by-cause (λ v. v .refusal ≡ 18) (λ d. absurd (h .3 (clean d .3))) (λ o m e. absurd (some e (h .0))) (λ o m e a. absurd (some e (h .1)))
+    λ h. by-cause (λ v. v .refusal ≡ 18) (λ d. absurd (h .3 (clean d .3))) (λ o m e. absurd (some e (h .0)))
+        (λ o m e a. absurd (some e (h .1)))
         (λ o m e a b. absurd (some e (h .2))) (λ o m e a b c. refl) (λ no a b c d. absurd (h .3 d)),
   )
 
@@ -254,11 +269,14 @@ module _ (L : Limits) (bytes : List ℕ) where
       ((faults-15 bytes ≡ []) × (faults-16 bytes ≡ []) × (faults-17 bytes ≡ []) × (faults-18 bytes ≡ [])
       × ((T : Tables) → table-rules L T ≡ true → dump T ≢ bytes))
   refused-19 = (
-    by-cause (λ v. v .refusal ≡ 19 → (faults-15 bytes ≡ []) × (faults-16 bytes ≡ []) × (faults-17 bytes ≡ []) × (faults-18 bytes ≡ []) × NoDump)
-        (λ d n. absurd (omega arith)) (λ o m e n. absurd (omega arith)) (λ o m e a n. absurd (omega arith)) (λ o m e a b n. absurd (omega arith))
+    by-cause (λ v. v .refusal ≡ 19 → (faults-15 bytes ≡ []) × (faults-16 bytes ≡ []) × (faults-17 bytes ≡ []) × (faults-18 bytes ≡ [])
+        × NoDump)
+        (λ d n. absurd (omega arith)) (λ o m e n. absurd (omega arith)) (λ o m e a n. absurd (omega arith))
+        (λ o m e a b n. absurd (omega arith))
         (λ o m e a b c n. absurd (omega arith)) (λ no a b c d n. (a, b, c, d, no)),
     λ h. by-cause (λ v. v .refusal ≡ 19) (λ d. absurd (h .4 (d .0) (d .1) (d .2))) (λ o m e. absurd (some e (h .0)))
-        (λ o m e a. absurd (some e (h .1))) (λ o m e a b. absurd (some e (h .2))) (λ o m e a b c. absurd (some e (h .3))) (λ no a b c d. refl),
+        (λ o m e a. absurd (some e (h .1))) (λ o m e a b. absurd (some e (h .2))) (λ o m e a b c. absurd (some e (h .3)))
+        (λ no a b c d. refl),
   )
 
   -- ---- the offset
@@ -289,12 +307,14 @@ module _ (L : Limits) (bytes : List ℕ) where
   -- "for 19 the offset is 0"
   pub offset-19 : verdict L bytes .refusal ≡ 19 → verdict L bytes .offset ≡ 0
   offset-19 = by-cause (λ v. v .refusal ≡ 19 → v .offset ≡ 0) (λ d n. absurd (omega arith)) (λ o m e n. absurd (omega arith))
-      (λ o m e a n. absurd (omega arith)) (λ o m e a b n. absurd (omega arith)) (λ o m e a b c n. absurd (omega arith)) (λ no a b c d n. refl)
+      (λ o m e a n. absurd (omega arith)) (λ o m e a b n. absurd (omega arith)) (λ o m e a b c n. absurd (omega arith))
+      (λ no a b c d n. refl)
 
   right-offset : Right bytes (verdict L bytes .offset)
   unfolding faults-16 faults-17 faults-18
   right-offset =
-      by-cause (λ v. Right bytes (v .offset)) (λ d. begins-right bytes 0 (opens-without-15 bytes (clean d .0))) (λ o m e. right-15 bytes o m e)
+      by-cause (λ v. Right bytes (v .offset)) (λ d. begins-right bytes 0 (opens-without-15 bytes (clean d .0)))
+      (λ o m e. right-15 bytes o m e)
       (λ o m e a. right-in bytes _ (faults-16 bytes) refl o m e) (λ o m e a b. right-in bytes _ (faults-17 bytes) refl o m e)
       (λ o m e a b c. right-in bytes _ (faults-18 bytes) refl o m e) (λ no a b c d. begins-right bytes 0 (opens-without-15 bytes a))
 

@@ -13,11 +13,11 @@ use Rattle.rules.specs.Events.{decode}
 use Rattle.rules.specs.Refusals.{refusal}
 use Rattle.rules.specs.Step.{Stepped, settle, step}
 use Rattle.rules.specs.Runs.{Input, run}
-use Rattle.laws.specs.Givings.{result, given-by, givings}
 use Rattle.laws.specs.Words.{Parent}
+use Rattle.laws.specs.Givings.{result, given-by, givings}
 use Rattle.laws.specs.Requests.{Accepted}
-use Rattle.laws.proofs.Requests.{goes-on}
 use Rattle.laws.specs.Comings.{creates, NobodyComes}
+use Rattle.laws.proofs.Requests.{goes-on}
 use Rattle.laws.proofs.Comings.{unmoved, and-on, creation, created-last, created-lives, no-other-brings, dispatch-brings-nobody}
 
 -- ---- runs in parts
@@ -25,9 +25,11 @@ use Rattle.laws.proofs.Comings.{unmoved, and-on, creation, created-last
 pub givings-append : (L : Limits) (T : Tables) (es fs : Input) → givings L T (es ++ fs) ≡ givings L T es ++ givings L (run L T es) fs
 unfolding givings run
 givings-append L T [] fs = refl
-givings-append L T (e ∷ es) fs = ap (λ (x : List ℕ). given-by L T e ++ x) (givings-append L (step L T e .tables) es fs) ∙ sym (append-assoc (given-by L T e) _ _)
+givings-append L T (e ∷ es) fs =
+    ap (λ (x : List ℕ). given-by L T e ++ x) (givings-append L (step L T e .tables) es fs) ∙ sym (append-assoc (given-by L T e) _ _)
 
-pub givings-last : (L : Limits) (T : Tables) (es : Input) (e : List ℕ) → givings L T (es ++ (e ∷ [])) ≡ givings L T es ++ given-by L (run L T es) e
+pub givings-last : (L : Limits) (T : Tables) (es : Input) (e : List ℕ) → givings L T (es ++ (e ∷ [])) ≡ givings L T es
+    ++ given-by L (run L T es) e
 unfolding givings
 givings-last L T es e = givings-append L T es (e ∷ []) ∙ ap (λ (x : List ℕ). givings L T es ++ x) (append-nil (given-by L (run L T es) e))
 
@@ -51,20 +53,24 @@ brings L T bytes = go (refusal L T (decode bytes)) refl
         let A : Accepted L T bytes (C .call) = record { asked = C .asks; accepted = f } in
         let s = goes-on A (create (C .parent) T) (C .serves) (unfold create in refl) in
         somebody
-        (ap (λ (x : Stepped). if x .decision .refusal == 0 && creates (decode bytes) then result (x .decision .answer) else []) s ∙ unfold create result in rw c)
+        (ap (λ (x : Stepped). if x .decision .refusal == 0 && creates (decode bytes) then result (x .decision .answer) else []) s
+        ∙ unfold create result in rw c)
         (C .parent) (ap (λ (x : Stepped). x .tables) s)
     accepted false c f =
         let s = told 0 f in
         nobody
-        (ap (λ (x : Stepped). if x .decision .refusal == 0 && creates (decode bytes) then result (x .decision .answer) else []) s ∙ unfold settle in rw c)
-        (subst (λ (x : Stepped). NobodyComes T (x .tables)) (sym s) (unfold settle in and-on (no-other-brings T (decode bytes) c) (dispatch-brings-nobody _)))
+        (ap (λ (x : Stepped). if x .decision .refusal == 0 && creates (decode bytes) then result (x .decision .answer) else []) s
+        ∙ unfold settle in rw c)
+        (subst (λ (x : Stepped). NobodyComes T (x .tables)) (sym s) (unfold settle in
+        and-on (no-other-brings T (decode bytes) c) (dispatch-brings-nobody _)))
 
     go : (r : ℕ) → refusal L T (decode bytes) ≡ r → Brings L T bytes
     go zero f = accepted (creates (decode bytes)) refl f
     go (suc r) f =
         let s = told (suc r) f in
         nobody
-        (ap (λ (x : Stepped). if x .decision .refusal == 0 && creates (decode bytes) then result (x .decision .answer) else []) s ∙ unfold settle in rw (ne-eqb (suc r) 0 (λ e. omega arith)))
+        (ap (λ (x : Stepped). if x .decision .refusal == 0 && creates (decode bytes) then result (x .decision .answer) else []) s
+        ∙ unfold settle in rw (ne-eqb (suc r) 0 (λ e. omega arith)))
         (subst (λ (x : Stepped). NobodyComes T (x .tables)) (sym s) (unfold settle in unmoved T))
 
 -- ---- where a run gives a name
@@ -111,9 +117,17 @@ given-at L T (e ∷ es) n xs ws i = go (brings L T e) xs i (given-at L U es n)
     U = step L T e .tables
 
     later : GivenAt L U es n ws → GivenAt L T (e ∷ es) n ws
-    later G = record { before = e ∷ G .before; event = G .event; behind = G .behind; among = ap (λ (x : Input). e ∷ x) (G .among); gives = G .gives; then-given = G .then-given }
+    later G = record {
+      before = e ∷ G .before;
+      event = G .event;
+      behind = G .behind;
+      among = ap (λ (x : Input). e ∷ x) (G .among);
+      gives = G .gives;
+      then-given = G .then-given;
+    }
 
-    go : Brings L T e → (xs : List ℕ) → given-by L T e ++ givings L U es ≡ xs ++ (n ∷ ws) → ((xs ws : List ℕ) → givings L U es ≡ xs ++ (n ∷ ws) → GivenAt L U es n ws) → GivenAt L T (e ∷ es) n ws
+    go : Brings L T e → (xs : List ℕ) → given-by L T e ++ givings L U es ≡ xs ++ (n ∷ ws) →
+        ((xs ws : List ℕ) → givings L U es ≡ xs ++ (n ∷ ws) → GivenAt L U es n ws) → GivenAt L T (e ∷ es) n ws
     go (nobody x N) xs h on = later (on xs ws (rw x at h))
     go (somebody x p s) [] h on =
         let r : next-name T ∷ givings L U es ≡ n ∷ ws = rw x at h in

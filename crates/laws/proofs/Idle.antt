@@ -8,7 +8,6 @@ use native.Mathlib.Omega.{arith}
 use Rattle.rules.specs.Lists.{if_then_else_, one-if, all, any, times-in}
 use Rattle.rules.specs.Numbers.{Limits, devices}
 use Rattle.rules.specs.Words.{by-runner}
-use Rattle.laws.specs.Words.{State, Device, Nothing, Managers, Thread, Message, Runner, NoRunner, Runs, Working, Idle, Halted, Panicked, Event}
 use Rattle.rules.specs.Tables.{Tables, named, runs, runs-as}
 use Rattle.rules.specs.States.{is-running, is-ready, on-clock, wakes-from-outside}
 use Rattle.rules.specs.Waking.{_handing_}
@@ -19,23 +18,27 @@ use Rattle.rules.specs.Codes.{status-code}
 use Rattle.rules.specs.Step.{Stepped, decided, settle, step}
 use Rattle.rules.specs.Runs.{Input, run}
 use Rattle.rules.specs.TableRules.{table-rules}
+use Rattle.laws.specs.Words.{State, Device, Nothing, Managers, Thread, Message, Runner, NoRunner, Runs, Working, Idle, Halted}
+use Rattle.laws.specs.Words.{Panicked, Event}
+use Rattle.laws.specs.Types.{Agree, Detail, Ruled}
+use Rattle.laws.specs.Outside.{from-outside, outside, some-ready, waking-series, bytes-of}
 use Rattle.laws.proofs.Tests.{clash}
 use Rattle.laws.proofs.Tally.{member-any, not-any, none-any}
 use Rattle.laws.proofs.Members.{member-times, times-member}
-use Rattle.laws.specs.Types.{Agree, Detail, Ruled}
 use Rattle.laws.proofs.Queues.{times-none}
 use Rattle.laws.proofs.Threads.{member-here, here-member}
 use Rattle.laws.proofs.PlacesKept.{runner-live}
 use Rattle.laws.proofs.Sound.{tested-ruled}
-use Rattle.laws.specs.Outside.{from-outside, outside, some-ready, waking-series, bytes-of}
 use Rattle.laws.proofs.Outside.{some-waits, Still, clock-wakes, outside-still, Resting, series-wakes, series-accepted}
 
 -- ---- what the table rules say of tables in which nobody runs
 
-clock-named : (T : Tables) → Agree T → (n : ℕ) → List·Memᴰ n (T .clock) → (t : Thread) × List·Memᴰ t (T .threads) × (named n t ≡ true) × (on-clock (t .state) ≡ true)
+clock-named : (T : Tables) → Agree T → (n : ℕ) → List·Memᴰ n (T .clock) → (t : Thread) × List·Memᴰ t (T .threads) × (named n t ≡ true)
+    × (on-clock (t .state) ≡ true)
 clock-named T A n m = here-member on-clock (T .threads) n (omega (arith, A .beat n, member-times (T .clock) n m))
 
-in-range : (ts : List Thread) (ms : List Message) (n : ℕ) (g : Managers) (s : State) (d : ℕ) → s ≡ Device d → Detail ts ms n g s → d < devices
+in-range : (ts : List Thread) (ms : List Message) (n : ℕ) (g : Managers) (s : State) (d : ℕ) → s ≡ Device d → Detail ts ms n g s →
+    d < devices
 unfolding Detail
 in-range ts ms n g s d e x = rw e at x
 
@@ -46,7 +49,8 @@ rested {L} {T} R r =
       ready = R .steady .quiet r;
       since = R .steady .since;
       queued = λ n m. let t = clock-named T (R .inv .agree) n m in member-any (named n) (T .threads) (t .0) (t .1) (t .2);
-      waits = λ t m e. times-member (T .clock) (t .name) (omega (arith, R .inv .agree .beat (t .name), member-here on-clock (T .threads) t m (unfold on-clock in rw e)));
+      waits = λ t m e. times-member (T .clock) (t .name)
+          (omega (arith, R .inv .agree .beat (t .name), member-here on-clock (T .threads) t m (unfold on-clock in rw e)));
       device = λ t d m e. in-range (T .threads) (T .messages) (t .name) (t .managers) (t .state) d e (R .fits .threads t m .detail);
     }
 
@@ -63,7 +67,8 @@ stilled {L} {T} R r w = record { runner = r; ready = R .steady .quiet r; clock =
 -- nobody runs: nobody is ready or running
 none-ready : {L : Limits} {T : Tables} → Ruled L T → T .runner ≡ NoRunner → some-ready T ≡ false
 unfolding some-ready runs-as
-none-ready {L} {T} R r = none-any _ (T .threads) (λ t m. neither (is-ready (t .state)) (is-running (t .state)) (λ e. no-ready t m e) (λ e. no-running t m e))
+none-ready {L} {T} R r =
+    none-any _ (T .threads) (λ t m. neither (is-ready (t .state)) (is-running (t .state)) (λ e. no-ready t m e) (λ e. no-running t m e))
   where
     neither : (a b : Bool) → (a ≡ true → ⊥) → (b ≡ true → ⊥) → (a || b) ≡ false
     neither true b f g = absurd (f refl)
@@ -71,14 +76,26 @@ none-ready {L} {T} R r = none-any _ (T .threads) (λ t m. neither (is-ready (t .
     neither false false f g = refl
 
     no-ready : (t : Thread) → List·Memᴰ t (T .threads) → is-ready (t .state) ≡ true → ⊥
-    no-ready t m e = omega (arith, member-here is-ready (T .threads) t m e, R .inv .agree .wait (t .name), ap (λ (q : List ℕ). times-in q (t .name)) (R .steady .quiet r), times-none (t .name))
+    no-ready t m e = omega (
+      arith,
+      member-here is-ready (T .threads) t m e,
+      R .inv .agree .wait (t .name),
+      ap (λ (q : List ℕ). times-in q (t .name)) (R .steady .quiet r),
+      times-none (t .name),
+    )
 
     no-running : (t : Thread) → List·Memᴰ t (T .threads) → is-running (t .state) ≡ true → ⊥
-    no-running t m e = omega (arith, member-here is-running (T .threads) t m e, R .inv .agree .run (t .name), ap (λ (x : Runner). one-if (runs-as (t .name) x)) r)
+    no-running t m e = omega (
+      arith,
+      member-here is-running (T .threads) t m e,
+      R .inv .agree .run (t .name),
+      ap (λ (x : Runner). one-if (runs-as (t .name) x)) r,
+    )
 
 -- ---- the status of tables in which nobody runs and threads remain
 
-told : (T : Tables) → T .runner ≡ NoRunner → any (λ t. true) (T .threads) ≡ true → (b : Bool) → some-waits (T .threads) ≡ b → status T ≡ (if b then Idle else Panicked)
+told : (T : Tables) → T .runner ≡ NoRunner → any (λ t. true) (T .threads) ≡ true → (b : Bool) → some-waits (T .threads) ≡ b →
+    status T ≡ (if b then Idle else Panicked)
 unfolding status
 told T r some b e = rw r (go (T .threads) some e)
   where
@@ -124,7 +141,8 @@ idle-says T s = go (T .runner) refl s
     waits [] e = unfold status-without in let z : _≡_ {A = ℕ} 0 1 = cc in absurd (omega arith)
     waits (t ∷ ts) e = unfold status-without in told-idle (some-waits (t ∷ ts)) e
 
-    go : (r : Runner) → T .runner ≡ r → by-runner (status-without (T .threads)) (λ n s. Working) r ≡ Idle → (T .runner ≡ NoRunner) × (some-waits (T .threads) ≡ true)
+    go : (r : Runner) → T .runner ≡ r → by-runner (status-without (T .threads)) (λ n s. Working) r ≡ Idle → (T .runner ≡ NoRunner)
+        × (some-waits (T .threads) ≡ true)
     go NoRunner r e = (r, waits (T .threads) e)
     go (Runs n k) r e = let z : _≡_ {A = ℕ} 0 1 = cc in absurd (omega arith)
 
@@ -138,19 +156,22 @@ idle-wakes L T h s = let i = idle-says T s in series-wakes T (rested (tested-rul
 
 -- An idle node accepts that series as bytes, and is woken by it.
 pub idle-woken : (L : Limits) (T : Tables) → table-rules L T ≡ true → status T ≡ Idle
-    → (run L T (map bytes-of (waking-series T)) ≡ outside T (waking-series T)) × (some-ready (run L T (map bytes-of (waking-series T))) ≡ true)
+    → (run L T (map bytes-of (waking-series T)) ≡ outside T (waking-series T))
+    × (some-ready (run L T (map bytes-of (waking-series T))) ≡ true)
 idle-woken L T h s =
     let i = idle-says T s in
     let e = series-accepted L T (rested (tested-ruled L T h) (i .0)) (i .1) (unfold over in rw s) in
     (e, ap some-ready e ∙ idle-wakes L T h s .1)
 
--- Nobody runs and threads remain: the node is panicked exactly if no series of ticks and interrupts, were they accepted, makes any thread ready.
+-- Nobody runs and threads remain: the node is panicked exactly if no series of ticks and interrupts, were they accepted, makes any thread
+-- ready.
 pub panicked-exactly : (L : Limits) (T : Tables) → table-rules L T ≡ true → T .runner ≡ NoRunner → any (λ t. true) (T .threads) ≡ true
     → (status T ≡ Panicked) ↔ ((es : List Event) → all from-outside es ≡ true → some-ready (outside T es) ≡ false)
 panicked-exactly L T h r some =
     (λ s. never-ready (tested-ruled L T h) r (told-panicked _ (sym (told T r some _ refl) ∙ s)), λ f. go (some-waits (T .threads)) refl f)
   where
-    go : (b : Bool) → some-waits (T .threads) ≡ b → ((es : List Event) → all from-outside es ≡ true → some-ready (outside T es) ≡ false) → status T ≡ Panicked
+    go : (b : Bool) → some-waits (T .threads) ≡ b → ((es : List Event) → all from-outside es ≡ true → some-ready (outside T es) ≡ false) →
+        status T ≡ Panicked
     go true e f = let w = idle-wakes L T h (told T r some true e) in absurd (clash (w .1) (f (waking-series T) (w .0)))
     go false e f = told T r some false e
 
@@ -160,7 +181,8 @@ pub idle-exactly : (L : Limits) (T : Tables) → table-rules L T ≡ true → T 
 idle-exactly L T h r some =
     (λ s. let w = idle-wakes L T h s in (waking-series T, w .0, w .1), λ x. go (some-waits (T .threads)) refl x)
   where
-    go : (b : Bool) → some-waits (T .threads) ≡ b → (es : List Event) × (all from-outside es ≡ true) × (some-ready (outside T es) ≡ true) → status T ≡ Idle
+    go : (b : Bool) → some-waits (T .threads) ≡ b → (es : List Event) × (all from-outside es ≡ true) × (some-ready (outside T es) ≡ true) →
+        status T ≡ Idle
     go true e x = told T r some true e
     go false e x = absurd (clash (x .2) (never-ready (tested-ruled L T h) r e (x .0) (x .1)))
 

@@ -8,14 +8,14 @@ use native.Mathlib.Omega.{arith}
 use borrow.Author.Tests.{eqb-true}
 use Rattle.rules.specs.Lists.{_==_, any, count, chain}
 use Rattle.rules.specs.Numbers.{Limits, names, full-slice}
-use Rattle.laws.specs.Words.{Running, NoParent, Thread}
 use Rattle.rules.specs.Tables.{Tables, new-thread, runs-as, start}
 use Rattle.rules.specs.States.{is-running, is-ready, on-clock, at-device}
 use Rattle.rules.specs.Step.{step}
 use Rattle.rules.specs.Runs.{Input, run}
 use Rattle.rules.specs.TableRules.{table-rules}
-use Rattle.laws.proofs.Tests.{and-true, and-false, or-cases, one-at-most}
+use Rattle.laws.specs.Words.{Running, NoParent, Thread}
 use Rattle.laws.specs.Types.{here, Agree, Inv, Steady, Detail, Fits, Ruled}
+use Rattle.laws.proofs.Tests.{and-true, and-false, or-cases, one-at-most}
 use Rattle.laws.proofs.PlacesKept.{step-inv}
 use Rattle.laws.proofs.Right.{new-right}
 use Rattle.laws.proofs.Good.{step-good}
@@ -59,7 +59,11 @@ start-steady = record {
 start-fits : (L : Limits) → Fits L start
 unfolding count chain at-device
 start-fits L = record {
-  family = record { depth = λ n. 0; root = λ t m e. ap (λ (x : Thread). x .parent) (is-first t m); under = λ t m d. absurd (d (ap (λ (x : Thread). x .name) (is-first t m))) };
+  family = record {
+    depth = λ n. 0;
+    root = λ t m e. ap (λ (x : Thread). x .parent) (is-first t m);
+    under = λ t m d. absurd (d (ap (λ (x : Thread). x .name) (is-first t m)));
+  };
   threads = λ t m. rw (is-first t m) (new-right (first ∷ []) [] 0 NoParent Running (unfold Detail in tt));
   waiters = λ d. omega arith;
   messages = λ m i. elim i [ ];
@@ -77,7 +81,11 @@ start-ruled L l = record { inv = start-inv L l; steady = start-steady; fits = st
 -- ---- a step, and a run
 
 pub step-ruled : {L : Limits} {T : Tables} (bytes : List ℕ) → L .threads < names → Ruled L T → Ruled L (step L T bytes .tables)
-step-ruled bytes l R = record { inv = step-inv bytes l (R .inv); steady = step-steady bytes l (R .inv) (R .steady); fits = step-good bytes l (R .inv) (R .fits) }
+step-ruled bytes l R = record {
+  inv = step-inv bytes l (R .inv);
+  steady = step-steady bytes l (R .inv) (R .steady);
+  fits = step-good bytes l (R .inv) (R .fits);
+}
 
 pub run-ruled : {L : Limits} (T : Tables) (es : Input) → L .threads < names → Ruled L T → Ruled L (run L T es)
 unfolding run
@@ -91,7 +99,8 @@ pub rules-hold-at-the-start : (L : Limits) → 1 ≤ L .threads → table-rules 
 rules-hold-at-the-start L l = ruled-tested (start-ruled L l)
 
 -- Every step keeps the table rules: on any bytes, accepted or refused, if threads are fewer than names.
-pub rules-are-kept : (L : Limits) (T : Tables) (bytes : List ℕ) → L .threads < names → table-rules L T ≡ true → table-rules L (step L T bytes .tables) ≡ true
+pub rules-are-kept : (L : Limits) (T : Tables) (bytes : List ℕ) → L .threads < names → table-rules L T ≡ true →
+    table-rules L (step L T bytes .tables) ≡ true
 rules-are-kept L T bytes l h = ruled-tested (step-ruled bytes l (tested-ruled L T h))
 
 -- From the start, after any events, the table rules hold.

@@ -1,6 +1,6 @@
--- Nothing names an ended thread: whoever a message, a wait, a parent, a manager entry or the runner names is live. The answers already due are the
--- exception: "An answer already due to a thread stays, even if its sender has ended." The name given last is no such place: it only says where names
--- go on. And a newcomer is not named yet.
+-- Nothing names an ended thread: whoever a message, a wait, a parent, a manager entry or the runner names is live. The answers already
+-- due are the exception: "An answer already due to a thread stays, even if its sender has ended." The name given last is no such place:
+-- it only says where names go on. And a newcomer is not named yet.
 use Prim.Native.Nat.{ℕ, _≤_, _<_}
 use mathlib.Core.Path.{_≡_, refl, sym, ap, _∙_, subst}
 use mathlib.Core.Logic.{⊎-elim, _≢_}
@@ -17,21 +17,22 @@ use Rattle.rules.specs.Requests.{next-name, create}
 use Rattle.rules.specs.Step.{step}
 use Rattle.rules.specs.Runs.{Input, run}
 use Rattle.rules.specs.TableRules.{table-rules}
+use Rattle.laws.specs.Words.{Only, TrapKind, State, Receiving, Trapped, Answer, Manager, Unset, Set, Gone, Managers, Parent, ParentIs}
+use Rattle.laws.specs.Words.{Thread, Message}
 use Rattle.laws.specs.Living.{NamesTheLiving, NotYetNamed}
-use Rattle.laws.specs.Words.{Only, TrapKind, State, Receiving, Trapped, Answer, Manager, Unset, Set, Gone, Managers, Parent, ParentIs, Thread, Message}
+use Rattle.laws.specs.Types.{Entry, Detail, Family, Ruled}
+use Rattle.laws.specs.Ending.{Forgotten}
+use Rattle.laws.specs.Requests.{Made}
+use Rattle.laws.specs.Givings.{given-by, Begun, by-a-start, by-a-dump}
 use Rattle.laws.proofs.Tests.{clash, same?}
 use Rattle.laws.proofs.Tally.{count-append, none-count}
-use Rattle.laws.specs.Types.{Entry, Detail, Family, Ruled}
 use Rattle.laws.proofs.Threads.{member-live, here-le, here-live}
 use Rattle.laws.proofs.PlacesKept.{runner-live}
 use Rattle.laws.proofs.Members.{member-times}
-use Rattle.laws.specs.Ending.{Forgotten}
 use Rattle.laws.proofs.Sound.{tested-ruled}
 use Rattle.laws.proofs.Kept.{start-ruled, step-ruled, run-ruled}
 use Rattle.laws.proofs.Dump.{load-is-dump}
-use Rattle.laws.specs.Requests.{Made}
 use Rattle.laws.proofs.Requests.{made}
-use Rattle.laws.specs.Givings.{given-by, Begun, by-a-start, by-a-dump}
 use Rattle.laws.proofs.Givings.{gives-it}
 
 -- ---- tables that meet the table rules name the living
@@ -41,11 +42,13 @@ module _ (ts : List Thread) where
   unfolding Entry
   entry-live own g n e h = subst (Entry ts own) e h .0
 
-  wanted-live : (ms : List Message) (own n : ℕ) (g : Managers) (s : State) → s ≡ Receiving (Only n) → Detail ts ms own g s → any (named n) ts ≡ true
+  wanted-live : (ms : List Message) (own n : ℕ) (g : Managers) (s : State) → s ≡ Receiving (Only n) → Detail ts ms own g s →
+      any (named n) ts ≡ true
   unfolding Detail
   wanted-live ms own n g s e h = subst (Detail ts ms own g) e h .0
 
-  awaited-set : (ms : List Message) (own : ℕ) (g : Managers) (s : State) (k : TrapKind) → s ≡ Trapped k → Detail ts ms own g s → (n : ℕ) × (manager k g ≡ Set n)
+  awaited-set : (ms : List Message) (own : ℕ) (g : Managers) (s : State) (k : TrapKind) → s ≡ Trapped k → Detail ts ms own g s →
+      (n : ℕ) × (manager k g ≡ Set n)
   unfolding Detail
   awaited-set ms own g s k e h = go (manager k g) refl (subst (Detail ts ms own g) e h)
     where
@@ -99,26 +102,32 @@ module _ (T U : Tables) (N : NamesTheLiving T) (p : Parent) (a : Answer) (M : Ma
 
   -- what a thread's row names: the others' rows name the living, and the newcomer's own row does not name it
   of-others : (Names : Thread → ℕ → Type 0) → ((t : Thread) → List·Memᴰ t (T .threads) → (x : ℕ) → Names t x → live x T ≡ true) →
-      ((x : ℕ) → Names (M .thread) x → x ≢ M .thread .name) → (t : Thread) → List·Memᴰ t (U .threads) → (x : ℕ) → Names t x → x ≢ M .thread .name
+      ((x : ℕ) → Names (M .thread) x → x ≢ M .thread .name) → (t : Thread) → List·Memᴰ t (U .threads) → (x : ℕ) → Names t x →
+      x ≢ M .thread .name
   of-others Names old new t m x h = ⊎-elim (λ i. new x (subst (λ (y : Thread). Names y x) i h)) (λ i. other x (old t i x h)) (M .only t m)
 
   -- it is not its own parent
   own-parent : Family (U .threads) → (x : ℕ) → M .thread .parent ≡ ParentIs x → x ≢ M .thread .name
   own-parent F x e i =
       ⊎-elim (λ z. let q = F .root (M .thread) (M .there) (z .0) in let c : _≡_ {A = ℕ} 0 1 = cc in absurd (omega arith))
-      (λ z. let u = F .under (M .thread) (M .there) (z .0) in let q : u .0 ≡ M .thread .name = cc (u .1) in absurd (omega (arith, ap (F .depth) q, u .3)))
+      (λ z. let u = F .under (M .thread) (M .there) (z .0) in let q : u .0 ≡ M .thread .name = cc (u .1) in
+      absurd (omega (arith, ap (F .depth) q, u .3)))
       (same? (M .thread .name) 0)
 
-  not-yet-named : Family (U .threads) → U .messages ≡ T .messages → U .clock ≡ T .clock → U .runner ≡ T .runner → times-in (U .ready) (M .thread .name) ≡ 1 → NotYetNamed (M .thread .name) U
+  not-yet-named : Family (U .threads) → U .messages ≡ T .messages → U .clock ≡ T .clock → U .runner ≡ T .runner →
+      times-in (U .ready) (M .thread .name) ≡ 1 → NotYetNamed (M .thread .name) U
   not-yet-named F ms c r q = record {
     senders = λ m i. other (m .from) (N .senders m (subst (List·Memᴰ m) ms i));
     receivers = λ m i. other (m .to) (N .receivers m (subst (List·Memᴰ m) ms i));
-    wanted = of-others (λ t x. t .state ≡ Receiving (Only x)) (N .wanted) (λ x e. let s = M .state in let z : _≡_ {A = ℕ} 0 1 = cc in absurd (omega arith));
+    wanted = of-others (λ t x. t .state ≡ Receiving (Only x)) (N .wanted) (λ x e. let s = M .state in let z : _≡_ {A = ℕ} 0 1 = cc in
+        absurd (omega arith));
     on-the-clock = λ x i. other x (N .on-the-clock x (subst (List·Memᴰ x) c i));
     parents = of-others (λ t x. t .parent ≡ ParentIs x) (N .parents) (own-parent F);
-    managers = λ t m k. of-others (λ u x. manager k (u .managers) ≡ Set x) (λ u i x e. N .managers u i k x e) (λ x e. let s = M .managers k in let z : _≡_ {A = ℕ} 0 1 = cc in absurd (omega arith)) t m;
+    managers = λ t m k. of-others (λ u x. manager k (u .managers) ≡ Set x) (λ u i x e. N .managers u i k x e)
+        (λ x e. let s = M .managers k in let z : _≡_ {A = ℕ} 0 1 = cc in absurd (omega arith)) t m;
     runner = λ x s e. other x (N .runner x s (sym r ∙ e));
-    state = λ t m e. ⊎-elim (λ i. (ap (λ (x : Thread). x .state) i ∙ M .state, ap (λ (x : Thread). x .answer) i ∙ M .answer)) (λ i. absurd (other (t .name) (member-live (T .threads) t i) e)) (M .only t m);
+    state = λ t m e. ⊎-elim (λ i. (ap (λ (x : Thread). x .state) i ∙ M .state, ap (λ (x : Thread). x .answer) i ∙ M .answer))
+        (λ i. absurd (other (t .name) (member-live (T .threads) t i) e)) (M .only t m);
     ready = q;
   }
 
@@ -127,22 +136,32 @@ unfolding count
 alone x y e = omega (arith, ap one-if (eq-eqb x y e))
 
 -- the thread that is created
-created-not-yet-named : (L : Limits) (T : Tables) → L .threads < names → table-rules L T ≡ true → (p : Parent) → Family (create p T .tables .threads) → NotYetNamed (next-name T) (create p T .tables)
+created-not-yet-named : (L : Limits) (T : Tables) → L .threads < names → table-rules L T ≡ true → (p : Parent) →
+    Family (create p T .tables .threads) → NotYetNamed (next-name T) (create p T .tables)
 unfolding create
 created-not-yet-named L T l R p F =
     let G = tested-ruled L T R in
     let M = made L T p l R in
     let told = M .told in
     let q : M .thread .name ≡ next-name T = cc in
-    let none : times-in (T .ready) (M .thread .name) ≡ 0 = omega (arith, G .inv .agree .wait (M .thread .name), here-le is-ready (M .thread .name) (T .threads), none-count (named (M .thread .name)) (T .threads) (M .new)) in
+    let none : times-in (T .ready) (M .thread .name) ≡ 0 = omega (
+      arith,
+      G .inv .agree .wait (M .thread .name),
+      here-le is-ready (M .thread .name) (T .threads),
+      none-count (named (M .thread .name))
+          (T .threads) (M .new),
+    ) in
     let once = count-append (λ m. M .thread .name == m) (T .ready) (next-name T ∷ []) in
-    subst (λ (x : ℕ). NotYetNamed x (create p T .tables)) q (not-yet-named T (create p T .tables) (ruled-names-the-living L T G) p (create p T .answer) M F refl refl refl (omega (arith, once, none, alone (M .thread .name) (next-name T) q)))
+    subst (λ (x : ℕ). NotYetNamed x (create p T .tables)) q
+    (not-yet-named T (create p T .tables) (ruled-names-the-living L T G) p (create p T .answer) M F refl refl refl
+    (omega (arith, once, none, alone (M .thread .name) (next-name T) q)))
 
 -- ---- the laws
 
--- From a start, or from a dump that is read, after any events: no message, wait, parent, manager or runner names a thread that has ended. Of the
--- answers due it is not so: Examples.antt shows three.
-pub nothing-names-the-ended : (L : Limits) → 1 ≤ L .threads → L .threads < names → {T : Tables} {given : List ℕ} → Begun L T given → (es : Input) → NamesTheLiving (run L T es)
+-- From a start, or from a dump that is read, after any events: no message, wait, parent, manager or runner names a thread that has ended.
+-- Of the answers due it is not so: Examples.antt shows three.
+pub nothing-names-the-ended : (L : Limits) → 1 ≤ L .threads → L .threads < names → {T : Tables} {given : List ℕ} → Begun L T given →
+    (es : Input) → NamesTheLiving (run L T es)
 nothing-names-the-ended L o l B es = ruled-names-the-living L _ (run-ruled _ es l (begun B))
   where
     begun : {T : Tables} {given : List ℕ} → Begun L T given → Ruled L T
@@ -150,9 +169,11 @@ nothing-names-the-ended L o l B es = ruled-names-the-living L _ (run-ruled _ es 
     begun (by-a-dump bytes T e) = tested-ruled L T (load-is-dump L bytes T e .0)
 
 -- An event that gives a name brings a thread that is not named yet, and to which no answer is due.
-pub newcomer-is-not-yet-named : (L : Limits) (T : Tables) (bytes : List ℕ) (n : ℕ) → L .threads < names → table-rules L T ≡ true → given-by L T bytes ≡ n ∷ [] → NotYetNamed n (step L T bytes .tables)
+pub newcomer-is-not-yet-named : (L : Limits) (T : Tables) (bytes : List ℕ) (n : ℕ) → L .threads < names → table-rules L T ≡ true →
+    given-by L T bytes ≡ n ∷ [] → NotYetNamed n (step L T bytes .tables)
 newcomer-is-not-yet-named L T bytes n l R e =
     let g = gives-it L T bytes n e in
     let G = tested-ruled L T R in
     let F = subst (λ (U : Tables). Family (U .threads)) (g .tables) (step-ruled bytes l G .fits .family) in
-    subst (NotYetNamed n) (sym (g .tables)) (subst (λ (x : ℕ). NotYetNamed x (create (g .parent) T .tables)) (g .next) (created-not-yet-named L T l R (g .parent) F))
+    subst (NotYetNamed n) (sym (g .tables))
+    (subst (λ (x : ℕ). NotYetNamed x (create (g .parent) T .tables)) (g .next) (created-not-yet-named L T l R (g .parent) F))

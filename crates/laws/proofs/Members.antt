@@ -16,7 +16,8 @@ module _ {A : Type 0} where
   mem-keep p [] m = elim m [ ]
   mem-keep p (y ∷ xs) {x} m = go (p y) refl m (mem-keep p xs)
     where
-      go : (b : Bool) → p y ≡ b → List·Memᴰ x (if b then y ∷ keep p xs else keep p xs) → (List·Memᴰ x (keep p xs) → List·Memᴰ x xs × (p x ≡ true)) → List·Memᴰ x (y ∷ xs) × (p x ≡ true)
+      go : (b : Bool) → p y ≡ b → List·Memᴰ x (if b then y ∷ keep p xs else keep p xs) →
+          (List·Memᴰ x (keep p xs) → List·Memᴰ x xs × (p x ≡ true)) → List·Memᴰ x (y ∷ xs) × (p x ≡ true)
       go true e (List·Memᴰ·head q) later = (List·Memᴰ·head q, ap p q ∙ e)
       go true e (List·Memᴰ·tail n) later = let r = later n in (List·Memᴰ·tail (r .0), r .1)
       go false e n later = let r = later n in (List·Memᴰ·tail (r .0), r .1)
@@ -33,7 +34,8 @@ module _ {A : Type 0} where
   mem-insert p a [] (List·Memᴰ·tail m) = elim m [ ]
   mem-insert p a (y ∷ xs) {x} m = go (p y) m (mem-insert p a xs)
     where
-      go : (b : Bool) → List·Memᴰ x (if b then y ∷ insert p a xs else a ∷ y ∷ xs) → (List·Memᴰ x (insert p a xs) → (x ≡ a) ⊎ List·Memᴰ x xs) → (x ≡ a) ⊎ List·Memᴰ x (y ∷ xs)
+      go : (b : Bool) → List·Memᴰ x (if b then y ∷ insert p a xs else a ∷ y ∷ xs) →
+          (List·Memᴰ x (insert p a xs) → (x ≡ a) ⊎ List·Memᴰ x xs) → (x ≡ a) ⊎ List·Memᴰ x (y ∷ xs)
       go true (List·Memᴰ·head e) later = inr (List·Memᴰ·head e)
       go true (List·Memᴰ·tail n) later = ⊎-elim inl (λ k. inr (List·Memᴰ·tail k)) (later n)
       go false (List·Memᴰ·head e) later = inl e
@@ -46,8 +48,10 @@ module _ {A : Type 0} where
 
   pub insert-old : (p : A → Bool) (a : A) (l : List A) {x : A} → List·Memᴰ x l → List·Memᴰ x (insert p a l)
   unfolding insert
-  insert-old p a (y ∷ l) {x} (List·Memᴰ·head e) = by-if (λ (r : List A). List·Memᴰ x r) (p y) (λ _. List·Memᴰ·head e) (λ _. List·Memᴰ·tail (List·Memᴰ·head e))
-  insert-old p a (y ∷ l) {x} (List·Memᴰ·tail m) = by-if (λ (r : List A). List·Memᴰ x r) (p y) (λ _. List·Memᴰ·tail (insert-old p a l m)) (λ _. List·Memᴰ·tail (List·Memᴰ·tail m))
+  insert-old p a (y ∷ l) {x} (List·Memᴰ·head e) =
+      by-if (λ (r : List A). List·Memᴰ x r) (p y) (λ _. List·Memᴰ·head e) (λ _. List·Memᴰ·tail (List·Memᴰ·head e))
+  insert-old p a (y ∷ l) {x} (List·Memᴰ·tail m) =
+      by-if (λ (r : List A). List·Memᴰ x r) (p y) (λ _. List·Memᴰ·tail (insert-old p a l m)) (λ _. List·Memᴰ·tail (List·Memᴰ·tail m))
 
   pub mem-map : {B : Type 0} (f : A → B) (xs : List A) {y : B} → List·Memᴰ y (map f xs) → (x : A) × List·Memᴰ x xs × (y ≡ f x)
   mem-map f [] m = elim m [ ]
@@ -59,9 +63,11 @@ module _ {A : Type 0} where
   map-mem f (y ∷ xs) (List·Memᴰ·tail m) = List·Memᴰ·tail (map-mem f xs m)
 
 -- what was coded and read comes back
-pub map-back : {A B : Type 0} (code : A → B) (read : B → A) (xs : List A) → ((x : A) → List·Memᴰ x xs → read (code x) ≡ x) → map read (map code xs) ≡ xs
+pub map-back : {A B : Type 0} (code : A → B) (read : B → A) (xs : List A) → ((x : A) → List·Memᴰ x xs → read (code x) ≡ x) →
+    map read (map code xs) ≡ xs
 map-back code read [] h = refl
-map-back code read (x ∷ xs) h = ap₂ (λ (y : _) (ys : List _). y ∷ ys) (h x (List·Memᴰ·head refl)) (map-back code read xs (λ y m. h y (List·Memᴰ·tail m)))
+map-back code read (x ∷ xs) h =
+    ap₂ (λ (y : _) (ys : List _). y ∷ ys) (h x (List·Memᴰ·head refl)) (map-back code read xs (λ y m. h y (List·Memᴰ·tail m)))
 
 -- ---- numbers in a list
 
@@ -103,7 +109,8 @@ has-any x p l h e = member-any p l x (has-member l h) e
 pub from-on-mem : (a n d : ℕ) → a ≤ d → d < a + n → List·Memᴰ d (from-on a n)
 unfolding from-on
 from-on-mem a zero d l h = absurd (omega arith)
-from-on-mem a (suc n) d l h = ⊎-elim (λ e. List·Memᴰ·head (sym (e .0))) (λ e. List·Memᴰ·tail (from-on-mem (suc a) n d (omega (arith, e .0)) (omega arith))) (same? a d)
+from-on-mem a (suc n) d l h = ⊎-elim (λ e. List·Memᴰ·head (sym (e .0)))
+    (λ e. List·Memᴰ·tail (from-on-mem (suc a) n d (omega (arith, e .0)) (omega arith))) (same? a d)
 
 -- some numbers in a row, and those behind them
 pub from-on-parts : (a k l : ℕ) → from-on a (k + l) ≡ from-on a k ++ from-on (a + k) l

@@ -10,9 +10,9 @@ use lib.ListN.{length}
 use borrow.Author.Tests.{eqb-true, ne-eqb}
 use Rattle.rules.specs.Lists.{_==_, any, keep}
 use Rattle.rules.specs.Numbers.{Limits, names}
-use Rattle.laws.specs.Words.{Thread}
 use Rattle.rules.specs.Tables.{Tables, with-threads, named, live}
 use Rattle.rules.specs.Requests.{free-name, next-name}
+use Rattle.laws.specs.Words.{Thread}
 use Rattle.laws.proofs.Tally.{count-length, count-not, length-keep, any-count, zero-any, any-counts, all-left}
 
 -- the name i steps behind n
@@ -33,7 +33,8 @@ found zero n T = record { steps = 1; some = omega arith; most = omega arith; giv
 found (suc k) n T = go (live (after n 1) T) refl (found k (after n 1) T)
   where
     go : (b : Bool) → live (after n 1) T ≡ b → Found k (after n 1) T → Found (suc k) n T
-    go false e later = record { steps = 1; some = omega arith; most = omega arith; given = rw (e, free-name); passed = λ j a b. absurd (omega arith) }
+    go false e later =
+        record { steps = 1; some = omega arith; most = omega arith; given = rw (e, free-name); passed = λ j a b. absurd (omega arith) }
     go true e later = record {
       steps = later .steps + 1;
       some = omega arith;
@@ -50,14 +51,17 @@ found (suc k) n T = go (live (after n 1) T) refl (found k (after n 1) T)
             rw q (later .passed (suc i) (omega arith) (omega arith))
 
 -- the names tried decide
-same-tries : (k n : ℕ) (T U : Tables) → ((i : ℕ) → 1 ≤ i → i ≤ k → live (after n i) T ≡ live (after n i) U) → free-name k n T ≡ free-name k n U
+same-tries : (k n : ℕ) (T U : Tables) → ((i : ℕ) → 1 ≤ i → i ≤ k → live (after n i) T ≡ live (after n i) U) →
+    free-name k n T ≡ free-name k n U
 unfolding free-name
 same-tries zero n T U e = refl
 same-tries (suc k) n T U e =
     go (live (after n 1) T) refl
-    (same-tries k (after n 1) T U (λ i a b. let q : after (after n 1) i ≡ after n (i + 1) = omega arith in rw q (e (i + 1) (omega arith) (omega arith))))
+    (same-tries k (after n 1) T U (λ i a b. let q : after (after n 1) i ≡ after n (i + 1) = omega arith in
+    rw q (e (i + 1) (omega arith) (omega arith))))
   where
-    go : (b : Bool) → live (after n 1) T ≡ b → free-name k (after n 1) T ≡ free-name k (after n 1) U → free-name (suc k) n T ≡ free-name (suc k) n U
+    go : (b : Bool) → live (after n 1) T ≡ b → free-name k (after n 1) T ≡ free-name k (after n 1) U →
+        free-name (suc k) n T ≡ free-name (suc k) n U
     go true l later = rw (l, sym (e 1 (omega arith) (omega arith)) ∙ l, free-name) later
     go false l later = rw (l, sym (e 1 (omega arith) (omega arith)) ∙ l, free-name)
 
@@ -66,7 +70,8 @@ abbrev others : ℕ → Tables → Tables
 others c T = with-threads (keep (λ t. not (named c t)) (T .threads)) T
 
 live-others : (m c : ℕ) → m ≢ c → (ts : List Thread) → any (named m) (keep (λ t. not (named c t)) ts) ≡ any (named m) ts
-live-others m c d ts = any-counts (named m) (named m) _ ts (all-left (λ t. t .name) (λ x. c == x) (named m) m (λ t e. eqb-true m (t .name) e) (ne-eqb c m (λ e. d (sym e))) ts)
+live-others m c d ts = any-counts (named m) (named m) _ ts
+    (all-left (λ t. t .name) (λ x. c == x) (named m) m (λ t e. eqb-true m (t .name) e) (ne-eqb c m (λ e. d (sym e))) ts)
 
 -- with at most k threads, k at most 253, the name given is no thread's: of the k + 1 names behind n, which differ, k can be taken
 fresh : (k n : ℕ) (T : Tables) → k < names → length (T .threads) ≤ k → live (free-name k n T) T ≡ false
@@ -77,7 +82,8 @@ fresh (suc k) n T b l = go (live (after n 1) T) refl (λ le. fresh k (after n 1)
     c : ℕ
     c = after n 1
 
-    go : (b : Bool) → live c T ≡ b → (length (others c T .threads) ≤ k → live (free-name k c (others c T)) (others c T) ≡ false) → live (free-name (suc k) n T) T ≡ false
+    go : (b : Bool) → live c T ≡ b → (length (others c T .threads) ≤ k → live (free-name k c (others c T)) (others c T) ≡ false) →
+        live (free-name (suc k) n T) T ≡ false
     go false e later = rw (e, free-name) e
     go true e later =
         let hc : c < names = mod-lt (n + 1) (omega arith) in
@@ -86,7 +92,13 @@ fresh (suc k) n T b l = go (live (after n 1) T) refl (λ le. fresh k (after n 1)
         same-tries k c (others c T) T (λ i one most. live-others (after c i) c (omega arith) (T .threads)) in
         rw (e, free-name)
         (sym (live-others (free-name k c T) c (omega (arith, p .given)) (T .threads))
-        ∙ rw (sym q) (later (omega (arith, length-keep (λ t. not (named c t)) (T .threads), count-not (named c) (T .threads), any-count (named c) (T .threads) e))))
+        ∙ rw (sym q)
+        (later (omega (
+          arith,
+          length-keep (λ t. not (named c t)) (T .threads),
+          count-not (named c) (T .threads),
+          any-count (named c) (T .threads) e,
+        ))))
 
 -- ---- the laws
 
@@ -99,12 +111,14 @@ pub name-fresh : (T : Tables) → length (T .threads) < names → live (next-nam
 name-fresh T few = fresh (length (T .threads)) (T .last) T few (omega arith)
 
 -- with room for fewer than 254 threads, and no more there than the room, the name given is no live thread's
-pub name-free : (L : Limits) (T : Tables) → L .threads < names → T .last < names → length (T .threads) ≤ L .threads → live (next-name T) T ≡ false
+pub name-free : (L : Limits) (T : Tables) → L .threads < names → T .last < names → length (T .threads) ≤ L .threads →
+    live (next-name T) T ≡ false
 name-free L T l h few = name-fresh T (omega arith)
 
 -- The name given is the first of the successors, modulo 254, of the name given last that no live thread has.
 pub name-is-first-free : (T : Tables) → T .last < names → length (T .threads) < names →
-    (i : ℕ) × (1 ≤ i) × (next-name T ≡ (T .last + i) % names) × (live (next-name T) T ≡ false) × ((j : ℕ) → 1 ≤ j → j < i → live ((T .last + j) % names) T ≡ true)
+    (i : ℕ) × (1 ≤ i) × (next-name T ≡ (T .last + i) % names) × (live (next-name T) T ≡ false)
+    × ((j : ℕ) → 1 ≤ j → j < i → live ((T .last + j) % names) T ≡ true)
 name-is-first-free T h few =
     let p = found (length (T .threads)) (T .last) T in
     (p .steps, p .some, p .given, name-fresh T few, p .passed)

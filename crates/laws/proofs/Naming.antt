@@ -13,14 +13,14 @@ use lib.Seq.{drop-cons}
 use borrow.Author.Tests.{eq-eqb, ne-eqb, ltb-true, ltb-false}
 use Rattle.rules.specs.Lists.{if_then_else_, any, chain}
 use Rattle.rules.specs.Numbers.{names}
-use Rattle.laws.specs.Naming.{walked}
-use Rattle.laws.specs.Words.{Thread}
 use Rattle.rules.specs.Tables.{Tables, named, live}
 use Rattle.rules.specs.Requests.{free-name, next-name}
+use Rattle.laws.specs.Words.{Thread}
+use Rattle.laws.specs.Naming.{walked}
+use Rattle.laws.specs.Types.{Rising}
 use Rattle.laws.proofs.Tests.{same?, and-left, and-right, or-false}
 use Rattle.laws.proofs.Tally.{none-any}
 use Rattle.laws.proofs.Ordered.{chain-tail, up-below}
-use Rattle.laws.specs.Types.{Rising}
 use Rattle.laws.proofs.Names.{name-fresh}
 
 -- ---- one name after the other: the name given when k names may be tried yet, beginning with m
@@ -77,7 +77,8 @@ module _ (c : ℕ) where
   walked-none [] e = refl
   walked-none (t ∷ ts) e = go (named c t) e (walked-none ts)
     where
-      go : (b : Bool) → (b || any (named c) ts) ≡ false → (any (named c) ts ≡ false → walked c ts ≡ c) → walked (if b then (c + 1) % names else c) ts ≡ c
+      go : (b : Bool) → (b || any (named c) ts) ≡ false → (any (named c) ts ≡ false → walked c ts ≡ c) →
+          walked (if b then (c + 1) % names else c) ts ≡ c
       go true e later = absurd (false≢true (sym e))
       go false e later = later e
 
@@ -91,7 +92,8 @@ module _ (c : ℕ) where
 
   -- ---- at place i: who has the name moves it on, before a higher one it stops, and so it does behind the last
 
-  pub walk-moves : (ts : List Thread) (i : ℕ) (d : Thread) → i < length ts → c ≡ getD ts i d .name → walked c (drop i ts) ≡ walked ((c + 1) % names) (drop (i + 1) ts)
+  pub walk-moves : (ts : List Thread) (i : ℕ) (d : Thread) → i < length ts → c ≡ getD ts i d .name →
+      walked c (drop i ts) ≡ walked ((c + 1) % names) (drop (i + 1) ts)
   unfolding walked
   walk-moves ts i d h e =
       ap (walked c) (drop-cons ts i d h)
@@ -121,10 +123,12 @@ module _ (T : Tables) where
   -- the first name from c on that nobody has, or 0 where 253 has been passed over
   walk-finds : (c : ℕ) (ts : List Thread) → c < names → Rising ts → Left c ts → walked c ts ≡ from-name (names - c) c T
   unfolding walked any
-  walk-finds c [] h r l = let q : names - c ≡ suc (names - (c + 1)) = omega arith in rw q (sym (free-stays c T (suc (names - (c + 1))) (l c (omega arith))))
+  walk-finds c [] h r l = let q : names - c ≡ suc (names - (c + 1)) = omega arith in
+      rw q (sym (free-stays c T (suc (names - (c + 1))) (l c (omega arith))))
   walk-finds c (t ∷ ts) h r l =
       ⊎-elim
-      (λ e. has (e .0) (e .1) (λ k. walk-finds (c + 1) ts k (chain-tail _ t ts r) (left-tail c (c + 1) t ts (omega arith) (omega (arith, e .0)) l)))
+      (λ e. has (e .0) (e .1) (λ k. walk-finds (c + 1) ts k (chain-tail _ t ts r)
+      (left-tail c (c + 1) t ts (omega arith) (omega (arith, e .0)) l)))
       (λ e. hasn't (e .0) (e .1) (λ k. walk-finds c ts h (chain-tail _ t ts r) (left-tail c c t ts (omega arith) k l)))
       (same? c (t .name))
     where
@@ -134,7 +138,8 @@ module _ (T : Tables) where
       next : ℕ
       next = (c + 1) % names
 
-      has : c ≡ t .name → named c t ≡ true → (c + 1 < names → walked (c + 1) ts ≡ from-name (names - (c + 1)) (c + 1) T) → walked (if named c t then next else c) ts ≡ from-name (names - c) c T
+      has : c ≡ t .name → named c t ≡ true → (c + 1 < names → walked (c + 1) ts ≡ from-name (names - (c + 1)) (c + 1) T) →
+          walked (if named c t then next else c) ts ≡ from-name (names - c) c T
       has e f later =
           ap (λ (b : Bool). walked (if b then next else c) ts) f
           ∙ go (ltb (c + 1) names) refl
@@ -144,16 +149,19 @@ module _ (T : Tables) where
           go true k = let n : next ≡ c + 1 = omega (arith, ltb-true (c + 1) names k) in rw n (later (ltb-true (c + 1) names k))
           go false k = let n : next ≡ 0 = omega (arith, ltb-false (c + 1) names k) in
               let z : names - (c + 1) ≡ 0 = omega (arith, ltb-false (c + 1) names k) in
-              rw (n, z) (walked-none 0 ts (or-false (named 0 t) (any (named 0) ts) (none-above 0 t ts r (omega arith)) .1) ∙ sym (untried 0 T))
+              rw (n, z) (walked-none 0 ts (or-false (named 0 t) (any (named 0) ts) (none-above 0 t ts r (omega arith)) .1)
+              ∙ sym (untried 0 T))
 
-      hasn't : c ≢ t .name → named c t ≡ false → (t .name < c → walked c ts ≡ from-name (names - c) c T) → walked (if named c t then next else c) ts ≡ from-name (names - c) c T
+      hasn't : c ≢ t .name → named c t ≡ false → (t .name < c → walked c ts ≡ from-name (names - c) c T) →
+          walked (if named c t then next else c) ts ≡ from-name (names - c) c T
       hasn't e f later = ap (λ (b : Bool). walked (if b then next else c) ts) f ∙ go (ltb (t .name) c) refl
         where
           go : (b : Bool) → ltb (t .name) c ≡ b → walked c ts ≡ from-name (names - c) c T
           go true k = later (ltb-true (t .name) c k)
           go false k =
               let z = none-above c t ts r (omega (arith, ltb-false (t .name) c k)) in
-              walked-none c ts (or-false (named c t) (any (named c) ts) z .1) ∙ sym (rw q (free-stays c T (suc (names - (c + 1))) (l c (omega arith) ∙ z)))
+              walked-none c ts (or-false (named c t) (any (named c) ts) z .1)
+              ∙ sym (rw q (free-stays c T (suc (names - (c + 1))) (l c (omega arith) ∙ z)))
 
   -- ---- coming round
 
@@ -164,9 +172,11 @@ module _ (T : Tables) where
       let q : suc a + b ≡ suc (a + b) = omega arith in
       rw q (go (live n T) refl (tries-on a b ((n + 1) % names)))
     where
-      go : (x : Bool) → live n T ≡ x → from-name (a + b) ((n + 1) % names) T ≡ from-name b (from-name a ((n + 1) % names) T) T → from-name (suc (a + b)) n T ≡ from-name b (from-name (suc a) n T) T
+      go : (x : Bool) → live n T ≡ x → from-name (a + b) ((n + 1) % names) T ≡ from-name b (from-name a ((n + 1) % names) T) T →
+          from-name (suc (a + b)) n T ≡ from-name b (from-name (suc a) n T) T
       go true e later = tries-next n T (a + b) e ∙ later ∙ sym (ap (λ (x : ℕ). from-name b x T) (tries-next n T a e))
-      go false e later = free-stays n T (suc (a + b)) e ∙ sym (free-stays n T b e) ∙ sym (ap (λ (x : ℕ). from-name b x T) (free-stays n T (suc a) e))
+      go false e later =
+          free-stays n T (suc (a + b)) e ∙ sym (free-stays n T b e) ∙ sym (ap (λ (x : ℕ). from-name b x T) (free-stays n T (suc a) e))
 
   -- up to 253 a name is given that nobody has, or the walk came round to 0
   free-or-round : (k n : ℕ) → n + suc k ≡ names → from-name (suc k) n T ≢ 0 → live (from-name (suc k) n T) T ≡ false
@@ -177,7 +187,8 @@ module _ (T : Tables) where
       go false f = rw (free-stays n T 1 f) f
   free-or-round (suc k) n e h = go (live n T) refl (free-or-round k (n + 1) (omega arith))
     where
-      go : (b : Bool) → live n T ≡ b → (from-name (suc k) (n + 1) T ≢ 0 → live (from-name (suc k) (n + 1) T) T ≡ false) → live (from-name (suc (suc k)) n T) T ≡ false
+      go : (b : Bool) → live n T ≡ b → (from-name (suc k) (n + 1) T ≢ 0 → live (from-name (suc k) (n + 1) T) T ≡ false) →
+          live (from-name (suc (suc k)) n T) T ≡ false
       go true f later =
           let s : from-name (suc (suc k)) n T ≡ from-name (suc k) (n + 1) T
           = tries-next n T (suc k) f ∙ ap (λ (x : ℕ). from-name (suc k) x T) (omega arith) in
@@ -188,7 +199,8 @@ module _ (T : Tables) where
 
   -- a walk from the successor of n on gives what the rules' search gives if it may pass over every name up to 253
   pub walk-gives : Rising (T .threads) → (n : ℕ) → walked ((n + 1) % names) (T .threads) ≡ free-name (names - (n + 1) % names) n T
-  walk-gives r n = walk-finds ((n + 1) % names) (T .threads) (mod-lt (n + 1) (omega arith)) r (λ m h. refl) ∙ by-first (names - (n + 1) % names) n T
+  walk-gives r n = walk-finds ((n + 1) % names) (T .threads) (mod-lt (n + 1) (omega arith)) r (λ m h. refl)
+      ∙ by-first (names - (n + 1) % names) n T
 
   abbrev first : ℕ
   first = (T .last + 1) % names
@@ -212,7 +224,8 @@ module _ (T : Tables) where
     pub next-above : x ≢ 0 → x ≡ next-name T
     next-above z =
         let q : names - first ≡ suc (names - (first + 1)) = omega arith in
-        let f : x ≡ from-name (suc (names - (first + 1))) first T = e ∙ sym (by-first (names - first) (T .last) T) ∙ ap (λ (k : ℕ). from-name k first T) q in
+        let f : x ≡ from-name (suc (names - (first + 1))) first T =
+        e ∙ sym (by-first (names - first) (T .last) T) ∙ ap (λ (k : ℕ). from-name k first T) q in
         sym (free-stays x T names (rw f (free-or-round (names - (first + 1)) first (omega arith) (rw f at z)))) ∙ found-from
 
     -- behind 253 comes 0

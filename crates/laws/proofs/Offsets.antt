@@ -1,10 +1,11 @@
--- The fields of some bytes at their places: which are listed, at which offsets and with which tags before them. And the offsets of those that have a
--- fault: which they are, and that they rise.
+-- The fields of some bytes at their places: which are listed, at which offsets and with which tags before them. And the offsets of those
+-- that have a fault: which they are, and that they rise.
 use Prim.Native.Nat.{ℕ, _+_, _≤_, _<_}
 use mathlib.Core.Path.{_≡_, refl, sym, ap, _∙_, subst}
 use mathlib.Core.Logic.{_↔_, ⊎-elim}
 use mathlib.Core.Bool.{Bool, true, false}
-use mathlib.Core.List.{List, [], _∷_, _++_, map, List·Memᴰ, List·Memᴰ·head, List·Memᴰ·tail, List·Memᴰ·not-nil, List·Memᴰ·append-cases, List·Memᴰ·eq-of-singleton}
+use mathlib.Core.List.{List, [], _∷_, _++_, map, List·Memᴰ, List·Memᴰ·head, List·Memᴰ·tail, List·Memᴰ·not-nil, List·Memᴰ·append-cases}
+use mathlib.Core.List.{List·Memᴰ·eq-of-singleton}
 use native.Mathlib.Omega.{arith}
 use lib.ListN.{length, take, drop, length-drop}
 use lib.Seq.{drop-drop, length-take-le}
@@ -13,10 +14,10 @@ use Rattle.rules.specs.Fields.{field-size, whole, complete}
 use Rattle.rules.specs.Load.{as-field}
 use Rattle.rules.specs.Faults.{Placed, placed-from, placed, offsets}
 use Rattle.laws.specs.Offsets.{Reached, front, behind, BeginsAt, Earliest}
+use Rattle.laws.specs.Batch.{past}
 use Rattle.laws.proofs.Tests.{by-if}
 use Rattle.laws.proofs.Tally.{keep-none, none-count, none-any}
 use Rattle.laws.proofs.Members.{mem-keep, keep-mem, mem-map, map-mem}
-use Rattle.laws.specs.Batch.{past}
 use Rattle.laws.proofs.Batch.{whole-within, by-fields, complete-none, complete-first}
 
 -- ---- where fields stand
@@ -38,7 +39,8 @@ begins = by-fields Begins none one
     one l w h at before f m = go (subst (λ (fs : List (List ℕ)). List·Memᴰ f (placed-from at before fs)) (complete-first l w .0) m)
       where
         go : List·Memᴰ f (placed-from at before (take (field-size l) l ∷ complete (past l)))
-            → (k : ℕ) × (f .at ≡ at + k) × Reached l k × (whole (drop k l) ≡ true) × (f .field ≡ as-field (take (field-size (drop k l)) (drop k l)))
+            → (k : ℕ) × (f .at ≡ at + k) × Reached l k × (whole (drop k l) ≡ true)
+            × (f .field ≡ as-field (take (field-size (drop k l)) (drop k l)))
         go (List·Memᴰ·head e) = (0, ap (λ (p : Placed). p .at) e ∙ omega arith, front, w, ap (λ (p : Placed). p .field) e)
         go (List·Memᴰ·tail n) =
             let r = h _ _ f n in
@@ -86,8 +88,11 @@ lists : (l : List ℕ) (k : ℕ) → Reached l k → whole (drop k l) ≡ true �
     → (f : Placed) × List·Memᴰ f (placed-from at before (complete l)) × (f .at ≡ at + k)
 unfolding placed-from
 lists _ _ (front {l}) w at before =
-    let f : Placed = record { at = at; before = before; field = as-field (take (field-size l) l) } in
-    (f, subst (λ (fs : List (List ℕ)). List·Memᴰ f (placed-from at before fs)) (sym (complete-first l w .0)) (List·Memᴰ·head refl), omega arith)
+    let f : Placed = record { at = at; before = before; field = as-field (take (field-size l) l) } in (
+      f,
+      subst (λ (fs : List (List ℕ)). List·Memᴰ f (placed-from at before fs)) (sym (complete-first l w .0)) (List·Memᴰ·head refl),
+      omega arith,
+    )
 lists _ _ (behind {l} {k} v r) w at before =
     let f = take (field-size l) l in
     let there = subst (λ (x : List ℕ). whole x ≡ true) (sym (drop-drop k (field-size l) l)) w in
@@ -99,7 +104,8 @@ lists _ _ (behind {l} {k} v r) w at before =
 
 -- What is reached and opens with a complete field is listed.
 pub reached-begins : (bytes : List ℕ) (o : ℕ) → Reached bytes o → whole (drop o bytes) ≡ true → BeginsAt bytes o
-reached-begins bytes o r w = let p = lists bytes o r w 0 [] in subst (BeginsAt bytes) (p .2 ∙ omega arith) (placed-begins bytes (p .0) (p .1))
+reached-begins bytes o r w = let p =
+    lists bytes o r w 0 [] in subst (BeginsAt bytes) (p .2 ∙ omega arith) (placed-begins bytes (p .0) (p .1))
 
 pub begins-within : (bytes : List ℕ) (o : ℕ) → BeginsAt bytes o → o < length bytes
 begins-within bytes o b = let s = whole-within (drop o bytes) (b .all-there) in omega (arith, s .0, s .1, length-drop o bytes)
@@ -120,18 +126,21 @@ not-so false h = refl
 
 module _ (fault : Placed → Bool) where
   -- an offset is that of a field that has the fault
-  pub offset-is : (fs : List Placed) (o : ℕ) → List·Memᴰ o (offsets fault fs) → (f : Placed) × List·Memᴰ f fs × (fault f ≡ true) × (o ≡ f .at)
+  pub offset-is : (fs : List Placed) (o : ℕ) → List·Memᴰ o (offsets fault fs) → (f : Placed) × List·Memᴰ f fs × (fault f ≡ true)
+      × (o ≡ f .at)
   unfolding offsets
   offset-is fs o m = let r = mem-map (λ (f : Placed). f .at) _ m in let k = mem-keep fault fs (r .1) in (r .0, k .0, k .1, r .2)
 
-  pub offsets-exactly : (fs : List Placed) (o : ℕ) → List·Memᴰ o (offsets fault fs) ↔ ((f : Placed) × List·Memᴰ f fs × (fault f ≡ true) × (o ≡ f .at))
+  pub offsets-exactly : (fs : List Placed) (o : ℕ) →
+      List·Memᴰ o (offsets fault fs) ↔ ((f : Placed) × List·Memᴰ f fs × (fault f ≡ true) × (o ≡ f .at))
   unfolding offsets
   offsets-exactly fs o = (offset-is fs o, λ r. rw (r .3) (map-mem (λ (f : Placed). f .at) _ (keep-mem fault fs (r .1) (r .2))))
 
   -- there is none exactly if no field has the fault
   pub none-exactly : (fs : List Placed) → (offsets fault fs ≡ []) ↔ ((f : Placed) → List·Memᴰ f fs → fault f ≡ false)
   none-exactly fs = (
-    λ e f m. not-so (fault f) (λ h. List·Memᴰ·not-nil (subst (λ (l : List ℕ). List·Memᴰ (f .at) l) e (offsets-exactly fs (f .at) .1 (f, m, h, refl)))),
+    λ e f m. not-so (fault f) (λ h. List·Memᴰ·not-nil
+        (subst (λ (l : List ℕ). List·Memᴰ (f .at) l) e (offsets-exactly fs (f .at) .1 (f, m, h, refl)))),
     λ h. unfold offsets in ap (map (λ f. f .at)) (keep-none fault fs (none-count fault fs (none-any fault fs h))),
   )
 
@@ -153,7 +162,8 @@ placed-later at before (x ∷ fs) f (List·Memᴰ·head e) = omega (arith, ap (�
 placed-later at before (x ∷ fs) f (List·Memᴰ·tail m) = omega (arith, placed-later _ _ fs f m)
 
 -- Offsets rise from field to field.
-pub offsets-rise : (fault : Placed → Bool) (at : ℕ) (before : List ℕ) (fs : List (List ℕ)) → First (offsets fault (placed-from at before fs))
+pub offsets-rise : (fault : Placed → Bool) (at : ℕ) (before : List ℕ) (fs : List (List ℕ)) →
+    First (offsets fault (placed-from at before fs))
 unfolding First offsets keep placed-from
 offsets-rise fault at before [] = tt
 offsets-rise fault at before (f ∷ fs) =

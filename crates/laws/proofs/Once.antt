@@ -13,8 +13,6 @@ use borrow.Author.Tests.{eqb-true, eq-eqb, ne-eqb}
 use Rattle.rules.specs.Lists.{if_then_else_, _==_, one-if, any, has, keep, count, times-in, Pulled, missing, pulled, pull}
 use Rattle.rules.specs.Numbers.{Limits, names}
 use Rattle.rules.specs.Words.{by-manager}
-use Rattle.laws.specs.Once.{unless-awaited, queues, discards, as-message, hands, queued-of, discarded-of, handed-of, waiting-of}
-use Rattle.laws.specs.Words.{Wanted, TrapKind, Receiving, Trapped, Nothing, Manager, Unset, Set, Gone, Thread, MessageKind, Ordinary, Notice, Message, Held, Runner, Runs, Oneself, Named, Send, Receive, CreateBrother, CreateSon, Terminate, SetManager, GetCpuTime, WaitForClock, WaitForIo, Trap, Event, Malformed, ByRunner, Tick, Interrupt}
 use Rattle.rules.specs.Tables.{Tables, in-state, named, change, manager, runs-as, me, start}
 use Rattle.rules.specs.States.{waits-for}
 use Rattle.rules.specs.Waking.{Outcome, _handing_, wake-those, notice-of, handed-as, handed, accepts, queue, deliver, stop}
@@ -31,19 +29,23 @@ use Rattle.rules.specs.Refusals.{refusal}
 use Rattle.rules.specs.Step.{serve, act, Stepped, decided, settle, step}
 use Rattle.rules.specs.Runs.{Input, run}
 use Rattle.rules.specs.TableRules.{table-rules}
+use Rattle.laws.specs.Words.{Wanted, TrapKind, Receiving, Trapped, Nothing, Manager, Unset, Set, Gone, Thread, MessageKind, Ordinary}
+use Rattle.laws.specs.Words.{Notice, Message, Held, Runner, Runs, Oneself, Named, Send, Receive, CreateBrother, CreateSon, Terminate}
+use Rattle.laws.specs.Words.{SetManager, GetCpuTime, WaitForClock, WaitForIo, Trap, Event, Malformed, ByRunner, Tick, Interrupt}
+use Rattle.laws.specs.Once.{unless-awaited, queues, discards, as-message, hands, queued-of, discarded-of, handed-of, waiting-of}
+use Rattle.laws.specs.Types.{Entry, Ruled}
+use Rattle.laws.specs.Refusals.{call-is, is-send}
+use Rattle.laws.specs.Counts.{if-accepted, over-run}
+use Rattle.laws.specs.Blocks.{is-receive, entry-of, is-unset, ends}
 use Rattle.laws.proofs.Tests.{by-if, and-left, and-false}
 use Rattle.laws.proofs.Tally.{count-add, count-same, count-zero, count-keep, count-insert, count-map, any-counts}
 use Rattle.laws.proofs.Ordered.{pull-took}
 use Rattle.laws.proofs.Queues.{times-self}
 use Rattle.laws.proofs.Threads.{looked-up, turned, apart}
-use Rattle.laws.specs.Types.{Entry, Ruled}
 use Rattle.laws.proofs.Steps.{called}
 use Rattle.laws.proofs.Sound.{tested-ruled}
 use Rattle.laws.proofs.Kept.{step-ruled, start-ruled}
-use Rattle.laws.specs.Refusals.{call-is, is-send}
 use Rattle.laws.proofs.Refusals.{decision-gives-it}
-use Rattle.laws.specs.Counts.{if-accepted, over-run}
-use Rattle.laws.specs.Blocks.{is-receive, entry-of, is-unset, ends}
 use Rattle.laws.proofs.Blocks.{tick-messages}
 use Rattle.laws.proofs.Inboxes.{runs-on, dispatch-messages}
 
@@ -78,11 +80,13 @@ pub not-own : {L : Limits} (T : Tables) → Ruled L T → (k : TrapKind) (s n : 
 unfolding Entry
 not-own T R k s n g =
     ⊎-elim (λ e. let z : _≡_ {A = ℕ} 0 1 = cc in absurd (omega arith))
-    (λ x. subst (λ (y : ℕ). n ≢ y) (x .2) (subst (Entry (T .threads) (x .0 .name)) (sym (x .3) ∙ g) (R .fits .threads (x .0) (x .1) .entries k) .1))
+    (λ x. subst (λ (y : ℕ). n ≢ y) (x .2)
+    (subst (Entry (T .threads) (x .0 .name)) (sym (x .3) ∙ g) (R .fits .threads (x .0) (x .1) .entries k) .1))
     (looked-up Unset (λ t. manager k (t .managers)) s (T .threads))
 
 -- so whether it waits for the notice is the same before and after the trapped thread has stopped
-pub awaited-as : (m : Message) (s : ℕ) (k : TrapKind) (T : Tables) → m .to ≢ s → any (accepts m) (stop s (Trapped k) T .threads) ≡ any (accepts m) (T .threads)
+pub awaited-as : (m : Message) (s : ℕ) (k : TrapKind) (T : Tables) → m .to ≢ s →
+    any (accepts m) (stop s (Trapped k) T .threads) ≡ any (accepts m) (T .threads)
 unfolding stop change
 awaited-as m s k T d =
     any-counts (accepts m) (accepts m) (map (turned (named s) (in-state (Trapped k) Nothing)) (T .threads)) (T .threads)
@@ -99,8 +103,15 @@ module _ (p : Message → Bool) where
   abbrev Balance : Tables → List Message → (Message → Bool) → Tables → Type 0
   Balance T q d U = count p (U .messages) + count p (keep d (T .messages)) ≡ count p (T .messages) + count p q
 
-  parts : (k d : Message → Bool) (ms : List Message) → ((m : Message) → d m ≡ k m) → count p (keep (λ m. not (k m)) ms) + count p (keep d ms) ≡ count p ms
-  parts k d ms h = omega (arith, count-keep p (λ m. not (k m)) ms, count-keep p d ms, count-add p (λ m. not (k m) && p m) (λ m. d m && p m) ms (λ m. rw (h m) (split (k m) (p m))))
+  parts : (k d : Message → Bool) (ms : List Message) → ((m : Message) → d m ≡ k m) →
+      count p (keep (λ m. not (k m)) ms) + count p (keep d ms) ≡ count p ms
+  parts k d ms h = omega (
+    arith,
+    count-keep p (λ m. not (k m)) ms,
+    count-keep p d ms,
+    count-add p (λ m. not (k m) && p m) (λ m. d m && p m)
+        ms (λ m. rw (h m) (split (k m) (p m))),
+  )
 
   none : (d : Message → Bool) (ms : List Message) → ((m : Message) → d m ≡ false) → count p (keep d ms) ≡ 0
   none d ms h = count-keep p d ms ∙ count-zero _ ms (λ m. rw (h m))
@@ -110,11 +121,15 @@ module _ (p : Message → Bool) where
   unfolding count
   even T U d e h = omega (arith, ap (count p) e, none d (T .messages) h)
 
-  end-balance : (n : ℕ) (T : Tables) (d : Message → Bool) → ((m : Message) → d m ≡ (has (m .to) (ended-set (T .threads) n) || has (m .from) (ended-set (T .threads) n))) → Balance T [] d (end n T)
+  end-balance : (n : ℕ) (T : Tables) (d : Message → Bool) →
+      ((m : Message) → d m ≡ (has (m .to) (ended-set (T .threads) n) || has (m .from) (ended-set (T .threads) n))) →
+      Balance T [] d (end n T)
   unfolding end release remove wake-those count
-  end-balance n T d h = omega (arith, parts (λ m. has (m .to) (ended-set (T .threads) n) || has (m .from) (ended-set (T .threads) n)) d (T .messages) h)
+  end-balance n T d h =
+      omega (arith, parts (λ m. has (m .to) (ended-set (T .threads) n) || has (m .from) (ended-set (T .threads) n)) d (T .messages) h)
 
-  deliver-balance : (m : Message) (T : Tables) (d : Message → Bool) → ((x : Message) → d x ≡ false) → Balance T (unless-awaited m T) d (deliver m T)
+  deliver-balance : (m : Message) (T : Tables) (d : Message → Bool) → ((x : Message) → d x ≡ false) →
+      Balance T (unless-awaited m T) d (deliver m T)
   unfolding deliver queue wake-those count
   deliver-balance m T d h = go (any (accepts m) (T .threads)) refl
     where
@@ -124,32 +139,41 @@ module _ (p : Message → Bool) where
 
   send-balance : (s to w : ℕ) (T : Tables) →
       Balance T (if decides s to T then [] else unless-awaited (message to s w) T)
-      (λ m. (decides s to T && w == 0 && notice-of to m) || (has (m .to) (if decides s to T && not (w == 0) then ended-set (T .threads) to else []) || has (m .from) (if decides s to T && not (w == 0) then ended-set (T .threads) to else [])))
+      (λ m. (decides s to T && w == 0 && notice-of to m)
+      || (has (m .to) (if decides s to T && not (w == 0) then ended-set (T .threads) to else [])
+      || has (m .from) (if decides s to T && not (w == 0) then ended-set (T .threads) to else [])))
       (send s to w T)
   unfolding send decide wake-those any count
   send-balance s to w T = go (decides s to T) refl w
     where
       go : (b : Bool) → decides s to T ≡ b → (w : ℕ) →
           Balance T (if decides s to T then [] else unless-awaited (message to s w) T)
-          (λ m. (decides s to T && w == 0 && notice-of to m) || (has (m .to) (if decides s to T && not (w == 0) then ended-set (T .threads) to else []) || has (m .from) (if decides s to T && not (w == 0) then ended-set (T .threads) to else [])))
+          (λ m. (decides s to T && w == 0 && notice-of to m)
+          || (has (m .to) (if decides s to T && not (w == 0) then ended-set (T .threads) to else [])
+          || has (m .from) (if decides s to T && not (w == 0) then ended-set (T .threads) to else [])))
           (send s to w T)
-      go true e zero = rw e (omega (arith, parts (notice-of to) (λ m. notice-of to m || false) (T .messages) (λ m. or-none (notice-of to m))))
+      go true e zero =
+          rw e (omega (arith, parts (notice-of to) (λ m. notice-of to m || false) (T .messages) (λ m. or-none (notice-of to m))))
       go true e (suc w) = rw (e, ne-eqb (suc w) 0 (λ i. omega arith)) (end-balance to T _ (λ m. refl))
       go false e w = rw e (deliver-balance (message to s w) T _ (λ m. refl))
 
   trap-balance : {L : Limits} (T : Tables) → Ruled L T → (s : ℕ) (k : TrapKind) (c : ℕ) →
       Balance T (by-manager [] (λ n. unless-awaited (notice n s c) T) (entry-of k s T))
-      (λ m. has (m .to) (by-manager (ended-set (T .threads) s) (λ n. []) (entry-of k s T)) || has (m .from) (by-manager (ended-set (T .threads) s) (λ n. []) (entry-of k s T)))
+      (λ m. has (m .to) (by-manager (ended-set (T .threads) s) (λ n. []) (entry-of k s T))
+      || has (m .from) (by-manager (ended-set (T .threads) s) (λ n. []) (entry-of k s T)))
       (trap s k c T)
   unfolding trap any
   trap-balance T R s k c = go (entry-of k s T) refl
     where
       go : (g : Manager) → entry-of k s T ≡ g →
           Balance T (by-manager [] (λ n. unless-awaited (notice n s c) T) g)
-          (λ m. has (m .to) (by-manager (ended-set (T .threads) s) (λ n. []) g) || has (m .from) (by-manager (ended-set (T .threads) s) (λ n. []) g))
+          (λ m. has (m .to) (by-manager (ended-set (T .threads) s) (λ n. []) g)
+          || has (m .from) (by-manager (ended-set (T .threads) s) (λ n. []) g))
           (by-manager (end s T) (λ n. deliver (notice n s c) (stop s (Trapped k) T)) g)
       go Unset e = end-balance s T _ (λ m. refl)
-      go (Set n) e = subst (λ (b : Bool). Balance T (if b then [] else notice n s c ∷ []) (λ m. false || false) (deliver (notice n s c) (stop s (Trapped k) T))) (awaited-as (notice n s c) s k T (not-own T R k s n e)) (unfold stop change in deliver-balance (notice n s c) (stop s (Trapped k) T) _ (λ m. refl))
+      go (Set n) e = subst (λ (b : Bool). Balance T (if b then [] else notice n s c ∷ []) (λ m. false || false)
+          (deliver (notice n s c) (stop s (Trapped k) T))) (awaited-as (notice n s c) s k T (not-own T R k s n e)) (unfold stop change in
+          deliver-balance (notice n s c) (stop s (Trapped k) T) _ (λ m. refl))
       go Gone e = end-balance s T _ (λ m. refl)
 
   -- ---- the account of a step
@@ -205,15 +229,18 @@ module _ (p : Message → Bool) where
         )
 
     -- it takes one, and goes on with it
-    takes : (m : Message) (ms : List Message) → pull (wanted-by s w) (T .messages) ≡ pulled m ms → Account T event (decided 0 (dispatch (received s w T (pulled m ms)))) 0 0
+    takes : (m : Message) (ms : List Message) → pull (wanted-by s w) (T .messages) ≡ pulled m ms →
+        Account T event (decided 0 (dispatch (received s w T (pulled m ms)))) 0 0
     unfolding received hands is-receive call-is count
     takes m ms j = subst (λ (o : Outcome). Account T event (decided 0 o) 0 0) (sym (runs-on (received s w T (pulled m ms)) s q h)) on
       where
         to-me : m .to ≡ me (T .runner)
         to-me = eqb-true (m .to) s (and-left (m .to == s) _ (pull-took (wanted-by s w) (T .messages) j .passes)) ∙ sym runs-as-s
 
-        on : count p ms + count p (if me (T .runner) == me (T .runner) then as-message (me (T .runner)) (handed m) else []) + 0 ≡ count p (T .messages) + 0
-        on = rw (eq-eqb (me (T .runner)) (me (T .runner)) refl, handed-back m (me (T .runner)) to-me) (omega (arith, pull-took (wanted-by s w) (T .messages) j .each p))
+        on : count p ms + count p (if me (T .runner) == me (T .runner) then as-message (me (T .runner)) (handed m) else [])
+            + 0 ≡ count p (T .messages) + 0
+        on = rw (eq-eqb (me (T .runner)) (me (T .runner)) refl, handed-back m (me (T .runner)) to-me)
+            (omega (arith, pull-took (wanted-by s w) (T .messages) j .each p))
 
     -- it waits, and another runs or nobody
     waits : Account T event (decided 0 (dispatch (received s w T missing))) 0 0
@@ -222,35 +249,48 @@ module _ (p : Message → Bool) where
       where
         go : (l : List ℕ) → T .ready ≡ l → Account T event (decided 0 (run-next l (stop s (Receiving w) T handing Nothing))) 0 0
         go [] e = omega (arith, no-message 255 (255 == me (T .runner)))
-        go (n ∷ ns) e = let o : (n == me (T .runner)) ≡ false = ne-eqb n (me (T .runner)) (λ i. not-ready n ns e (i ∙ runs-as-s)) in rw o (omega arith)
+        go (n ∷ ns) e = let o : (n == me (T .runner)) ≡ false = ne-eqb n (me (T .runner)) (λ i. not-ready n ns e (i ∙ runs-as-s)) in
+            rw o (omega arith)
 
     receive-account : Account T event (settle 0 T event) (count p (queues T event)) (count p (keep (discards T event) (T .messages)))
     unfolding queues settle count
     receive-account = go (pull (wanted-by s w) (T .messages)) refl
       where
-        go : (x : Pulled Message) → pull (wanted-by s w) (T .messages) ≡ x → Account T event (decided 0 (dispatch (act T event))) 0 (count p (keep (discards T event) (T .messages)))
-        go missing j = subst (λ (o : Outcome). Account T event (decided 0 (dispatch o)) 0 (count p (keep (discards T event) (T .messages)))) (sym (received-as missing j)) (rw kept waits)
-        go (pulled m ms) j = subst (λ (o : Outcome). Account T event (decided 0 (dispatch o)) 0 (count p (keep (discards T event) (T .messages)))) (sym (received-as (pulled m ms) j)) (rw kept (takes m ms j))
+        go : (x : Pulled Message) → pull (wanted-by s w) (T .messages) ≡ x →
+            Account T event (decided 0 (dispatch (act T event))) 0 (count p (keep (discards T event) (T .messages)))
+        go missing j = subst (λ (o : Outcome). Account T event (decided 0 (dispatch o)) 0 (count p (keep (discards T event) (T .messages))))
+            (sym (received-as missing j)) (rw kept waits)
+        go (pulled m ms) j = subst (λ (o : Outcome). Account T event (decided 0 (dispatch o)) 0
+            (count p (keep (discards T event) (T .messages)))) (sym (received-as (pulled m ms) j)) (rw kept (takes m ms j))
 
-  pub accepted : (L : Limits) (T : Tables) → Ruled L T → (e : Event) → refusal L T e ≡ 0 → Account T e (settle 0 T e) (count p (queues T e)) (count p (keep (discards T e) (T .messages)))
+  pub accepted : (L : Limits) (T : Tables) → Ruled L T → (e : Event) → refusal L T e ≡ 0 →
+      Account T e (settle 0 T e) (count p (queues T e)) (count p (keep (discards T e) (T .messages)))
   unfolding is-receive call-is is-send queues discards ends act serve any
   accepted L T R Malformed a = other T Malformed refl (even T T _ refl (λ m. refl))
   accepted L T R (ByRunner (Send to w)) a = other T (ByRunner (Send to w)) refl (send-balance (me (T .runner)) to w T)
   accepted L T R (ByRunner (Receive w)) a = let C = called L T (Receive w) a in receive-account T R (C .name) (C .slice) w (C .runner)
-  accepted L T R (ByRunner CreateBrother) a = other T (ByRunner CreateBrother) refl (even T (act T (ByRunner CreateBrother) .tables) _ (unfold create in refl) (λ m. refl))
-  accepted L T R (ByRunner CreateSon) a = other T (ByRunner CreateSon) refl (even T (act T (ByRunner CreateSon) .tables) _ (unfold create in refl) (λ m. refl))
-  accepted L T R (ByRunner (Terminate Oneself)) a = other T (ByRunner (Terminate Oneself)) refl (unfold terminate in end-balance (me (T .runner)) T _ (λ m. refl))
-  accepted L T R (ByRunner (Terminate (Named n))) a = other T (ByRunner (Terminate (Named n))) refl (unfold terminate in end-balance n T _ (λ m. refl))
-  accepted L T R (ByRunner (SetManager k n)) a = other T (ByRunner (SetManager k n)) refl (go (me (T .runner)) (entry-of k (me (T .runner)) T))
+  accepted L T R (ByRunner CreateBrother) a =
+      other T (ByRunner CreateBrother) refl (even T (act T (ByRunner CreateBrother) .tables) _ (unfold create in refl) (λ m. refl))
+  accepted L T R (ByRunner CreateSon) a =
+      other T (ByRunner CreateSon) refl (even T (act T (ByRunner CreateSon) .tables) _ (unfold create in refl) (λ m. refl))
+  accepted L T R (ByRunner (Terminate Oneself)) a =
+      other T (ByRunner (Terminate Oneself)) refl (unfold terminate in end-balance (me (T .runner)) T _ (λ m. refl))
+  accepted L T R (ByRunner (Terminate (Named n))) a =
+      other T (ByRunner (Terminate (Named n))) refl (unfold terminate in end-balance n T _ (λ m. refl))
+  accepted L T R (ByRunner (SetManager k n)) a =
+      other T (ByRunner (SetManager k n)) refl (go (me (T .runner)) (entry-of k (me (T .runner)) T))
     where
       go : (s : ℕ) (g : Manager) →
-          Balance T [] (λ m. has (m .to) (if is-unset g then [] else ended-set (T .threads) s) || has (m .from) (if is-unset g then [] else ended-set (T .threads) s)) (set-over g s k n T .tables)
+          Balance T [] (λ m. has (m .to) (if is-unset g then [] else ended-set (T .threads) s)
+          || has (m .from) (if is-unset g then [] else ended-set (T .threads) s)) (set-over g s k n T .tables)
       go s Unset = unfold is-unset in even T (set-over Unset s k n T .tables) _ (unfold set-over change in refl) (λ m. refl)
       go s (Set x) = unfold set-over is-unset in end-balance s T _ (λ m. refl)
       go s Gone = unfold set-over is-unset in end-balance s T _ (λ m. refl)
   accepted L T R (ByRunner GetCpuTime) a = other T (ByRunner GetCpuTime) refl (even T T _ refl (λ m. refl))
-  accepted L T R (ByRunner WaitForClock) a = other T (ByRunner WaitForClock) refl (even T (act T (ByRunner WaitForClock) .tables) _ (unfold wait-for-clock stop change in refl) (λ m. refl))
-  accepted L T R (ByRunner (WaitForIo d)) a = other T (ByRunner (WaitForIo d)) refl (even T (act T (ByRunner (WaitForIo d)) .tables) _ (go (pull (held-for d) (T .held))) (λ m. refl))
+  accepted L T R (ByRunner WaitForClock) a = other T (ByRunner WaitForClock) refl
+      (even T (act T (ByRunner WaitForClock) .tables) _ (unfold wait-for-clock stop change in refl) (λ m. refl))
+  accepted L T R (ByRunner (WaitForIo d)) a = other T (ByRunner (WaitForIo d)) refl
+      (even T (act T (ByRunner (WaitForIo d)) .tables) _ (go (pull (held-for d) (T .held))) (λ m. refl))
     where
       go : (x : Pulled Held) → take-held (me (T .runner)) d T x .tables .messages ≡ T .messages
       go missing = unfold take-held stop change in refl
@@ -259,16 +299,19 @@ module _ (p : Message → Bool) where
   accepted L T R Tick a = other T Tick refl (even T (tick T) _ (tick-messages T) (λ m. refl))
   accepted L T R (Interrupt d w) a =
       other T (Interrupt d w) refl
-      (even T (interrupt d w T) _ (unfold interrupt wake-those in by-if (λ (U : Tables). U .messages ≡ T .messages) (any (waits-for d) (T .threads)) (λ _. refl) (λ _. refl)) (λ m. refl))
+      (even T (interrupt d w T) _ (unfold interrupt wake-those in
+      by-if (λ (U : Tables). U .messages ≡ T .messages) (any (waits-for d) (T .threads)) (λ _. refl) (λ _. refl)) (λ m. refl))
 
   pub stepped : (L : Limits) (T : Tables) → Ruled L T → (bytes : List ℕ) →
-      waiting-of p (step L T bytes .tables) + count p (hands T (decode bytes) (step L T bytes .decision)) + if-accepted (λ U e. count p (keep (discards U e) (U .messages))) L T bytes
+      waiting-of p (step L T bytes .tables) + count p (hands T (decode bytes) (step L T bytes .decision))
+      + if-accepted (λ U e. count p (keep (discards U e) (U .messages))) L T bytes
       ≡ waiting-of p T + if-accepted (λ U e. count p (queues U e)) L T bytes
   unfolding step
   stepped L T R bytes = go (refusal L T (decode bytes)) refl
     where
       go : (r : ℕ) → refusal L T (decode bytes) ≡ r →
-          Account T (decode bytes) (settle r T (decode bytes)) (if r == 0 then count p (queues T (decode bytes)) else 0) (if r == 0 then count p (keep (discards T (decode bytes)) (T .messages)) else 0)
+          Account T (decode bytes) (settle r T (decode bytes)) (if r == 0 then count p (queues T (decode bytes)) else 0)
+          (if r == 0 then count p (keep (discards T (decode bytes)) (T .messages)) else 0)
       go zero a = accepted L T R (decode bytes) a
       go (suc r) a = rw (ne-eqb (suc r) 0 (λ i. omega arith)) (refused r T (decode bytes))
 
@@ -294,7 +337,8 @@ waiting-leaves-once p L few T h es = ruled-account p L few T (tested-ruled L T h
 
 -- What an event discards is never handed over: of messages and notices that it discards, all that are handed over from then on were
 -- queued from then on.
-pub discarded-is-never-handed : (p : Message → Bool) (L : Limits) → L .threads < names → (T : Tables) → table-rules L T ≡ true → (e : List ℕ) →
+pub discarded-is-never-handed : (p : Message → Bool) (L : Limits) → L .threads < names → (T : Tables) → table-rules L T ≡ true →
+    (e : List ℕ) →
     step L T e .decision .refusal ≡ 0 → ((m : Message) → p m ≡ true → discards T (decode e) m ≡ true) → (es : Input) →
     handed-of p L T (e ∷ es) ≤ queued-of p L T (e ∷ es)
 unfolding over-run
@@ -302,11 +346,13 @@ discarded-is-never-handed p L few T h e a all es =
     omega (arith, waiting-leaves-once p L few T h (e ∷ es), gone)
   where
     every : count p (keep (discards T (decode e)) (T .messages)) ≡ count p (T .messages)
-    every = count-keep p (discards T (decode e)) (T .messages) ∙ count-same _ _ (T .messages) (λ m. one (p m) (discards T (decode e) m) (all m))
+    every = count-keep p (discards T (decode e)) (T .messages)
+        ∙ count-same _ _ (T .messages) (λ m. one (p m) (discards T (decode e) m) (all m))
       where
         one : (b c : Bool) → (b ≡ true → c ≡ true) → (c && b) ≡ b
         one true c i = rw (i refl)
         one false c i = and-false c
 
     gone : if-accepted (λ U x. count p (keep (discards U x) (U .messages))) L T e ≡ waiting-of p T
-    gone = ap (λ (r : ℕ). if r == 0 then count p (keep (discards T (decode e)) (T .messages)) else 0) (sym (decision-gives-it L T e) ∙ a) ∙ every
+    gone = ap (λ (r : ℕ). if r == 0 then count p (keep (discards T (decode e)) (T .messages)) else 0) (sym (decision-gives-it L T e) ∙ a)
+        ∙ every

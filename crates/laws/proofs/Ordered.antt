@@ -24,12 +24,14 @@ module _ {A : Type 0} where
   chain-tail r x [] c = refl
   chain-tail r x (y ∷ xs) c = and-right (r x y) _ c
 
-  pub chain-before : (r : A → A → Bool) → Transitive r → (x : A) (xs : List A) → chain r (x ∷ xs) ≡ true → (y : A) → List·Memᴰ y xs → r x y ≡ true
+  pub chain-before : (r : A → A → Bool) → Transitive r → (x : A) (xs : List A) → chain r (x ∷ xs) ≡ true → (y : A) → List·Memᴰ y xs →
+      r x y ≡ true
   unfolding chain
   chain-before r t x (z ∷ xs) c y (List·Memᴰ·head e) = ap (r x) e ∙ and-left (r x z) _ c
   chain-before r t x (z ∷ xs) c y (List·Memᴰ·tail m) = t x z y (and-left (r x z) _ c) (chain-before r t z xs (and-right (r x z) _ c) y m)
 
-  pub chain-cons : (r : A → A → Bool) (x : A) (xs : List A) → ((y : A) → List·Memᴰ y xs → r x y ≡ true) → chain r xs ≡ true → chain r (x ∷ xs) ≡ true
+  pub chain-cons : (r : A → A → Bool) (x : A) (xs : List A) → ((y : A) → List·Memᴰ y xs → r x y ≡ true) → chain r xs ≡ true →
+      chain r (x ∷ xs) ≡ true
   unfolding chain
   chain-cons r x [] h c = refl
   chain-cons r x (y ∷ xs) h c = h y (List·Memᴰ·head refl) & c
@@ -50,12 +52,14 @@ module _ {A : Type 0} where
   chain-map r f h (x ∷ y ∷ xs) = ap₂ (λ (a b : Bool). a && b) (h x y) (chain-map r f h (y ∷ xs))
 
   -- an element put behind those that may stand before it, where it may stand before the others
-  pub chain-insert : (r : A → A → Bool) → Transitive r → (a : A) (xs : List A) → ((x : A) → List·Memᴰ x xs → r x a ≡ false → r a x ≡ true) → chain r xs ≡ true → chain r (insert (λ x. r x a) a xs) ≡ true
+  pub chain-insert : (r : A → A → Bool) → Transitive r → (a : A) (xs : List A) → ((x : A) → List·Memᴰ x xs → r x a ≡ false → r a x ≡ true) →
+      chain r xs ≡ true → chain r (insert (λ x. r x a) a xs) ≡ true
   unfolding insert
   chain-insert r t a [] d c = unfold chain in refl
   chain-insert r t a (x ∷ xs) d c =
       by-if (λ (l : List A). chain r l ≡ true) (r x a)
-      (λ e. chain-cons r x _ (λ y m. ⊎-elim (λ i. ap (r x) i ∙ e) (λ i. chain-before r t x xs c y i) (mem-insert (λ z. r z a) a xs m)) (chain-insert r t a xs (λ y m. d y (List·Memᴰ·tail m)) (chain-tail r x xs c)))
+      (λ e. chain-cons r x _ (λ y m. ⊎-elim (λ i. ap (r x) i ∙ e) (λ i. chain-before r t x xs c y i) (mem-insert (λ z. r z a) a xs m))
+      (chain-insert r t a xs (λ y m. d y (List·Memᴰ·tail m)) (chain-tail r x xs c)))
       (λ e. unfold chain in d x (List·Memᴰ·head refl) e & c)
 
   -- ---- fewer elements, in the same order
@@ -69,7 +73,8 @@ module _ {A : Type 0} where
   less-refl xs = record { member = λ x m. m; counts = λ p. omega arith; ordered = λ r t c. c }
 
   pub keep-less : (q : A → Bool) (xs : List A) → Less xs (keep q xs)
-  keep-less q xs = record { member = λ x m. mem-keep q xs m .0; counts = λ p. count-keep-le p q xs; ordered = λ r t c. chain-keep q r t xs c }
+  keep-less q xs =
+      record { member = λ x m. mem-keep q xs m .0; counts = λ p. count-keep-le p q xs; ordered = λ r t c. chain-keep q r t xs c }
 
   -- what a search took out, and what it left
   pub record Took (p : A → Bool) (xs : List A) (x : A) (ys : List A) : Type 0 where
@@ -92,7 +97,8 @@ module _ {A : Type 0} where
     less = record {
       member = λ z m. there z m;
       counts = λ q. omega (arith, h .less .counts q, count-cons q x xs, count-cons q x ys);
-      ordered = λ r t c. chain-cons r x ys (λ z m. chain-before r t x xs c z (h .less .member z m)) (h .less .ordered r t (chain-tail r x xs c));
+      ordered =
+          λ r t c. chain-cons r x ys (λ z m. chain-before r t x xs c z (h .less .member z m)) (h .less .ordered r t (chain-tail r x xs c));
     };
   }
     where
@@ -105,7 +111,17 @@ module _ {A : Type 0} where
   pull-pulls p [] = unfold Pulls any in refl
   pull-pulls p (x ∷ xs) =
       by-if (Pulls p (x ∷ xs)) (p x)
-      (λ e. unfold Pulls in record { passes = e; from = List·Memᴰ·head refl; each = λ q. count-cons q x xs; less = record { member = λ z m. List·Memᴰ·tail m; counts = λ q. omega (arith, count-cons q x xs); ordered = λ r t c. chain-tail r x xs c } })
+      (λ e. unfold Pulls in
+      record {
+        passes = e;
+        from = List·Memᴰ·head refl;
+        each = λ q. count-cons q x xs;
+        less = record {
+          member = λ z m. List·Memᴰ·tail m;
+          counts = λ q. omega (arith, count-cons q x xs);
+          ordered = λ r t c. chain-tail r x xs c;
+        };
+      })
       (λ e. behind-pulls p x xs e (pull p xs) (pull-pulls p xs))
 
   pub pull-none : (p : A → Bool) (xs : List A) → pull p xs ≡ missing → any p xs ≡ false
@@ -132,7 +148,8 @@ module _ {A : Type 0} (key : A → ℕ) where
   pub up-map : (f : A → A) → ((x : A) → key (f x) ≡ key x) → (xs : List A) → chain up xs ≡ true → chain up (map f xs) ≡ true
   up-map f h xs c = chain-map up f (λ x y. ap₂ ltb (h x) (h y)) xs ∙ c
 
-  pub up-insert : (a : A) (xs : List A) → ((x : A) → List·Memᴰ x xs → key x ≢ key a) → chain up xs ≡ true → chain up (insert (λ x. up x a) a xs) ≡ true
+  pub up-insert : (a : A) (xs : List A) → ((x : A) → List·Memᴰ x xs → key x ≢ key a) → chain up xs ≡ true →
+      chain up (insert (λ x. up x a) a xs) ≡ true
   up-insert a xs d c = chain-insert up up-trans a xs (λ x m e. lt-ltb (key a) (key x) (omega (arith, ltb-false (key x) (key a) e, d x m))) c
 
   -- they are distinct
@@ -141,12 +158,18 @@ module _ {A : Type 0} (key : A → ℕ) where
   up-once n [] c = omega arith
   up-once n (x ∷ xs) c =
       ⊎-elim
-      (λ e. rw (e .1) (omega (arith, none-count (λ y. n == key y) xs (none-any (λ y. n == key y) xs (λ y m. ne-eqb n (key y) (λ k. omega (arith, up-below x xs c y m, e .0)))))))
+      (λ e. rw (e .1)
+      (omega (
+        arith,
+        none-count (λ y. n == key y) xs
+            (none-any (λ y. n == key y) xs (λ y m. ne-eqb n (key y) (λ k. omega (arith, up-below x xs c y m, e .0)))),
+      )))
       (λ e. rw (e .1) (omega (arith, up-once n xs (chain-tail up x xs c))))
       (same? n (key x))
 
   -- from k on and below n there are at most n - k
-  pub up-few : (k n : ℕ) (xs : List A) → k ≤ n → chain up xs ≡ true → ((x : A) → List·Memᴰ x xs → (k ≤ key x) × (key x < n)) → k + length xs ≤ n
+  pub up-few : (k n : ℕ) (xs : List A) → k ≤ n → chain up xs ≡ true → ((x : A) → List·Memᴰ x xs → (k ≤ key x) × (key x < n)) →
+      k + length xs ≤ n
   up-few k n [] l c h = omega arith
   up-few k n (x ∷ xs) l c h =
       let b = h x (List·Memᴰ·head refl) in

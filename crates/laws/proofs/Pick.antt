@@ -11,9 +11,10 @@ use lib.Count.{trailingZeros}
 use Rattle.rules.specs.Lists.{if_then_else_, any, from-on}
 use Rattle.rules.specs.Numbers.{nobody, devices, line-devices, terminals, pending-bits}
 use Rattle.rules.specs.Pick.{pending, lines, transmitter, receiver, transmitters, receivers, pick-order, no-pick, first-pending, pick}
-use Rattle.rules.proofs.Bits.{no-bit, trailing-lowest, lowest-lt, high-bit, taken, or-else, first-of-three, spare, ordered, pick-zero, pick-high}
-use Rattle.laws.specs.Pick.{Foremost, on-a-line, transmits, receives, Takes, Unservable}
+use Rattle.rules.proofs.Bits.{no-bit, trailing-lowest, lowest-lt, high-bit, taken, or-else, first-of-three, spare, ordered, pick-zero}
+use Rattle.rules.proofs.Bits.{pick-high}
 use Rattle.laws.specs.Words.{Picked}
+use Rattle.laws.specs.Pick.{Foremost, on-a-line, transmits, receives, Takes, Unservable}
 use Rattle.laws.proofs.Tests.{clash}
 
 -- ---- the first that is pending
@@ -43,7 +44,8 @@ first-of w f a (suc n) = go (pending w (f a)) refl (first-of w f (suc a) n)
     more P here later m l = ⊎-elim (λ (e : a ≡ m). subst P e here) (λ g. later m g) (eq-or-lt-of-le l)
 
     go : {p : Picked} (b : Bool) → pending w (f a) ≡ b → FirstOr w f (suc a) n p → FirstOr w f a (suc n) (if b then taken (f a) else p)
-    go true t later = inl (record { place = a; low = omega arith; high = omega arith; takes = refl; set = t; clear = λ m l h. absurd (omega arith) })
+    go true t later =
+        inl (record { place = a; low = omega arith; high = omega arith; takes = refl; set = t; clear = λ m l h. absurd (omega arith) })
     go false t (inl F) =
         inl (record {
           place = F .place;
@@ -117,7 +119,8 @@ pick-takes w p h =
 decided : (w : ℕ) → w < 2 ^ pending-bits → (Unservable w × (pick w ≡ no-pick)) ⊎ ((Unservable w → ⊥) × (pick w .refusal ≡ 0))
 decided w h = go (eq-zero-or-pos w) (decLt w (2 ^ devices))
   where
-    go : (w ≡ zero) ⊎ (zero < w) → Dec (w < 2 ^ devices) → (Unservable w × (pick w ≡ no-pick)) ⊎ ((Unservable w → ⊥) × (pick w .refusal ≡ 0))
+    go : (w ≡ zero) ⊎ (zero < w) → Dec (w < 2 ^ devices) → (Unservable w × (pick w ≡ no-pick))
+        ⊎ ((Unservable w → ⊥) × (pick w .refusal ≡ 0))
     go (inl e) d = inl (inl (λ n. no-bit 0 w n (omega arith) zero-le), ap pick e ∙ pick-zero)
     go (inr p) (no f) =
         let l : 2 ^ devices ≤ w = omega arith in
@@ -131,7 +134,8 @@ decided w h = go (eq-zero-or-pos w) (decLt w (2 ^ devices))
         )
 
 -- A device that is picked is pending, is one of 0 to 47, and is the foremost of those that are pending.
-pub pick-foremost : (w : ℕ) → pick w .refusal ≡ 0 → (pending w (pick w .device) ≡ true) × (pick w .device < devices) × Foremost w (pick w .device)
+pub pick-foremost : (w : ℕ) → pick w .refusal ≡ 0 → (pending w (pick w .device) ≡ true) × (pick w .device < devices)
+    × Foremost w (pick w .device)
 unfolding pick
 pick-foremost w = go (any (pending w) (from-on devices spare)) (by-order w)
   where

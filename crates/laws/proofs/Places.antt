@@ -8,13 +8,14 @@ use native.Mathlib.Omega.{arith}
 use borrow.Author.Tests.{eqb-true, eq-eqb, ne-eqb}
 use Rattle.rules.specs.Lists.{if_then_else_, _==_, one-if, keep, count, insert, has, times-in}
 use Rattle.rules.specs.Words.{by-state, by-runner}
-use Rattle.laws.specs.Words.{Wanted, TrapKind, State, Running, Ready, Receiving, Clock, Device, Trapped, Answer, Thread, Runner, NoRunner, Runs}
 use Rattle.rules.specs.Tables.{in-state, named, runs-as}
 use Rattle.rules.specs.States.{is-running, is-ready, on-clock}
 use Rattle.rules.specs.Ending.{without-managers}
+use Rattle.laws.specs.Words.{Wanted, TrapKind, State, Running, Ready, Receiving, Clock, Device, Trapped, Answer, Thread, Runner}
+use Rattle.laws.specs.Words.{NoRunner, Runs}
+use Rattle.laws.specs.Types.{here, Places}
 use Rattle.laws.proofs.Tests.{by-if, same?, and-left, and-true, and-false, and-twice, and-self, never}
 use Rattle.laws.proofs.Tally.{count-append, count-map, count-same, count-zero, count-insert, count-keep-le, none-left, all-left}
-use Rattle.laws.specs.Types.{here, Places}
 use Rattle.laws.proofs.Queues.{times-none, times-self, times-other, tail-self, tail-other}
 use Rattle.laws.proofs.Threads.{names-kept, left, put-name, times-kept, apart}
 
@@ -54,10 +55,12 @@ unfolding runs-as
 runs-other n m s d = ne-eqb n m d
 
 -- of the runner's name, or one at the front of the ready queue, there is one thread, and it stands there once and nowhere else
-pub at-run : (m s : ℕ) {ts : List Thread} {q c : List ℕ} → Places ts (Runs m s) q c → (count (named m) ts ≡ 1) × (times-in q m ≡ 0) × (times-in c m ≡ 0)
+pub at-run : (m s : ℕ) {ts : List Thread} {q c : List ℕ} → Places ts (Runs m s) q c → (count (named m) ts ≡ 1) × (times-in q m ≡ 0)
+    × (times-in c m ≡ 0)
 at-run m s {ts} P = omega (arith, apart m ts, P .once m, P .run m, P .wait m, P .beat m, ap one-if (runs-self m s))
 
-pub at-ready : (m : ℕ) {ts : List Thread} {r : Runner} {q c : List ℕ} → Places ts r (m ∷ q) c → (count (named m) ts ≡ 1) × (times-in q m ≡ 0) × (times-in c m ≡ 0)
+pub at-ready : (m : ℕ) {ts : List Thread} {r : Runner} {q c : List ℕ} → Places ts r (m ∷ q) c → (count (named m) ts ≡ 1)
+    × (times-in q m ≡ 0) × (times-in c m ≡ 0)
 at-ready m {ts} {q = q} P = omega (arith, apart m ts, P .once m, P .run m, P .wait m, P .beat m, times-self m q)
 
 -- ---- the threads that pass are put into a state
@@ -73,9 +76,12 @@ module _ (p : Thread → Bool) (s : State) (a : Thread → Answer) where
   abbrev join : (State → Bool) → ℕ → List Thread → ℕ
   join k n ts = count (λ t. named n t && (p t && k s)) ts
 
-  put-one : (k : State → Bool) (n : ℕ) (t : Thread) → one-if (named n (put t) && k (put t .state)) + one-if (named n t && (p t && k (t .state))) ≡ one-if (named n t && k (t .state)) + one-if (named n t && (p t && k s))
+  put-one : (k : State → Bool) (n : ℕ) (t : Thread) →
+      one-if (named n (put t) && k (put t .state)) + one-if (named n t && (p t && k (t .state))) ≡ one-if (named n t && k (t .state))
+      + one-if (named n t && (p t && k s))
   put-one k n t =
-      by-if (λ (u : Thread). one-if (named n u && k (u .state)) + one-if (named n t && (p t && k (t .state))) ≡ one-if (named n t && k (t .state)) + one-if (named n t && (p t && k s))) (p t)
+      by-if (λ (u : Thread). one-if (named n u && k (u .state)) + one-if (named n t && (p t && k (t .state))) ≡ one-if (named n t
+      && k (t .state)) + one-if (named n t && (p t && k s))) (p t)
       (λ e. rw e (omega arith))
       (λ e. rw (e, and-false (named n t)) (omega arith))
 
@@ -98,7 +104,8 @@ module _ (p : Thread → Bool) (s : State) (a : Thread → Answer) where
   }
 
 -- those that sleep, or wait for the clock, become ready: their names join the ready queue and leave the clock queue
-pub wake-keeps : (p : Thread → Bool) (a : Thread → Answer) {ts : List Thread} {r : Runner} {q c : List ℕ} (ns c′ : List ℕ) → Places ts r q c →
+pub wake-keeps : (p : Thread → Bool) (a : Thread → Answer) {ts : List Thread} {r : Runner} {q c : List ℕ} (ns c′ : List ℕ) →
+    Places ts r q c →
     ((t : Thread) → p t ≡ true → (is-running (t .state) ≡ false) × (is-ready (t .state) ≡ false)) →
     ((n : ℕ) → times-in ns n ≡ count (λ t. named n t && p t) ts) →
     ((n : ℕ) → times-in c n ≡ times-in c′ n + count (λ t. named n t && (p t && on-clock (t .state))) ts) →
@@ -110,7 +117,8 @@ wake-keeps p a {ts} {r} {q} ns c′ P sleeps order left =
     (λ n. omega (arith, none-leave is-ready n (λ t e. sleeps t e .1), order n, count-append (λ m. n == m) q ns, all-join n))
     (λ n. omega (arith, left n, none-joins n))
   where
-    none-leave : (k : State → Bool) (n : ℕ) → ((t : Thread) → p t ≡ true → k (t .state) ≡ false) → count (λ t. named n t && (p t && k (t .state))) ts ≡ 0
+    none-leave : (k : State → Bool) (n : ℕ) → ((t : Thread) → p t ≡ true → k (t .state) ≡ false) →
+        count (λ t. named n t && (p t && k (t .state))) ts ≡ 0
     none-leave k n h = count-zero _ ts (λ t. never (named n t) (p t) (k (t .state)) (h t))
 
     none-joins : (n : ℕ) → count (λ t. named n t && (p t && false)) ts ≡ 0
@@ -120,7 +128,8 @@ wake-keeps p a {ts} {r} {q} ns c′ P sleeps order left =
     all-join n = count-same _ _ ts (λ t. ap (λ (b : Bool). named n t && b) (and-true (p t)))
 
 -- those that are in no place become ready, by rising name
-pub rouse-keeps : (p : Thread → Bool) (a : Thread → Answer) {ts : List Thread} {r : Runner} {q c : List ℕ} → ((t : Thread) → p t ≡ true → Asleep (t .state)) → Places ts r q c →
+pub rouse-keeps : (p : Thread → Bool) (a : Thread → Answer) {ts : List Thread} {r : Runner} {q c : List ℕ} →
+    ((t : Thread) → p t ≡ true → Asleep (t .state)) → Places ts r q c →
     Places (map (λ t. if p t then in-state Ready (a t) t else t) ts) r (q ++ map (λ t. t .name) (keep p ts)) c
 rouse-keeps p a {ts} {c = c} sleeps P =
     wake-keeps p a _ c P
@@ -139,15 +148,20 @@ beat-keeps a {ts} {c = c} P =
     opened n = unfold here in refl
 
 -- the one thread m is put into a state: the places hold m as that says, and the others as before
-pub move : (m : ℕ) (s : State) (a : Answer) {ts : List Thread} {r : Runner} {q c : List ℕ} (r′ : Runner) (q′ c′ : List ℕ) → Places ts r q c → count (named m) ts ≡ 1 →
+pub move : (m : ℕ) (s : State) (a : Answer) {ts : List Thread} {r : Runner} {q c : List ℕ} (r′ : Runner) (q′ c′ : List ℕ) →
+    Places ts r q c → count (named m) ts ≡ 1 →
     (runs-as m r′ ≡ is-running s) × (times-in q′ m ≡ one-if (is-ready s)) × (times-in c′ m ≡ one-if (on-clock s)) →
     ((n : ℕ) → n ≢ m → (runs-as n r′ ≡ runs-as n r) × (times-in q′ n ≡ times-in q n) × (times-in c′ n ≡ times-in c n)) →
     Places (map (λ t. if named m t then in-state s a t else t) ts) r′ q′ c′
 move m s a {ts} r′ q′ c′ P one there others =
     put-keeps (named m) s (λ t. a) r′ q′ c′ P
-    (λ n. ⊎-elim (λ e. rw (e .0) (omega (arith, P .run m, own is-running, goes-in is-running, ap one-if (there .0)))) (λ e. omega (arith, other n (e .0) (λ t. is-running (t .state)), other n (e .0) (λ t. is-running s), ap one-if (others n (e .0) .0))) (same? n m))
-    (λ n. ⊎-elim (λ e. rw (e .0) (omega (arith, P .wait m, own is-ready, goes-in is-ready, there .1))) (λ e. omega (arith, other n (e .0) (λ t. is-ready (t .state)), other n (e .0) (λ t. is-ready s), others n (e .0) .1)) (same? n m))
-    (λ n. ⊎-elim (λ e. rw (e .0) (omega (arith, P .beat m, own on-clock, goes-in on-clock, there .2))) (λ e. omega (arith, other n (e .0) (λ t. on-clock (t .state)), other n (e .0) (λ t. on-clock s), others n (e .0) .2)) (same? n m))
+    (λ n. ⊎-elim (λ e. rw (e .0) (omega (arith, P .run m, own is-running, goes-in is-running, ap one-if (there .0))))
+    (λ e. omega (arith, other n (e .0) (λ t. is-running (t .state)), other n (e .0) (λ t. is-running s), ap one-if (others n (e .0) .0)))
+    (same? n m))
+    (λ n. ⊎-elim (λ e. rw (e .0) (omega (arith, P .wait m, own is-ready, goes-in is-ready, there .1)))
+    (λ e. omega (arith, other n (e .0) (λ t. is-ready (t .state)), other n (e .0) (λ t. is-ready s), others n (e .0) .1)) (same? n m))
+    (λ n. ⊎-elim (λ e. rw (e .0) (omega (arith, P .beat m, own on-clock, goes-in on-clock, there .2)))
+    (λ e. omega (arith, other n (e .0) (λ t. on-clock (t .state)), other n (e .0) (λ t. on-clock s), others n (e .0) .2)) (same? n m))
   where
     own : (k : State → Bool) → count (λ t. named m t && (named m t && k (t .state))) ts ≡ here k m ts
     own k = unfold here in count-same _ _ ts (λ t. and-twice (named m t) (k (t .state)))
@@ -160,7 +174,8 @@ move m s a {ts} r′ q′ c′ P one there others =
         go false = count-zero _ ts (λ t. never (named m t) (named m t) false (λ _. refl))
 
     other : (n : ℕ) → n ≢ m → (f : Thread → Bool) → count (λ t. named n t && (named m t && f t)) ts ≡ 0
-    other n d f = count-zero _ ts (λ t. ⊎-elim (λ e. rw (e .1, ne-eqb m (t .name) (λ i. d (e .0 ∙ sym i)))) (λ e. rw (e .1)) (same? n (t .name)))
+    other n d f =
+        count-zero _ ts (λ t. ⊎-elim (λ e. rw (e .1, ne-eqb m (t .name) (λ i. d (e .0 ∙ sym i)))) (λ e. rw (e .1)) (same? n (t .name)))
 
 -- ---- the moves of one thread
 
@@ -170,7 +185,8 @@ pub rotate-keeps : (m s : ℕ) (a : Answer) {ts : List Thread} {q c : List ℕ} 
 unfolding is-running is-ready on-clock runs-as
 rotate-keeps m s a {q = q} {c = c} P =
     let w = at-run m s P in
-    move m Ready a NoRunner (q ++ (m ∷ [])) c P (w .0) (refl, omega (arith, tail-self q m), w .2) (λ n d. (sym (runs-other n m s d), tail-other q n m d, refl))
+    move m Ready a NoRunner (q ++ (m ∷ [])) c P (w .0) (refl, omega (arith, tail-self q m), w .2)
+    (λ n d. (sym (runs-other n m s d), tail-other q n m d, refl))
 
 -- the runner goes where it is in no place, and nobody runs
 pub stop-keeps : (m s : ℕ) (to : State) (a : Answer) {ts : List Thread} {q c : List ℕ} → Asleep to → Places ts (Runs m s) q c →
@@ -178,7 +194,8 @@ pub stop-keeps : (m s : ℕ) (to : State) (a : Answer) {ts : List Thread} {q c :
 unfolding runs-as
 stop-keeps m s to a {q = q} {c = c} z P =
     let w = at-run m s P in
-    move m to a NoRunner q c P (w .0) (sym (z .0), w .1 ∙ sym (ap one-if (z .1)), w .2 ∙ sym (ap one-if (z .2))) (λ n d. (sym (runs-other n m s d), refl, refl))
+    move m to a NoRunner q c P (w .0) (sym (z .0), w .1 ∙ sym (ap one-if (z .1)), w .2 ∙ sym (ap one-if (z .2)))
+    (λ n d. (sym (runs-other n m s d), refl, refl))
 
 -- the runner waits for the clock, and nobody runs
 pub clock-keeps : (m s : ℕ) (a : Answer) {ts : List Thread} {q c : List ℕ} → Places ts (Runs m s) q c →
@@ -186,7 +203,8 @@ pub clock-keeps : (m s : ℕ) (a : Answer) {ts : List Thread} {q c : List ℕ} �
 unfolding is-running is-ready on-clock runs-as
 clock-keeps m s a {q = q} {c = c} P =
     let w = at-run m s P in
-    move m Clock a NoRunner q (c ++ (m ∷ [])) P (w .0) (refl, w .1, omega (arith, tail-self c m)) (λ n d. (sym (runs-other n m s d), refl, tail-other c n m d))
+    move m Clock a NoRunner q (c ++ (m ∷ [])) P (w .0) (refl, w .1, omega (arith, tail-self c m))
+    (λ n d. (sym (runs-other n m s d), refl, tail-other c n m d))
 
 -- the front of the ready queue runs
 pub run-keeps : (m s : ℕ) (a : Answer) {ts : List Thread} {q c : List ℕ} → Places ts NoRunner (m ∷ q) c →
@@ -209,7 +227,8 @@ same-keeps f names states {ts} P = record {
 }
   where
     same : (k : State → Bool) (n : ℕ) → here k n (map f ts) ≡ here k n ts
-    same k n = unfold here in count-map (λ t. named n t && k (t .state)) f ts ∙ count-same _ _ ts (λ t. ap₂ (λ (x : ℕ) (s : State). n == x && k s) (names t) (states t))
+    same k n = unfold here in count-map (λ t. named n t && k (t .state)) f ts
+        ∙ count-same _ _ ts (λ t. ap₂ (λ (x : ℕ) (s : State). n == x && k s) (names t) (states t))
 
 -- the runner has another slice
 pub slice-keeps : (n s s′ : ℕ) {ts : List Thread} {q c : List ℕ} → Places ts (Runs n s) q c → Places ts (Runs n s′) q c
@@ -218,16 +237,24 @@ slice-keeps n s s′ P = record { once = P .once; run = P .run; wait = P .wait; 
 
 -- ---- a thread more, ready at the tail, of a name that nobody has
 
-pub new-keeps : (n : ℕ) (t : Thread) (p : Thread → Bool) {ts : List Thread} {r : Runner} {q c : List ℕ} → t .name ≡ n → t .state ≡ Ready → count (named n) ts ≡ 0 → Places ts r q c →
+pub new-keeps : (n : ℕ) (t : Thread) (p : Thread → Bool) {ts : List Thread} {r : Runner} {q c : List ℕ} → t .name ≡ n → t .state ≡ Ready →
+    count (named n) ts ≡ 0 → Places ts r q c →
     Places (insert p t ts) r (q ++ (n ∷ [])) c
 unfolding here is-running is-ready on-clock
 new-keeps n t p {ts} {q = q} e s z P = record {
-  once = λ k. ⊎-elim (λ w. rw (w .0) (omega (arith, count-insert (named n) p t ts, own))) (λ w. omega (arith, P .once k, count-insert (named k) p t ts, other k (w .0))) (same? k n);
+  once = λ k. ⊎-elim (λ w. rw (w .0) (omega (arith, count-insert (named n) p t ts, own)))
+      (λ w. omega (arith, P .once k, count-insert (named k) p t ts, other k (w .0))) (same? k n);
   run = λ k. omega (arith, P .run k, count-insert (λ u. named k u && is-running (u .state)) p t ts, kind is-running k refl);
   wait = λ k.
       ⊎-elim
       (λ w. rw (w .0) (omega (arith, P .wait n, count-insert (λ u. named n u && is-ready (u .state)) p t ts, own-ready, tail-self q n)))
-      (λ w. omega (arith, P .wait k, count-insert (λ u. named k u && is-ready (u .state)) p t ts, other-ready k (w .0), tail-other q k n (w .0)))
+      (λ w. omega (
+        arith,
+        P .wait k,
+        count-insert (λ u. named k u && is-ready (u .state)) p t ts,
+        other-ready k (w .0),
+        tail-other q k n (w .0),
+      ))
       (same? k n);
   beat = λ k. omega (arith, P .beat k, count-insert (λ u. named k u && on-clock (u .state)) p t ts, kind on-clock k refl);
 }
@@ -260,7 +287,8 @@ module _ (set : List ℕ) where
   runs-left : (n : ℕ) (r : Runner) → runs-as n (left-runner r) ≡ (not (has n set) && runs-as n r)
   unfolding runs-as
   runs-left n NoRunner = sym (and-false (not (has n set)))
-  runs-left n (Runs m s) = ⊎-elim (λ e. rw (sym (e .0)) (own (has n set) refl)) (λ e. rw (e .1, and-false (not (has n set))) (other (has m set) (e .1))) (same? n m)
+  runs-left n (Runs m s) = ⊎-elim (λ e. rw (sym (e .0)) (own (has n set) refl))
+      (λ e. rw (e .1, and-false (not (has n set))) (other (has m set) (e .1))) (same? n m)
     where
       own : (b : Bool) → has n set ≡ b → runs-as n (if b then NoRunner else Runs n s) ≡ (not b && (n == n))
       own true h = refl
@@ -270,36 +298,49 @@ module _ (set : List ℕ) where
       other true e = refl
       other false e = e
 
-  here-left : (k : State → Bool) (n : ℕ) (ts : List Thread) → here k n (map (without-managers set) (left set ts)) ≡ count (λ t. named n t && k (t .state)) (left set ts)
+  here-left : (k : State → Bool) (n : ℕ) (ts : List Thread) →
+      here k n (map (without-managers set) (left set ts)) ≡ count (λ t. named n t && k (t .state)) (left set ts)
   unfolding here without-managers
   here-left k n ts = count-map (λ t. named n t && k (t .state)) (without-managers set) (left set ts)
 
   none-here : (k : State → Bool) (n : ℕ) (ts : List Thread) → has n set ≡ true → here k n (map (without-managers set) (left set ts)) ≡ 0
   none-here k n ts o = here-left k n ts ∙ none-left (λ t. t .name) (λ m. has m set) _ n (λ t e. eqb-true n (t .name) (and-left _ _ e)) o ts
 
-  all-here : (k : State → Bool) (n : ℕ) (ts : List Thread) → has n set ≡ false → here k n (map (without-managers set) (left set ts)) ≡ here k n ts
-  all-here k n ts o = here-left k n ts ∙ all-left (λ t. t .name) (λ m. has m set) _ n (λ t e. eqb-true n (t .name) (and-left _ _ e)) o ts ∙ (unfold here in refl)
+  all-here : (k : State → Bool) (n : ℕ) (ts : List Thread) → has n set ≡ false →
+      here k n (map (without-managers set) (left set ts)) ≡ here k n ts
+  all-here k n ts o = here-left k n ts ∙ all-left (λ t. t .name) (λ m. has m set) _ n (λ t e. eqb-true n (t .name) (and-left _ _ e)) o ts
+      ∙ (unfold here in refl)
 
-  queue-left : (k : State → Bool) (q : List ℕ) (ts : List Thread) → ((n : ℕ) → here k n ts ≡ times-in q n) → (n : ℕ) → here k n (map (without-managers set) (left set ts)) ≡ times-in (left-queue q) n
+  queue-left : (k : State → Bool) (q : List ℕ) (ts : List Thread) → ((n : ℕ) → here k n ts ≡ times-in q n) → (n : ℕ) →
+      here k n (map (without-managers set) (left set ts)) ≡ times-in (left-queue q) n
   queue-left k q ts h n = go (has n set) refl
     where
       go : (b : Bool) → has n set ≡ b → here k n (map (without-managers set) (left set ts)) ≡ times-in (left-queue q) n
       go true o = none-here k n ts o ∙ sym (none-left (λ m. m) (λ m. has m set) _ n (λ m e. eqb-true n m e) o q)
       go false o = all-here k n ts o ∙ h n ∙ sym (all-left (λ m. m) (λ m. has m set) _ n (λ m e. eqb-true n m e) o q)
 
-  run-left : (r : Runner) (ts : List Thread) → ((n : ℕ) → here is-running n ts ≡ one-if (runs-as n r)) → (n : ℕ) → here is-running n (map (without-managers set) (left set ts)) ≡ one-if (runs-as n (left-runner r))
+  run-left : (r : Runner) (ts : List Thread) → ((n : ℕ) → here is-running n ts ≡ one-if (runs-as n r)) → (n : ℕ) →
+      here is-running n (map (without-managers set) (left set ts)) ≡ one-if (runs-as n (left-runner r))
   run-left r ts h n = go (has n set) refl
     where
       go : (b : Bool) → has n set ≡ b → here is-running n (map (without-managers set) (left set ts)) ≡ one-if (runs-as n (left-runner r))
       go true o = rw (runs-left n r, o) (none-here is-running n ts o)
       go false o = rw (runs-left n r, o) (all-here is-running n ts o ∙ h n)
 
-  once-left : (ts : List Thread) → ((n : ℕ) → count (named n) ts ≤ 1) → (n : ℕ) → count (named n) (map (without-managers set) (left set ts)) ≤ 1
+  once-left : (ts : List Thread) → ((n : ℕ) → count (named n) ts ≤ 1) → (n : ℕ) →
+      count (named n) (map (without-managers set) (left set ts)) ≤ 1
   unfolding without-managers
-  once-left ts h n = omega (arith, h n, names-kept (without-managers set) (λ t. refl) n (left set ts), count-keep-le (named n) (λ t. not (has (t .name) set)) ts)
+  once-left ts h n = omega (
+    arith,
+    h n,
+    names-kept (without-managers set) (λ t. refl) n (left set ts),
+    count-keep-le (named n)
+        (λ t. not (has (t .name) set)) ts,
+  )
 
   -- Threads, runner and queues without the names of a set agree as before.
-  pub left-keeps : {ts : List Thread} {r : Runner} {q c : List ℕ} → Places ts r q c → Places (map (without-managers set) (left set ts)) (left-runner r) (left-queue q) (left-queue c)
+  pub left-keeps : {ts : List Thread} {r : Runner} {q c : List ℕ} → Places ts r q c →
+      Places (map (without-managers set) (left set ts)) (left-runner r) (left-queue q) (left-queue c)
   left-keeps {ts} {r} {q} {c} P = record {
     once = once-left ts (P .once);
     run = run-left r ts (P .run);

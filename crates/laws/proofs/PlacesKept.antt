@@ -10,8 +10,8 @@ use borrow.Author.Tests.{eqb-true, leb-false}
 use Rattle.rules.specs.Lists.{if_then_else_, _==_, one-if, Pulled, missing, pulled, any, insert, has}
 use Rattle.rules.specs.Numbers.{Limits, names, full-slice, beat-ticks}
 use Rattle.rules.specs.Words.{by-wanted, by-manager}
-use Rattle.laws.specs.Words.{Wanted, TrapKind, State, Running, Ready, Receiving, Clock, Device, Trapped, Answer, Nothing, Result, Manager, Unset, Set, Gone, Parent, Thread, Message, Held, Runs, Target, Oneself, Named, Call, Send, Receive, CreateBrother, CreateSon, Terminate, SetManager, GetCpuTime, WaitForClock, WaitForIo, Trap, Event, Malformed, ByRunner, Tick, Interrupt}
-use Rattle.rules.specs.Tables.{Tables, in-state, with-managers, with-ticks, named, live, of-thread, change, manager, set-entry, new-thread, me}
+use Rattle.rules.specs.Tables.{Tables, in-state, with-managers, with-ticks, named, live, of-thread, change, manager, set-entry, new-thread}
+use Rattle.rules.specs.Tables.{me}
 use Rattle.rules.specs.States.{is-running, is-ready, on-clock, matches, receives, at-device, waits-for, trapped-on}
 use Rattle.rules.specs.Waking.{Outcome, wake-those, wake-by-name, handed, accepts, queue, deliver, stop}
 use Rattle.rules.specs.Ending.{ended-set, without-managers, remove, misses, release, end}
@@ -25,17 +25,23 @@ use Rattle.rules.specs.Dispatch.{dispatch}
 use Rattle.rules.specs.Events.{decode}
 use Rattle.rules.specs.Refusals.{first-of, call-rules, refusal}
 use Rattle.rules.specs.Step.{serve, act, step}
+use Rattle.laws.specs.Words.{Wanted, TrapKind, State, Running, Ready, Receiving, Clock, Device, Trapped, Answer, Nothing, Result}
+use Rattle.laws.specs.Words.{Manager, Unset, Set, Gone, Parent, Thread, Message, Held, Runs, Target, Oneself, Named, Call, Send}
+use Rattle.laws.specs.Words.{Receive, CreateBrother, CreateSon, Terminate, SetManager, GetCpuTime, WaitForClock, WaitForIo, Trap}
+use Rattle.laws.specs.Words.{Event, Malformed, ByRunner, Tick, Interrupt}
+use Rattle.laws.specs.Types.{Places, Agree, Inv}
 use Rattle.laws.proofs.Tests.{by-if, by-runs, and-right}
 use Rattle.laws.proofs.Tally.{count-length, length-count, count-insert, count-keep-le, length-keep, any-count, count-any, none-count}
-use Rattle.laws.specs.Types.{Places, Agree, Inv}
 use Rattle.laws.proofs.Threads.{names-kept, names-mapped, left, turned, turned-name, put-name}
 use Rattle.laws.proofs.Steps.{passed, called, by-step, by-dispatch}
 use Rattle.laws.proofs.Names.{name-low, name-free}
-use Rattle.laws.proofs.Places.{Asleep, asleep, at-run, rouse-keeps, beat-keeps, rotate-keeps, stop-keeps, clock-keeps, run-keeps, same-keeps, slice-keeps, new-keeps, left-keeps}
+use Rattle.laws.proofs.Places.{Asleep, asleep, at-run, rouse-keeps, beat-keeps, rotate-keeps, stop-keeps, clock-keeps, run-keeps}
+use Rattle.laws.proofs.Places.{same-keeps, slice-keeps, new-keeps, left-keeps}
 
 -- ---- threads changed, with their names as they were
 
-mapped : {L : Limits} {T U : Tables} (f : Thread → Thread) → ((t : Thread) → f t .name ≡ t .name) → U .threads ≡ map f (T .threads) → U .last ≡ T .last → Agree U → Inv L T → Inv L U
+mapped : {L : Limits} {T U : Tables} (f : Thread → Thread) → ((t : Thread) → f t .name ≡ t .name) → U .threads ≡ map f (T .threads) →
+    U .last ≡ T .last → Agree U → Inv L T → Inv L U
 mapped {L} {T} f h e l A I = record {
   agree = A;
   low = λ n k. I .low n (sym (names-mapped f h n (T .threads)) ∙ ap (any (named n)) (sym e) ∙ k);
@@ -56,28 +62,35 @@ runner-live {L} {T} I n s e =
 -- ---- the moves that events share
 
 -- those that are in no place become ready
-pub rouse-inv : {L : Limits} {T : Tables} (p : Thread → Bool) (a : Thread → Answer) → ((t : Thread) → p t ≡ true → Asleep (t .state)) → Inv L T → Inv L (wake-by-name p a T)
+pub rouse-inv : {L : Limits} {T : Tables} (p : Thread → Bool) (a : Thread → Answer) → ((t : Thread) → p t ≡ true → Asleep (t .state)) →
+    Inv L T → Inv L (wake-by-name p a T)
 unfolding wake-those
-rouse-inv p a sleeps I = mapped (λ t. if p t then in-state Ready (a t) t else t) (put-name p Ready a) refl refl (rouse-keeps p a sleeps (I .agree)) I
+rouse-inv p a sleeps I =
+    mapped (λ t. if p t then in-state Ready (a t) t else t) (put-name p Ready a) refl refl (rouse-keeps p a sleeps (I .agree)) I
 
 pub deliver-inv : {L : Limits} {T : Tables} (m : Message) → Inv L T → Inv L (deliver m T)
 unfolding deliver queue receives
 deliver-inv {L} {T} m I =
     by-if (Inv L) (any (accepts m) (T .threads))
-    (λ _. rouse-inv (accepts m) (λ t. handed m) (λ t e. asleep (matches (m .from)) (λ d. false) (λ k. false) (t .state) (and-right (named (m .to) t) _ e)) I)
+    (λ _. rouse-inv (accepts m) (λ t. handed m)
+    (λ t e. asleep (matches (m .from)) (λ d. false) (λ k. false) (t .state) (and-right (named (m .to) t) _ e)) I)
     (λ _. same-threads refl refl (I .agree) I)
 
 -- the runner stops, in a state that has no place
 pub stop-inv : {L : Limits} {T : Tables} (n s : ℕ) → T .runner ≡ Runs n s → (to : State) → Asleep to → Inv L T → Inv L (stop n to T)
 unfolding stop change
-stop-inv n s e to z I = mapped (λ t. if named n t then in-state to Nothing t else t) (put-name (named n) to (λ t. Nothing)) refl refl (stop-keeps n s to Nothing z (rw e at (I .agree))) I
+stop-inv n s e to z I = mapped (λ t. if named n t then in-state to Nothing t else t) (put-name (named n) to (λ t. Nothing)) refl refl
+    (stop-keeps n s to Nothing z (rw e at (I .agree))) I
 
 -- a thread is changed, and keeps its name and state
-pub change-inv : {L : Limits} {T : Tables} (n : ℕ) (f : Thread → Thread) → ((t : Thread) → f t .name ≡ t .name) → ((t : Thread) → f t .state ≡ t .state) → Inv L T → Inv L (change n f T)
+pub change-inv : {L : Limits} {T : Tables} (n : ℕ) (f : Thread → Thread) → ((t : Thread) → f t .name ≡ t .name) →
+    ((t : Thread) → f t .state ≡ t .state) → Inv L T → Inv L (change n f T)
 unfolding change
 change-inv {L} {T} n f names states I =
     let k = turned-name (named n) f names in
-    mapped (turned (named n) f) k refl refl (same-keeps (turned (named n) f) k (λ t. by-if (λ (u : Thread). u .state ≡ t .state) (named n t) (λ _. states t) (λ _. refl)) (I .agree)) I
+    mapped (turned (named n) f) k refl refl
+    (same-keeps (turned (named n) f) k (λ t. by-if (λ (u : Thread). u .state ≡ t .state) (named n t) (λ _. states t) (λ _. refl))
+    (I .agree)) I
 
 -- ---- ending
 
@@ -85,8 +98,22 @@ pub remove-inv : {L : Limits} {T : Tables} (set : List ℕ) → Inv L T → Inv 
 unfolding remove
 remove-inv {L} {T} set I = record {
   agree = left-keeps set (I .agree);
-  low = λ n e. I .low n (count-any (named n) (T .threads) (omega (arith, any-count (named n) _ e, names-kept (without-managers set) (λ t. unfold without-managers in refl) n (left set (T .threads)), count-keep-le (named n) (λ t. not (has (t .name) set)) (T .threads))));
-  few = omega (arith, I .few, length-map (left set (T .threads)) (without-managers set), length-keep (λ t. not (has (t .name) set)) (T .threads), count-length (λ t. not (has (t .name) set)) (T .threads));
+  low = λ n e. I .low n (count-any (named n) (T .threads)
+      (omega (
+        arith,
+        any-count (named n) _ e,
+        names-kept (without-managers set) (λ t. unfold without-managers in
+            refl) n (left set (T .threads)),
+        count-keep-le (named n) (λ t. not (has (t .name) set)) (T .threads),
+      )));
+  few = omega (
+    arith,
+    I .few,
+    length-map (left set (T .threads)) (without-managers set),
+    length-keep (λ t. not (has (t .name) set))
+        (T .threads),
+    count-length (λ t. not (has (t .name) set)) (T .threads),
+  );
   last = I .last;
 }
 
@@ -121,7 +148,8 @@ unfolding rotate wake-those
 rotate-inv {L} {T} I =
     by-runs (Inv L) (T .runner) (λ _. I) λ n s e.
     by-if (Inv L) (s == 0)
-    (λ _. mapped (λ t. if named n t then in-state Ready Nothing t else t) (put-name (named n) Ready (λ t. Nothing)) refl refl (rotate-keeps n s Nothing (rw e at (I .agree))) I)
+    (λ _. mapped (λ t. if named n t then in-state Ready Nothing t else t) (put-name (named n) Ready (λ t. Nothing)) refl refl
+    (rotate-keeps n s Nothing (rw e at (I .agree))) I)
     (λ _. I)
 
 pub tick-inv : {L : Limits} {T : Tables} → Inv L T → Inv L (tick T)
@@ -137,7 +165,8 @@ send-inv {L} {T} me to w I = by-if (Inv L) (decides me to T) (λ _. decided w) (
     decided : (w : ℕ) → Inv L (decide me to w T)
     decided zero =
         unfold decide trapped-on in
-        rouse-inv _ _ (λ t e. asleep (λ w. false) (λ d. false) (λ k. by-manager false (λ m. me == m) (manager k (t .managers))) (t .state) (and-right (named to t) _ e)) (same-threads refl refl (I .agree) I)
+        rouse-inv _ _ (λ t e. asleep (λ w. false) (λ d. false) (λ k. by-manager false (λ m. me == m) (manager k (t .managers))) (t .state)
+        (and-right (named to t) _ e)) (same-threads refl refl (I .agree) I)
     decided (suc w) = unfold decide in end-inv to I
 
 pub interrupt-inv : {L : Limits} {T : Tables} (d w : ℕ) → Inv L T → Inv L (interrupt d w T)
@@ -147,12 +176,20 @@ interrupt-inv {L} {T} d w I =
     (λ _. rouse-inv (waits-for d) (λ t. Result w) (λ t e. asleep (λ w. false) (λ x. d == x) (λ k. false) (t .state) e) I)
     (λ _. same-threads refl refl (I .agree) I)
 
-pub create-inv : {L : Limits} {T : Tables} (p : Parent) → L .threads < names → length (T .threads) < L .threads → Inv L T → Inv L (create p T .tables)
+pub create-inv : {L : Limits} {T : Tables} (p : Parent) → L .threads < names → length (T .threads) < L .threads → Inv L T →
+    Inv L (create p T .tables)
 unfolding create
 create-inv {L} {T} p l room I = record {
-  agree = new-keeps n new (λ t. ltb (t .name) n) refl refl (none-count (named n) (T .threads) (name-free L T l (I .last) (I .few))) (I .agree);
+  agree = new-keeps n new (λ t. ltb (t .name) n) refl refl (none-count (named n) (T .threads) (name-free L T l (I .last) (I .few)))
+      (I .agree);
   low = λ m e. go m (m == n) refl e;
-  few = omega (arith, length-count (T .threads), length-count (insert (λ t. ltb (t .name) n) new (T .threads)), count-insert (λ t. true) (λ t. ltb (t .name) n) new (T .threads));
+  few = omega (
+    arith,
+    length-count (T .threads),
+    length-count (insert (λ t. ltb (t .name) n) new (T .threads)),
+    count-insert (λ t. true)
+        (λ t. ltb (t .name) n) new (T .threads),
+  );
   last = name-low T;
 }
   where
@@ -164,7 +201,8 @@ create-inv {L} {T} p l room I = record {
 
     go : (m : ℕ) (b : Bool) → (m == n) ≡ b → any (named m) (insert (λ t. ltb (t .name) n) new (T .threads)) ≡ true → m < names
     go m true i e = omega (arith, eqb-true m n i, name-low T)
-    go m false i e = I .low m (count-any (named m) (T .threads) (omega (arith, any-count (named m) _ e, count-insert (named m) (λ t. ltb (t .name) n) new (T .threads), ap one-if i)))
+    go m false i e = I .low m (count-any (named m) (T .threads)
+        (omega (arith, any-count (named m) _ e, count-insert (named m) (λ t. ltb (t .name) n) new (T .threads), ap one-if i)))
 
 abbrev pub Kept : Limits → Outcome → Type 0
 Kept L o = Inv L (o .tables)
@@ -197,7 +235,8 @@ module _ {L : Limits} {T : Tables} (n s : ℕ) (runs-now : T .runner ≡ Runs n 
 
   clock-inv : Kept L (wait-for-clock n T)
   unfolding wait-for-clock stop change
-  clock-inv = mapped (λ t. if named n t then in-state Clock Nothing t else t) (put-name (named n) Clock (λ t. Nothing)) refl refl (clock-keeps n s Nothing (rw runs-now at (I .agree))) I
+  clock-inv = mapped (λ t. if named n t then in-state Clock Nothing t else t) (put-name (named n) Clock (λ t. Nothing)) refl refl
+      (clock-keeps n s Nothing (rw runs-now at (I .agree))) I
 
   held-inv : (d : ℕ) (p : Pulled Held) → Kept L (take-held n d T p)
   unfolding take-held is-running is-ready on-clock
@@ -235,7 +274,8 @@ pub dispatch-inv : {L : Limits} (o : Outcome) → Inv L (o .tables) → Inv L (d
 dispatch-inv {L} o I =
     by-dispatch (Inv L) o (λ n s r. I) (λ r e. I) λ n q r e.
     unfold change in
-    mapped (λ t. if named n t then in-state Running Nothing t else t) (put-name (named n) Running (λ t. Nothing)) refl refl (run-keeps n full-slice Nothing (rw (r, e) at (I .agree))) I
+    mapped (λ t. if named n t then in-state Running Nothing t else t) (put-name (named n) Running (λ t. Nothing)) refl refl
+    (run-keeps n full-slice Nothing (rw (r, e) at (I .agree))) I
 
 -- Every step, accepted or refused, keeps the agreement of state, runner and queues, names below 254, and the number of threads.
 pub step-inv : {L : Limits} {T : Tables} (bytes : List ℕ) → L .threads < names → Inv L T → Inv L (step L T bytes .tables)

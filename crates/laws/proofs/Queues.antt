@@ -31,7 +31,8 @@ pub tail-other : (q : List ℕ) (n m : ℕ) → n ≢ m → times-in (q ++ (m �
 tail-other q n m d = omega (arith, count-append (λ k. n == k) q (m ∷ []), times-other n m [] d, times-none n)
 
 -- one of the numbers taken out
-one-out : (x : ℕ) (ys : List ℕ) → 1 ≤ times-in ys x → (zs : List ℕ) × (length ys ≡ suc (length zs)) × ((n : ℕ) → times-in ys n ≡ one-if (n == x) + times-in zs n)
+one-out : (x : ℕ) (ys : List ℕ) → 1 ≤ times-in ys x → (zs : List ℕ) × (length ys ≡ suc (length zs))
+    × ((n : ℕ) → times-in ys n ≡ one-if (n == x) + times-in zs n)
 unfolding count
 one-out x [] h = absurd (omega arith)
 one-out x (y ∷ ys) h =
@@ -63,10 +64,12 @@ ahead-less n (x ∷ q) h = ⊎-elim (λ e. rw (e .1) (omega arith)) (λ e. rw (e
 pub ahead-append : (n : ℕ) (q r : List ℕ) → has n q ≡ true → ahead n (q ++ r) ≡ ahead n q
 unfolding any ahead
 ahead-append n [] r h = absurd (false≢true h)
-ahead-append n (x ∷ q) r h = ⊎-elim (λ e. rw (e .1)) (λ e. rw (e .1) (ap (λ (k : ℕ). 1 + k) (ahead-append n q r (rw (e .1) at h)))) (same? n x)
+ahead-append n (x ∷ q) r h =
+    ⊎-elim (λ e. rw (e .1)) (λ e. rw (e .1) (ap (λ (k : ℕ). 1 + k) (ahead-append n q r (rw (e .1) at h)))) (same? n x)
 
 -- who is kept stands with no more before it
-pub ahead-keep : (k : ℕ → Bool) (n : ℕ) (q : List ℕ) → k n ≡ true → has n q ≡ true → (has n (keep k q) ≡ true) × (ahead n (keep k q) ≤ ahead n q)
+pub ahead-keep : (k : ℕ → Bool) (n : ℕ) (q : List ℕ) → k n ≡ true → has n q ≡ true → (has n (keep k q) ≡ true)
+    × (ahead n (keep k q) ≤ ahead n q)
 unfolding any keep ahead
 ahead-keep k n [] h i = absurd (false≢true i)
 ahead-keep k n (x ∷ q) h i =
@@ -89,7 +92,11 @@ pub longer-same : {q r : List ℕ} → r ≡ q → Longer q r
 longer-same {q} e = record { more = []; whole = e ∙ sym (append-nil q) }
 
 pub longer-trans : {q r s : List ℕ} → Longer q r → Longer r s → Longer q s
-longer-trans {q} a b = record { more = a .more ++ b .more; whole = b .whole ∙ ap (λ (l : List ℕ). l ++ b .more) (a .whole) ∙ append-assoc q (a .more) (b .more) }
+longer-trans {q} a b = record {
+  more = a .more ++ b .more;
+  whole = b .whole ∙ ap (λ (l : List ℕ). l ++ b .more) (a .whole)
+      ∙ append-assoc q (a .more) (b .more);
+}
 
 pub longer-place : (n : ℕ) {q r : List ℕ} → Longer q r → has n q ≡ true → (has n r ≡ true) × (ahead n r ≡ ahead n q)
 longer-place n {q} l h = rw (l .whole) (has-left n q (l .more) h, ahead-append n q (l .more) h)

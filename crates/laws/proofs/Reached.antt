@@ -16,21 +16,21 @@ use Rattle.rules.specs.Step.{step}
 use Rattle.rules.specs.Runs.{Input, run}
 use Rattle.rules.specs.Benches.{ask}
 use Rattle.rules.specs.Opened.{opened}
-use Rattle.laws.specs.Reached.{made-and-ended, a-round}
 use Rattle.laws.specs.Words.{ParentIs, Runs}
+use Rattle.laws.specs.Reached.{made-and-ended, a-round}
+use Rattle.laws.specs.Types.{Ruled}
+use Rattle.laws.specs.Comings.{creates}
+use Rattle.laws.specs.Givings.{result, given-by, givings}
+use Rattle.laws.specs.Rest.{Twice, others, rest, big}
 use Rattle.laws.proofs.Tests.{clash, same?, or-left}
 use Rattle.laws.proofs.Tally.{length-count, count-insert}
 use Rattle.laws.proofs.Members.{from-on-parts}
-use Rattle.laws.specs.Types.{Ruled}
 use Rattle.laws.proofs.Steps.{run-append}
 use Rattle.laws.proofs.Names.{name-is-first-free}
 use Rattle.laws.proofs.Sound.{ruled-tested}
 use Rattle.laws.proofs.Kept.{start-ruled, step-ruled}
-use Rattle.laws.specs.Comings.{creates}
 use Rattle.laws.proofs.Comings.{creation-brings, creation-keeps, created-last, created-lives}
-use Rattle.laws.specs.Givings.{result, given-by, givings}
 use Rattle.laws.proofs.Givings.{givings-append}
-use Rattle.laws.specs.Rest.{Twice, others, rest, big}
 use Rattle.laws.proofs.Rest.{all-pass}
 use Rattle.laws.proofs.Trace.{son-is-made, made-and-ended-leaves-no-trace, made-and-ended-gives-its-name}
 
@@ -43,10 +43,12 @@ next-free zero n T e = refl
 next-free (suc k) n T e = rw (e, free-name)
 
 -- what two parts of a run give
-in-parts : (L : Limits) (T : Tables) (es fs : Input) {U : Tables} {xs ys : List ℕ} → run L T es ≡ U → givings L T es ≡ xs → givings L U fs ≡ ys → givings L T (es ++ fs) ≡ xs ++ ys
+in-parts : (L : Limits) (T : Tables) (es fs : Input) {U : Tables} {xs ys : List ℕ} → run L T es ≡ U → givings L T es ≡ xs →
+    givings L U fs ≡ ys → givings L T (es ++ fs) ≡ xs ++ ys
 in-parts L T es fs r a b = givings-append L T es fs ∙ rw (r, a, b)
 
-module _ {L : Limits} {T : Tables} (l : L .threads < names) (R : Ruled L T) (m s : ℕ) (e : T .runner ≡ Runs m s) (room : length (T .threads) < L .threads) where
+module _ {L : Limits} {T : Tables} (l : L .threads < names) (R : Ruled L T) (m s : ℕ) (e : T .runner ≡ Runs m s)
+    (room : length (T .threads) < L .threads) where
   -- the rules hold whatever name was given last
   any-last : (n : ℕ) → n < names → Ruled L (with-last n T)
   any-last n h = record {
@@ -60,14 +62,18 @@ module _ {L : Limits} {T : Tables} (l : L .threads < names) (R : Ruled L T) (m s
     next : next-name (with-last n T) ≡ suc n
     next = let q : (n + 1) % names ≡ suc n = omega arith in next-free (length (T .threads)) n (with-last n T) (rw q free) ∙ q
 
-    one-round : (run L (with-last n T) (ask 2 0 ∷ ask 3 (suc n) ∷ []) ≡ with-last (suc n) T) × (givings L (with-last n T) (ask 2 0 ∷ ask 3 (suc n) ∷ []) ≡ suc n ∷ [])
+    one-round : (run L (with-last n T) (ask 2 0 ∷ ask 3 (suc n) ∷ []) ≡ with-last (suc n) T)
+        × (givings L (with-last n T) (ask 2 0 ∷ ask 3 (suc n) ∷ []) ≡ suc n ∷ [])
     one-round =
-        let r = ruled-tested (any-last n (omega arith)) in
-        (rw next at (made-and-ended-leaves-no-trace L (with-last n T) l r m s e room), rw next at (made-and-ended-gives-its-name L (with-last n T) l r m s e room))
+        let r = ruled-tested (any-last n (omega arith)) in (
+          rw next at (made-and-ended-leaves-no-trace L (with-last n T) l r m s e room),
+          rw next at (made-and-ended-gives-its-name L (with-last n T) l r m s e room),
+        )
 
   -- k threads, one after the other, with the names behind n, which nobody has
   rounds : (k n : ℕ) → n + k < names → ((x : ℕ) → n < x → live x T ≡ false) →
-      (run L (with-last n T) (made-and-ended (suc n) k) ≡ with-last (n + k) T) × (givings L (with-last n T) (made-and-ended (suc n) k) ≡ from-on (suc n) k)
+      (run L (with-last n T) (made-and-ended (suc n) k) ≡ with-last (n + k) T)
+      × (givings L (with-last n T) (made-and-ended (suc n) k) ≡ from-on (suc n) k)
   unfolding made-and-ended from-on each
   rounds zero n h free = unfold run givings in (ap (λ x. with-last x T) (omega arith), refl)
   rounds (suc k) n h free =
@@ -123,14 +129,18 @@ module _ (L : Limits) (l : L .threads < names) where
     }
       where
         longer : length (create (ParentIs 0) T .tables .threads) ≡ suc (suc n)
-        longer = unfold create in length-count _ ∙ count-insert (λ t. true) _ _ (T .threads) ∙ omega (arith, length-count (T .threads), S .length-is)
+        longer = unfold create in length-count _ ∙ count-insert (λ t. true) _ _ (T .threads)
+            ∙ omega (arith, length-count (T .threads), S .length-is)
 
-        stays : (x : ℕ) → x ≤ suc n → ((x ≡ suc n) × ((x == suc n) ≡ true)) ⊎ ((x ≢ suc n) × ((x == suc n) ≡ false)) → live x (create (ParentIs 0) T .tables) ≡ true
+        stays : (x : ℕ) → x ≤ suc n → ((x ≡ suc n) × ((x == suc n) ≡ true)) ⊎ ((x ≢ suc n) × ((x == suc n) ≡ false)) →
+            live x (create (ParentIs 0) T .tables) ≡ true
         stays x h (inl e) = ap (λ y. live y (create (ParentIs 0) T .tables)) (e .0 ∙ sym next-is) ∙ created-lives (ParentIs 0) T
         stays x h (inr e) = creation-keeps (ParentIs 0) T x (S .taken x (omega (arith, e .0)))
 
-        none : (x : ℕ) → suc n < x → (b : Bool) → live x (create (ParentIs 0) T .tables) ≡ b → live x (create (ParentIs 0) T .tables) ≡ false
-        none x h true e = ⊎-elim (λ i. absurd (omega (arith, next-is))) (λ i. absurd (clash i (S .free x (omega arith)))) (creation-brings (ParentIs 0) T x e)
+        none : (x : ℕ) → suc n < x → (b : Bool) → live x (create (ParentIs 0) T .tables) ≡ b →
+            live x (create (ParentIs 0) T .tables) ≡ false
+        none x h true e = ⊎-elim (λ i. absurd (omega (arith, next-is))) (λ i. absurd (clash i (S .free x (omega arith))))
+            (creation-brings (ParentIs 0) T x e)
         none x h false e = e
 
   -- k sons more
@@ -140,8 +150,11 @@ module _ (L : Limits) (l : L .threads < names) where
   sons zero n T S h = (subst (λ x. Sons L x T) (omega arith) S, refl)
   sons (suc k) n T S h =
       let q : suc n + k ≡ n + suc k = omega arith in
-      let later = sons k (suc n) (step L T (ask 2 0) .tables) (one-more n T S (omega arith)) (omega arith) in
-      (subst (λ x. Sons L x (run L (step L T (ask 2 0) .tables) (replicate k (ask 2 0)))) q (later .0), ap (λ xs. xs ++ givings L (step L T (ask 2 0) .tables) (replicate k (ask 2 0))) (made-one n T S (omega arith) .1 ∙ ap (λ x. x ∷ []) (next-is n T S (omega arith))) ∙ ap (λ xs. suc n ∷ xs) (later .1))
+      let later = sons k (suc n) (step L T (ask 2 0) .tables) (one-more n T S (omega arith)) (omega arith) in (
+        subst (λ x. Sons L x (run L (step L T (ask 2 0) .tables) (replicate k (ask 2 0)))) q (later .0),
+        ap (λ xs. xs ++ givings L (step L T (ask 2 0) .tables) (replicate k (ask 2 0))) (made-one n T S (omega arith) .1
+            ∙ ap (λ x. x ∷ []) (next-is n T S (omega arith))) ∙ ap (λ xs. suc n ∷ xs) (later .1),
+      )
 
   -- behind 253 the next name is the first that is free: that behind the last son's
   again : (n : ℕ) (T : Tables) → Sons L n T → suc n < L .threads → next-name (with-last (names - 1) T) ≡ suc n
@@ -152,7 +165,8 @@ module _ (L : Limits) (l : L .threads < names) where
       c : ℕ
       c = next-name (with-last (names - 1) T)
 
-      go : (i : ℕ) → 1 ≤ i → c ≡ (names - 1 + i) % names → live c T ≡ false → ((j : ℕ) → 1 ≤ j → j < i → live ((names - 1 + j) % names) T ≡ true) →
+      go : (i : ℕ) → 1 ≤ i → c ≡ (names - 1 + i) % names → live c T ≡ false →
+          ((j : ℕ) → 1 ≤ j → j < i → live ((names - 1 + j) % names) T ≡ true) →
           (early : Bool) → ltb i (n + 2) ≡ early → (late : Bool) → ltb (n + 2) i ≡ late → c ≡ suc n
       go i some e dead passed true a late b = let h = ltb-true i (n + 2) a in absurd (clash (S .taken c (omega arith)) dead)
       go i some e dead passed false a true b =
@@ -189,7 +203,8 @@ module _ (L : Limits) (l : L .threads < names) (n : ℕ) (room : suc n < L .thre
   unfolding givings
   gives-again =
       let S = with-sons .0 in
-      rw (son-is-made L (with-last (names - 1) filled) 0 full-slice (S .runner) (omega (arith, S .length-is)) .1) (ap (λ x. x ∷ []) (again L l n filled S room))
+      rw (son-is-made L (with-last (names - 1) filled) 0 full-slice (S .runner) (omega (arith, S .length-is)) .1)
+      (ap (λ x. x ∷ []) (again L l n filled S room))
 
 -- those up to n and the k behind them are all from 0 on
 in-turn : (n k : ℕ) (xs : List ℕ) → 0 ∷ (from-on 1 n ++ (from-on (suc n) k ++ xs)) ≡ from-on 0 (suc (n + k)) ++ xs
@@ -200,16 +215,19 @@ in-turn n k xs =
 
 comes-round : (L : Limits) → L .threads < names → (n : ℕ) → suc n < L .threads → (k : ℕ) → n + k ≡ names - 1 →
     0 ∷ givings L start (replicate n (ask 2 0) ++ (made-and-ended (suc n) k ++ (ask 2 0 ∷ []))) ≡ from-on 0 (suc (n + k)) ++ (suc n ∷ [])
-comes-round L l n room k h = ap (λ xs. 0 ∷ xs) (a-round-gives L l n room k h (ask 2 0 ∷ []) (suc n ∷ []) (gives-again L l n room)) ∙ in-turn n k (suc n ∷ [])
+comes-round L l n room k h = ap (λ xs. 0 ∷ xs) (a-round-gives L l n room k h (ask 2 0 ∷ []) (suc n ∷ []) (gives-again L l n room))
+    ∙ in-turn n k (suc n ∷ [])
 
 -- ---- the laws
 
 -- For any limits with two threads or more: the first thread's name 0, the names 1 to 253 in turn, and then the first that is free again.
-pub names-come-round : (L : Limits) → 2 ≤ L .threads → L .threads < names → 0 ∷ givings L start (a-round (L .threads)) ≡ from-on 0 names ++ ((L .threads - 1) ∷ [])
+pub names-come-round : (L : Limits) → 2 ≤ L .threads → L .threads < names → 0 ∷ givings L start (a-round (L .threads)) ≡ from-on 0 names
+    ++ ((L .threads - 1) ∷ [])
 unfolding a-round
 names-come-round L two l = go (L .threads - 2) (names + 1 - L .threads) (omega arith) (omega arith)
   where
-    go : (n k : ℕ) → L .threads ≡ suc (suc n) → n + k ≡ names - 1 → 0 ∷ givings L start (a-round (L .threads)) ≡ from-on 0 names ++ ((L .threads - 1) ∷ [])
+    go : (n k : ℕ) → L .threads ≡ suc (suc n) → n + k ≡ names - 1 → 0 ∷ givings L start (a-round (L .threads)) ≡ from-on 0 names
+        ++ ((L .threads - 1) ∷ [])
     go n k e h =
         let a : L .threads - 2 ≡ n = omega arith in
         let b : L .threads - 1 ≡ suc n = omega arith in
@@ -218,9 +236,11 @@ names-come-round L two l = go (L .threads - 2) (names + 1 - L .threads) (omega a
         rw (a, b, c) (rw all at (comes-round L l n (omega arith) k h))
 
 -- For any limits with two threads or more the bound is reached: exactly so many others lie between the two givings of one name.
-pub the-rest-is-reached : (L : Limits) → 2 ≤ L .threads → L .threads < names → (t : Twice (L .threads - 1) (0 ∷ givings L start (a-round (L .threads)))) × (others (L .threads - 1) (t .between) ≡ rest L)
+pub the-rest-is-reached : (L : Limits) → 2 ≤ L .threads → L .threads < names →
+    (t : Twice (L .threads - 1) (0 ∷ givings L start (a-round (L .threads)))) × (others (L .threads - 1) (t .between) ≡ rest L)
 unfolding others from-on
-the-rest-is-reached L two l = (record { earlier = from-on 0 m; between = from-on (suc m) (rest L); later = []; among = names-come-round L two l ∙ parts }, only)
+the-rest-is-reached L two l =
+    (record { earlier = from-on 0 m; between = from-on (suc m) (rest L); later = []; among = names-come-round L two l ∙ parts }, only)
   where
     m : ℕ
     m = L .threads - 1
@@ -229,7 +249,8 @@ the-rest-is-reached L two l = (record { earlier = from-on 0 m; between = from-on
     parts =
         let q : m + suc (rest L) ≡ names = omega arith in
         let z : 0 + m ≡ m = omega arith in
-        ap (λ xs. xs ++ (m ∷ [])) (rw (q, z) at (from-on-parts 0 m (suc (rest L)))) ∙ append-assoc (from-on 0 m) (from-on m (suc (rest L))) (m ∷ [])
+        ap (λ xs. xs ++ (m ∷ [])) (rw (q, z) at (from-on-parts 0 m (suc (rest L))))
+        ∙ append-assoc (from-on 0 m) (from-on m (suc (rest L))) (m ∷ [])
 
     only : count (λ i. not (m == i)) (from-on (suc m) (rest L)) ≡ rest L
     only = all-pass (λ i. not (m == i)) (suc m) (rest L) (λ i a b. ap not (ne-eqb m i (λ e. omega arith)))
@@ -242,10 +263,12 @@ reached-234 = the-rest-is-reached small (omega arith) (omega arith)
 pub reached-190 : (t : Twice 63 (0 ∷ givings big start (a-round 64))) × (others 63 (t .between) ≡ 190)
 reached-190 = the-rest-is-reached big (omega arith) (omega arith)
 
--- A name rests from giving to giving, not from the end of its thread: thread 18 stays while all names behind it are given; then it ends, and the next
--- thread made has its name.
-pub given-at-once-after-the-end : 0 ∷ givings small start (replicate 18 (ask 2 0) ++ (made-and-ended 19 235 ++ (ask 3 18 ∷ ask 2 0 ∷ []))) ≡ from-on 0 names ++ (18 ∷ [])
-given-at-once-after-the-end = ap (λ xs. 0 ∷ xs) (a-round-gives small (omega arith) 18 (omega arith) 235 refl _ _ computed) ∙ in-turn 18 235 (18 ∷ [])
+-- A name rests from giving to giving, not from the end of its thread: thread 18 stays while all names behind it are given; then it ends,
+-- and the next thread made has its name.
+pub given-at-once-after-the-end : 0 ∷ givings small start (replicate 18 (ask 2 0) ++ (made-and-ended 19 235 ++ (ask 3 18 ∷ ask 2 0 ∷ [])))
+    ≡ from-on 0 names ++ (18 ∷ [])
+given-at-once-after-the-end = ap (λ xs. 0 ∷ xs) (a-round-gives small (omega arith) 18 (omega arith) 235 refl _ _ computed)
+    ∙ in-turn 18 235 (18 ∷ [])
   where
     computed : givings small (with-last (names - 1) (run small start (replicate 18 (ask 2 0)))) (ask 3 18 ∷ ask 2 0 ∷ []) ≡ 18 ∷ []
     computed = unfold opened creates result given-by givings in refl

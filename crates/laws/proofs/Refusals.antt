@@ -14,8 +14,11 @@ use Rattle.rules.specs.Events.{decode}
 use Rattle.rules.specs.Codes.{status-code}
 use Rattle.rules.specs.Refusals.{Rule, first-of, over, is-malformed, wants-nobody, ends-nobody, call-rules, own-rules, refusal}
 use Rattle.rules.specs.Step.{settle, step}
-use Rattle.laws.specs.Refusals.{before, call-is, is-send, comes-too-late, lacks-runner, names-nobody, decides-wrongly, block-needed, lacks-block, is-brother-of-0, lacks-thread, manages-itself, device-is-taken, the-ten}
-use Rattle.laws.specs.Words.{Nothing, Wanted, Anybody, Only, Status, Working, Idle, Halted, Panicked, Target, Oneself, Named, Send, Receive, CreateBrother, CreateSon, Terminate, SetManager, GetCpuTime, WaitForClock, WaitForIo, Trap, Event, Malformed, ByRunner, Tick, Interrupt}
+use Rattle.laws.specs.Words.{Nothing, Wanted, Anybody, Only, Status, Working, Idle, Halted, Panicked, Target, Oneself, Named, Send}
+use Rattle.laws.specs.Words.{Receive, CreateBrother, CreateSon, Terminate, SetManager, GetCpuTime, WaitForClock, WaitForIo, Trap}
+use Rattle.laws.specs.Words.{Event, Malformed, ByRunner, Tick, Interrupt}
+use Rattle.laws.specs.Refusals.{before, call-is, is-send, comes-too-late, lacks-runner, names-nobody, decides-wrongly, block-needed}
+use Rattle.laws.specs.Refusals.{lacks-block, is-brother-of-0, lacks-thread, manages-itself, device-is-taken, the-ten}
 use Rattle.laws.proofs.Tests.{by-if, clash, same?, and-left, and-right, not-true}
 use Rattle.laws.proofs.Members.{member-has}
 
@@ -35,7 +38,8 @@ stands-once n (r ∷ rs) = if r .number == n then not (has n (map (λ s. s .numb
 first-listed : (rs : List Rule) → List·Memᴰ (first-of rs) (0 ∷ map (λ r. r .number) rs)
 unfolding first-of
 first-listed [] = List·Memᴰ·head refl
-first-listed (r ∷ rs) = by-if (λ (n : ℕ). List·Memᴰ n (0 ∷ map (λ s. s .number) (r ∷ rs))) (r .holds) (λ _. List·Memᴰ·tail (List·Memᴰ·head refl)) (λ _. later (first-listed rs))
+first-listed (r ∷ rs) = by-if (λ (n : ℕ). List·Memᴰ n (0 ∷ map (λ s. s .number) (r ∷ rs))) (r .holds)
+    (λ _. List·Memᴰ·tail (List·Memᴰ·head refl)) (λ _. later (first-listed rs))
   where
     later : {n : ℕ} → List·Memᴰ n (0 ∷ map (λ s. s .number) rs) → List·Memᴰ n (0 ∷ map (λ s. s .number) (r ∷ rs))
     later (List·Memᴰ·head e) = List·Memᴰ·head e
@@ -50,16 +54,20 @@ never-given n rs z h e = go (first-listed rs)
     go (List·Memᴰ·tail m) = clash (member-has _ (rw e at m)) h
 
 -- A number that stands once is given exactly if its test holds and no test before it does.
-pub first-exactly : (n : ℕ) (rs : List Rule) → n ≢ 0 → stands-once n rs ≡ true → (first-of rs ≡ n) ↔ ((test-of n rs ≡ true) × (before n rs ≡ false))
+pub first-exactly : (n : ℕ) (rs : List Rule) → n ≢ 0 → stands-once n rs ≡ true →
+    (first-of rs ≡ n) ↔ ((test-of n rs ≡ true) × (before n rs ≡ false))
 unfolding first-of test-of before stands-once
 first-exactly n [] z o = absurd (false≢true o)
-first-exactly n (r ∷ rs) z o = ⊎-elim (λ e. rw (e .1) (here (r .holds) (e .0) (rw (e .1) at o))) (λ e. rw (e .1) (there (r .holds) (e .0) (first-exactly n rs z (rw (e .1) at o)))) (same? (r .number) n)
+first-exactly n (r ∷ rs) z o = ⊎-elim (λ e. rw (e .1) (here (r .holds) (e .0) (rw (e .1) at o)))
+    (λ e. rw (e .1) (there (r .holds) (e .0) (first-exactly n rs z (rw (e .1) at o)))) (same? (r .number) n)
   where
-    here : (b : Bool) → r .number ≡ n → not (has n (map (λ s. s .number) rs)) ≡ true → ((if b then r .number else first-of rs) ≡ n) ↔ ((b ≡ true) × (false ≡ false))
+    here : (b : Bool) → r .number ≡ n → not (has n (map (λ s. s .number) rs)) ≡ true →
+        ((if b then r .number else first-of rs) ≡ n) ↔ ((b ≡ true) × (false ≡ false))
     here true e k = (λ _. (refl, refl), λ _. e)
     here false e k = (λ g. absurd (never-given n rs z (not-true _ k) g), λ x. absurd (false≢true (x .0)))
 
-    there : (b : Bool) → r .number ≢ n → (first-of rs ≡ n) ↔ ((test-of n rs ≡ true) × (before n rs ≡ false)) → ((if b then r .number else first-of rs) ≡ n) ↔ ((test-of n rs ≡ true) × ((b || before n rs) ≡ false))
+    there : (b : Bool) → r .number ≢ n → (first-of rs ≡ n) ↔ ((test-of n rs ≡ true) × (before n rs ≡ false)) →
+        ((if b then r .number else first-of rs) ≡ n) ↔ ((test-of n rs ≡ true) × ((b || before n rs) ≡ false))
     there true d later = (λ g. absurd (d g), λ x. absurd (true≢false (x .1)))
     there false d later = later
 
@@ -69,7 +77,8 @@ unfolding first-of any all
 none-exactly [] o = (λ _. refl, λ _. refl)
 none-exactly (r ∷ rs) o = go (r .holds) (none-exactly rs (and-right (not (r .number == 0)) _ o))
   where
-    go : (b : Bool) → (first-of rs ≡ 0) ↔ (any (λ s. s .holds) rs ≡ false) → ((if b then r .number else first-of rs) ≡ 0) ↔ ((b || any (λ s. s .holds) rs) ≡ false)
+    go : (b : Bool) → (first-of rs ≡ 0) ↔ (any (λ s. s .holds) rs ≡ false) →
+        ((if b then r .number else first-of rs) ≡ 0) ↔ ((b || any (λ s. s .holds) rs) ≡ false)
     go true later = (λ g. absurd (clash (and-left _ _ o) (ap not (eq-eqb (r .number) 0 g))), λ x. absurd (true≢false x))
     go false later = later
 
@@ -77,7 +86,8 @@ none-exactly (r ∷ rs) o = go (r .holds) (none-exactly rs (and-right (not (r .n
 
 -- The refusal is the number of the first of the ten that holds.
 pub refused-exactly : (L : Limits) (T : Tables) (e : Event) → refusal L T e ≡ first-of (the-ten L T e)
-unfolding refusal first-of own-rules call-rules the-ten call-is is-send names-nobody decides-wrongly block-needed lacks-block is-brother-of-0 lacks-thread manages-itself device-is-taken
+unfolding refusal first-of own-rules call-rules the-ten call-is is-send names-nobody decides-wrongly block-needed lacks-block
+    is-brother-of-0 lacks-thread manages-itself device-is-taken
 refused-exactly L T Malformed = refl
 refused-exactly L T (ByRunner (Send to w)) = refl
 refused-exactly L T (ByRunner (Receive w)) = refl
@@ -100,8 +110,16 @@ unfolding over
 too-late-exactly T = go (status T)
   where
     go : (s : Status) → (over s ≡ true) ↔ ((s ≡ Halted) ⊎ (s ≡ Panicked))
-    go Working = (λ e. absurd (false≢true e), ⊎-elim (λ e. let z : _≡_ {A = ℕ} 0 1 = cc in absurd (omega arith)) (λ e. let z : _≡_ {A = ℕ} 0 1 = cc in absurd (omega arith)))
-    go Idle = (λ e. absurd (false≢true e), ⊎-elim (λ e. let z : _≡_ {A = ℕ} 0 1 = cc in absurd (omega arith)) (λ e. let z : _≡_ {A = ℕ} 0 1 = cc in absurd (omega arith)))
+    go Working = (
+      λ e. absurd (false≢true e),
+      ⊎-elim (λ e. let z : _≡_ {A = ℕ} 0 1 = cc in
+          absurd (omega arith)) (λ e. let z : _≡_ {A = ℕ} 0 1 = cc in absurd (omega arith)),
+    )
+    go Idle = (
+      λ e. absurd (false≢true e),
+      ⊎-elim (λ e. let z : _≡_ {A = ℕ} 0 1 = cc in
+          absurd (omega arith)) (λ e. let z : _≡_ {A = ℕ} 0 1 = cc in absurd (omega arith)),
+    )
     go Halted = (λ e. inl refl, λ e. refl)
     go Panicked = (λ e. inr refl, λ e. refl)
 
@@ -119,7 +137,8 @@ ends-nobody-exactly T (Named n) = (λ e. (n, refl, not-true _ e), λ r. let k : 
 -- ---- each number
 
 module _ (L : Limits) (T : Tables) (e : Event) where
-  exactly : (n : ℕ) → n ≢ 0 → stands-once n (the-ten L T e) ≡ true → (refusal L T e ≡ n) ↔ ((test-of n (the-ten L T e) ≡ true) × (before n (the-ten L T e) ≡ false))
+  exactly : (n : ℕ) → n ≢ 0 → stands-once n (the-ten L T e) ≡ true →
+      (refusal L T e ≡ n) ↔ ((test-of n (the-ten L T e) ≡ true) × (before n (the-ten L T e) ≡ false))
   exactly n z o = rw (refused-exactly L T e) (first-exactly n (the-ten L T e) z o)
 
   -- Each number is given exactly if its test holds and no test before it in the list of ten does.
@@ -190,10 +209,21 @@ module _ (L : Limits) (T : Tables) (bytes : List ℕ) where
   -- "A refused event returns the number, status and runner as they stand and no answer"; the tables stay as they are.
   pub refused-changes-nothing : refusal L T (decode bytes) ≢ 0 →
       (step L T bytes .tables ≡ T)
-      × (step L T bytes .decision ≡ record { refusal = refusal L T (decode bytes); status = status-code (status T); runner = me (T .runner); answer = Nothing })
+      × (step L T bytes .decision ≡ record {
+        refusal = refusal L T (decode bytes);
+        status = status-code (status T);
+        runner = me (T .runner);
+        answer = Nothing;
+      })
   unfolding step
   refused-changes-nothing = go (refusal L T (decode bytes))
     where
-      go : (r : ℕ) → r ≢ 0 → (settle r T (decode bytes) .tables ≡ T) × (settle r T (decode bytes) .decision ≡ record { refusal = r; status = status-code (status T); runner = me (T .runner); answer = Nothing })
+      go : (r : ℕ) → r ≢ 0 → (settle r T (decode bytes) .tables ≡ T)
+          × (settle r T (decode bytes) .decision ≡ record {
+            refusal = r;
+            status = status-code (status T);
+            runner = me (T .runner);
+            answer = Nothing;
+          })
       go zero h = absurd (h refl)
       go (suc r) h = unfold settle in (refl, refl)

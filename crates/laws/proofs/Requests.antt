@@ -8,7 +8,8 @@ use native.Mathlib.Omega.{arith}
 use borrow.Author.Tests.{eqb-true, eq-eqb, ne-eqb}
 use Rattle.rules.specs.Lists.{if_then_else_, _==_, any, has, keep, count, times-in, missing, pulled, behind, pull}
 use Rattle.rules.specs.Numbers.{Limits, names}
-use Rattle.rules.specs.Tables.{Tables, with-threads, with-held, with-managers, in-state, named, live, of-thread, change, manager, set-entry, new-thread}
+use Rattle.rules.specs.Tables.{Tables, with-threads, with-held, with-managers, in-state, named, live, of-thread, change, manager, set-entry}
+use Rattle.rules.specs.Tables.{new-thread}
 use Rattle.rules.specs.Waking.{Outcome, _handing_, stop}
 use Rattle.rules.specs.Interrupt.{held-for}
 use Rattle.rules.specs.Ending.{ended-set, end}
@@ -18,12 +19,15 @@ use Rattle.rules.specs.Events.{decode}
 use Rattle.rules.specs.Refusals.{refusal}
 use Rattle.rules.specs.Step.{Stepped, serve, act, decided, settle, step}
 use Rattle.rules.specs.TableRules.{table-rules}
+use Rattle.laws.specs.Words.{TrapKind, Program, Tlb, SysBp, Running, Ready, Device, Nothing, Result, Manager, Unset, Set, Gone}
+use Rattle.laws.specs.Words.{Managers, Parent, NoParent, ParentIs, Thread, Held, Call, CreateBrother, CreateSon, SetManager}
+use Rattle.laws.specs.Words.{GetCpuTime, WaitForIo}
 use Rattle.laws.specs.Requests.{Accepted, requester, entry, Made}
-use Rattle.laws.specs.Words.{TrapKind, Program, Tlb, SysBp, Running, Ready, Device, Nothing, Result, Manager, Unset, Set, Gone, Managers, Parent, NoParent, ParentIs, Thread, Held, Call, CreateBrother, CreateSon, SetManager, GetCpuTime, WaitForIo}
+use Rattle.laws.specs.Types.{Places}
+use Rattle.laws.specs.Counts.{ticks-at}
 use Rattle.laws.proofs.Tests.{clash, same?, or-false, not-true}
 use Rattle.laws.proofs.Tally.{none-passes, count-cons, count-any, none-any}
 use Rattle.laws.proofs.Members.{mem-keep, insert-new, insert-old, mem-insert, map-mem}
-use Rattle.laws.specs.Types.{Places}
 use Rattle.laws.proofs.Queues.{times-self}
 use Rattle.laws.proofs.Threads.{live-member, of-only, turned, turned-name, turned-live}
 use Rattle.laws.proofs.Steps.{Called, called, by-dispatch}
@@ -34,7 +38,6 @@ use Rattle.laws.proofs.PlacesKept.{runner-live}
 use Rattle.laws.proofs.Closure.{ended-holds}
 use Rattle.laws.proofs.Ending.{ending-forgets}
 use Rattle.laws.proofs.Sound.{tested-ruled}
-use Rattle.laws.specs.Counts.{ticks-at}
 
 module _ {L : Limits} {T : Tables} {bytes : List ℕ} {c : Call} (A : Accepted L T bytes c) where
   served : step L T bytes ≡ decided 0 (dispatch (serve (requester T) T c))
@@ -46,7 +49,8 @@ module _ {L : Limits} {T : Tables} {bytes : List ℕ} {c : Call} (A : Accepted L
 
   -- where the requester goes on
   pub goes-on : (o : Outcome) → serve (requester T) T c ≡ o → o .tables .runner ≡ T .runner → step L T bytes ≡ decided 0 o
-  goes-on o e r = served ∙ ap (λ x. decided 0 (dispatch x)) e ∙ ap (decided 0) (dispatch-stays o (call .name) (call .slice) (r ∙ call .runner))
+  goes-on o e r =
+      served ∙ ap (λ x. decided 0 (dispatch x)) e ∙ ap (decided 0) (dispatch-stays o (call .name) (call .slice) (r ∙ call .runner))
 
 -- ---- "7 GETCPUTIME (own tick count)"
 
@@ -64,17 +68,21 @@ module _ {A : Type 0} where
   pub kept-all : (p : A → Bool) (l : List A) → count p l ≡ 0 → keep (λ y. not (p y)) l ≡ l
   unfolding keep
   kept-all p [] z = refl
-  kept-all p (y ∷ l) z = rw (none-passes p (y ∷ l) y z (List·Memᴰ·head refl)) (ap (λ r. y ∷ r) (kept-all p l (omega (arith, count-cons p y l))))
+  kept-all p (y ∷ l) z =
+      rw (none-passes p (y ∷ l) y z (List·Memᴰ·head refl)) (ap (λ r. y ∷ r) (kept-all p l (omega (arith, count-cons p y l))))
 
   -- the only one that passes is pulled out, and the others stay
-  pull-only : (p : A → Bool) (l : List A) (x : A) → count p l ≤ 1 → List·Memᴰ x l → p x ≡ true → pull p l ≡ pulled x (keep (λ y. not (p y)) l)
+  pull-only : (p : A → Bool) (l : List A) (x : A) → count p l ≤ 1 → List·Memᴰ x l → p x ≡ true →
+      pull p l ≡ pulled x (keep (λ y. not (p y)) l)
   unfolding pull behind keep
   pull-only p (y ∷ l) x o (List·Memᴰ·head e) h =
       let k : p y ≡ true = ap p (sym e) ∙ h in
       rw (k, e) (ap (λ r. pulled y r) (sym (kept-all p l (rest-none p y l o k))))
   pull-only p (y ∷ l) x o (List·Memᴰ·tail m) h = go (p y) refl (pull-only p l x (rest-once p y l o) m h)
     where
-      go : (b : Bool) → p y ≡ b → pull p l ≡ pulled x (keep (λ v. not (p v)) l) → (if b then pulled y l else behind y (pull p l)) ≡ pulled x (if not b then y ∷ keep (λ v. not (p v)) l else keep (λ v. not (p v)) l)
+      go : (b : Bool) → p y ≡ b → pull p l ≡ pulled x (keep (λ v. not (p v)) l) →
+          (if b then pulled y l else behind y (pull p l)) ≡ pulled x (if not b then y
+          ∷ keep (λ v. not (p v)) l else keep (λ v. not (p v)) l)
       go true k later = absurd (clash h (none-passes p l x (rest-none p y l o k) m))
       go false k later = ap (behind y) later
 
@@ -94,31 +102,49 @@ unfolding serve take-held
 held-word-is-taken L T bytes d R A h m e =
     let few = tested-ruled L T R .fits .waiters d in
     let q = pull-only (held-for d) (T .held) h (omega arith) m (eq-eqb (h .device) d e) in
-    let s = goes-on A (with-held (keep (λ x. not (x .device == d)) (T .held)) T handing Result (h .word)) (ap (take-held (requester T) d T) q) refl in
-    (ap (λ x. x .decision .answer) s, ap (λ x. x .tables) s, ap (λ x. any (λ y. y .device == d) (x .tables .held)) s ∙ none-any _ _ (λ x n. not-true _ (mem-keep (λ y. not (y .device == d)) (T .held) n .1)))
+    let s = goes-on A (with-held (keep (λ x. not (x .device == d)) (T .held)) T handing Result (h .word))
+    (ap (take-held (requester T) d T) q) refl in (
+      ap (λ x. x .decision .answer) s,
+      ap (λ x. x .tables) s,
+      ap (λ x. any (λ y. y .device == d) (x .tables .held)) s
+          ∙ none-any _ _ (λ x n. not-true _ (mem-keep (λ y. not (y .device == d)) (T .held) n .1)),
+    )
 
 -- With no word held for it the requester waits for the device, without an answer, and the words held are as they were.
 pub device-is-waited-for : (L : Limits) (T : Tables) (bytes : List ℕ) (d : ℕ) → table-rules L T ≡ true → Accepted L T bytes (WaitForIo d) →
     any (λ x. x .device == d) (T .held) ≡ false →
-    (u : Thread) × List·Memᴰ u (step L T bytes .tables .threads) × (u .name ≡ requester T) × (u .state ≡ Device d) × (u .answer ≡ Nothing) × (step L T bytes .tables .held ≡ T .held)
+    (u : Thread) × List·Memᴰ u (step L T bytes .tables .threads) × (u .name ≡ requester T) × (u .state ≡ Device d) × (u .answer ≡ Nothing)
+    × (step L T bytes .tables .held ≡ T .held)
 unfolding serve take-held stop change
 device-is-waited-for L T bytes d R A none =
     let C = call A in
     let P = subst (λ r. Places (T .threads) r (T .ready) (T .clock)) (C .runner) (tested-ruled L T R .inv .agree) in
     let one = at-run (C .name) (C .slice) P in
     let t = live-member (T .threads) (C .name) (count-any (named (C .name)) (T .threads) (omega arith)) in
-    let s = served A ∙ ap (λ x. decided 0 (dispatch (take-held (requester T) d T x))) (pull-none (held-for d) (T .held) none) ∙ ap (λ n. decided 0 (dispatch (stop n (Device d) T handing Nothing))) (C .caller) in
+    let s = served A ∙ ap (λ x. decided 0 (dispatch (take-held (requester T) d T x))) (pull-none (held-for d) (T .held) none)
+    ∙ ap (λ n. decided 0 (dispatch (stop n (Device d) T handing Nothing))) (C .caller) in
     let r = waiting (C .name) (t .0) (t .1) (t .2) (one .1) in
     let e : r .0 .name ≡ requester T = _∙_ {a = r .0 .name} (r .2) (sym (C .caller)) in
-    subst (λ (x : Stepped). (u : Thread) × List·Memᴰ u (x .tables .threads) × (u .name ≡ requester T) × (u .state ≡ Device d) × (u .answer ≡ Nothing) × (x .tables .held ≡ T .held)) (sym s)
+    subst (λ (x : Stepped). (u : Thread) × List·Memᴰ u (x .tables .threads) × (u .name ≡ requester T) × (u .state ≡ Device d)
+    × (u .answer ≡ Nothing) × (x .tables .held ≡ T .held)) (sym s)
     (r .0, r .1, e, r .3, r .4, r .5)
   where
     waiting : (n : ℕ) (t : Thread) → List·Memᴰ t (T .threads) → n ≡ t .name → times-in (T .ready) n ≡ 0 →
-        (u : Thread) × List·Memᴰ u (dispatch (stop n (Device d) T handing Nothing) .tables .threads) × (u .name ≡ n) × (u .state ≡ Device d) × (u .answer ≡ Nothing) × (dispatch (stop n (Device d) T handing Nothing) .tables .held ≡ T .held)
+        (u : Thread) × List·Memᴰ u (dispatch (stop n (Device d) T handing Nothing) .tables .threads) × (u .name ≡ n) × (u .state ≡ Device d)
+        × (u .answer ≡ Nothing) × (dispatch (stop n (Device d) T handing Nothing) .tables .held ≡ T .held)
     waiting n t m e z =
-        by-dispatch (λ (U : Tables). (u : Thread) × List·Memᴰ u (U .threads) × (u .name ≡ n) × (u .state ≡ Device d) × (u .answer ≡ Nothing) × (U .held ≡ T .held)) (stop n (Device d) T handing Nothing)
+        by-dispatch (λ (U : Tables). (u : Thread) × List·Memᴰ u (U .threads) × (u .name ≡ n) × (u .state ≡ Device d) × (u .answer ≡ Nothing)
+        × (U .held ≡ T .held)) (stop n (Device d) T handing Nothing)
         (λ _ _ _. (w, there, sym e, refl, refl, refl)) (λ _ _. (w, there, sym e, refl, refl, refl))
-        (λ x q _ i. (w, subst (λ (v : Thread). List·Memᴰ v (map (turned (named x) (in-state Running Nothing)) stopped)) (other x q i) (map-mem (turned (named x) (in-state Running Nothing)) stopped there), sym e, refl, refl, refl))
+        (λ x q _ i. (
+          w,
+          subst (λ (v : Thread). List·Memᴰ v (map (turned (named x) (in-state Running Nothing)) stopped)) (other x q i)
+              (map-mem (turned (named x) (in-state Running Nothing)) stopped there),
+          sym e,
+          refl,
+          refl,
+          refl,
+        ))
       where
         w : Thread
         w = in-state (Device d) Nothing t
@@ -127,10 +153,13 @@ device-is-waited-for L T bytes d R A none =
         stopped = map (turned (named n) (in-state (Device d) Nothing)) (T .threads)
 
         there : List·Memᴰ w stopped
-        there = subst (λ (v : Thread). List·Memᴰ v stopped) (rw (eq-eqb n (t .name) e)) (map-mem (turned (named n) (in-state (Device d) Nothing)) (T .threads) m)
+        there = subst (λ (v : Thread). List·Memᴰ v stopped) (rw (eq-eqb n (t .name) e))
+            (map-mem (turned (named n) (in-state (Device d) Nothing)) (T .threads) m)
 
         other : (x : ℕ) (q : List ℕ) → T .ready ≡ x ∷ q → turned (named x) (in-state Running Nothing) w ≡ w
-        other x q i = rw (ne-eqb x (t .name) (λ k. absurd (omega (arith, times-self n q, sym (ap (λ l. times-in l n) (i ∙ ap (λ y. y ∷ q) (k ∙ sym e))) ∙ z))))
+        other x q i =
+            rw (ne-eqb x (t .name)
+            (λ k. absurd (omega (arith, times-self n q, sym (ap (λ l. times-in l n) (i ∙ ap (λ y. y ∷ q) (k ∙ sym e))) ∙ z))))
 
 -- ---- "4, 5, 6 set the manager for kinds 0, 1, 2 (result 0; if that entry is set or gone, the requester ends)"
 
@@ -139,19 +168,22 @@ ended-is-dead : (n : ℕ) (T : Tables) → live n (end n T) ≡ false
 ended-is-dead n T = none-any (named n) (end n T .threads) (λ u m. go u m (named n u) refl)
   where
     go : (u : Thread) → List·Memᴰ u (end n T .threads) → (b : Bool) → named n u ≡ b → named n u ≡ false
-    go u m true e = absurd (clash (ended-holds (T .threads) n) (ap (λ (x : ℕ). has x (ended-set (T .threads) n)) (eqb-true n (u .name) e) ∙ ending-forgets n T .threads u m))
+    go u m true e = absurd (clash (ended-holds (T .threads) n) (ap (λ (x : ℕ). has x (ended-set (T .threads) n)) (eqb-true n (u .name) e)
+        ∙ ending-forgets n T .threads u m))
     go u m false e = e
 
 -- dispatch brings nobody
 dispatch-live : (n : ℕ) (o : Outcome) → live n (dispatch o .tables) ≡ live n (o .tables)
 unfolding change
-dispatch-live n o = by-dispatch (λ (U : Tables). live n U ≡ live n (o .tables)) o (λ _ _ _. refl) (λ _ _. refl) (λ x q _ _. turned-live (named x) (in-state Running Nothing) (λ t. refl) n (o .tables .threads))
+dispatch-live n o = by-dispatch (λ (U : Tables). live n U ≡ live n (o .tables)) o (λ _ _ _. refl) (λ _ _. refl)
+    (λ x q _ _. turned-live (named x) (in-state Running Nothing) (λ t. refl) n (o .tables .threads))
 
 -- If the entry is set or gone the requester ends: nobody has its name after the event.
 pub second-manager-ends : (L : Limits) (T : Tables) (bytes : List ℕ) (k : TrapKind) (x : ℕ) → Accepted L T bytes (SetManager k x) →
     entry k (requester T) (T .threads) ≢ Unset → live (requester T) (step L T bytes .tables) ≡ false
 unfolding serve set-over
-second-manager-ends L T bytes k x A d = ap (λ s. live (requester T) (s .tables)) (served A) ∙ dispatch-live (requester T) (serve (requester T) T (SetManager k x)) ∙ go (entry k (requester T) (T .threads)) d
+second-manager-ends L T bytes k x A d = ap (λ s. live (requester T) (s .tables)) (served A)
+    ∙ dispatch-live (requester T) (serve (requester T) T (SetManager k x)) ∙ go (entry k (requester T) (T .threads)) d
   where
     go : (g : Manager) → g ≢ Unset → live (requester T) (set-over g (requester T) k x T .tables) ≡ false
     go Unset h = absurd (h refl)
@@ -166,7 +198,8 @@ module _ {B : Type 0} (d : B) (n : ℕ) (g : Thread → Thread) (same : (t : Thr
   of-changed f (t ∷ ts) = rw (turned-name (named n) g same t) (go (named n t) (of-changed f ts))
     where
       go : (b : Bool) → of-thread d f n (map (turned (named n) g) ts) ≡ of-thread d (λ u. f (g u)) n ts →
-          (if b then f (if b then g t else t) else of-thread d f n (map (turned (named n) g) ts)) ≡ (if b then f (g t) else of-thread d (λ u. f (g u)) n ts)
+          (if b then f (if b then g t else t) else of-thread d f n (map (turned (named n) g) ts))
+          ≡ (if b then f (g t) else of-thread d (λ u. f (g u)) n ts)
       go true later = refl
       go false later = later
 
@@ -190,7 +223,8 @@ module _ {B : Type 0} (d : B) (n : ℕ) (g : Thread → Thread) (same : (t : Thr
   of-const c [] l = absurd (false≢true l)
   of-const c (t ∷ ts) l = go (named n t) l (of-const c ts)
     where
-      go : (b : Bool) → (b || any (named n) ts) ≡ true → (any (named n) ts ≡ true → of-thread d (λ u. c) n ts ≡ c) → (if b then c else of-thread d (λ u. c) n ts) ≡ c
+      go : (b : Bool) → (b || any (named n) ts) ≡ true → (any (named n) ts ≡ true → of-thread d (λ u. c) n ts ≡ c) →
+          (if b then c else of-thread d (λ u. c) n ts) ≡ c
       go true i later = refl
       go false i later = later i
 
@@ -231,13 +265,15 @@ module _ (k : TrapKind) (x m : ℕ) (T : Tables) where
   unfolding g
   put-keeps j n (inl d) = of-unchanged Unset m g (λ t. refl) (λ t. manager j (t .managers)) n d (T .threads)
   put-keeps j n (inr d) = ⊎-elim
-      (λ i. rw (i .0) (of-changed Unset m g (λ t. refl) (λ t. manager j (t .managers)) (T .threads) ∙ of-same Unset m g (λ t. refl) _ _ (λ t. entry-other j k (Set x) (t .managers) d) (T .threads)))
+      (λ i. rw (i .0) (of-changed Unset m g (λ t. refl) (λ t. manager j (t .managers)) (T .threads)
+      ∙ of-same Unset m g (λ t. refl) _ _ (λ t. entry-other j k (Set x) (t .managers) d) (T .threads)))
       (λ i. of-unchanged Unset m g (λ t. refl) (λ t. manager j (t .managers)) n (i .0) (T .threads))
       (same? n m)
 
 -- If the entry is unset it is set to the name, and the requester is handed 0. Every other entry, and everything but the threads, is as
 -- it was.
-pub first-manager-is-set : (L : Limits) (T : Tables) (bytes : List ℕ) (k : TrapKind) (x : ℕ) → table-rules L T ≡ true → Accepted L T bytes (SetManager k x) →
+pub first-manager-is-set : (L : Limits) (T : Tables) (bytes : List ℕ) (k : TrapKind) (x : ℕ) → table-rules L T ≡ true →
+    Accepted L T bytes (SetManager k x) →
     entry k (requester T) (T .threads) ≡ Unset →
     (step L T bytes .decision .answer ≡ Result 0)
     × (entry k (requester T) (step L T bytes .tables .threads) ≡ Set x)
@@ -256,7 +292,8 @@ first-manager-is-set L T bytes k x R A e =
 
 -- ---- "1 CREATEBROTHER and 2 CREATESON (result: the name; no managers, count 0)"
 
-pub made : (L : Limits) (T : Tables) (p : Parent) → L .threads < names → table-rules L T ≡ true → Made p T (create p T .tables) (create p T .answer)
+pub made : (L : Limits) (T : Tables) (p : Parent) → L .threads < names → table-rules L T ≡ true →
+    Made p T (create p T .tables) (create p T .answer)
 unfolding create
 made L T p l R =
     let I = tested-ruled L T R .inv in
@@ -293,8 +330,10 @@ module _ (L : Limits) (T : Tables) (bytes : List ℕ) (l : L .threads < names) (
       subst (λ (x : Stepped). Made (r .parent) T (x .tables) (x .decision .answer)) (sym s) (made L T (r .parent) l R)
 
   -- A son has its requester as parent.
-  pub son-has-the-requester : Accepted L T bytes CreateSon → Made (ParentIs (requester T)) T (step L T bytes .tables) (step L T bytes .decision .answer)
+  pub son-has-the-requester : Accepted L T bytes CreateSon →
+      Made (ParentIs (requester T)) T (step L T bytes .tables) (step L T bytes .decision .answer)
   unfolding serve
   son-has-the-requester A =
       let s = goes-on A (create (ParentIs (requester T)) T) refl (unfold create in refl) in
-      subst (λ (x : Stepped). Made (ParentIs (requester T)) T (x .tables) (x .decision .answer)) (sym s) (made L T (ParentIs (requester T)) l R)
+      subst (λ (x : Stepped). Made (ParentIs (requester T)) T (x .tables) (x .decision .answer)) (sym s)
+      (made L T (ParentIs (requester T)) l R)

@@ -10,16 +10,17 @@ use lib.ListN.{length, length-map}
 use borrow.Author.Tests.{eqb-true, eqb-false}
 use Rattle.rules.specs.Lists.{_==_, one-if, any, keep, count, insert, times-in}
 use Rattle.rules.specs.Numbers.{Limits, devices}
-use Rattle.laws.specs.Words.{State, Running, Ready, Receiving, Clock, Device, Trapped, Thread, Message, Held, Runner, NoRunner, Runs}
 use Rattle.rules.specs.Tables.{Tables, named, live, runs, runs-as}
 use Rattle.rules.specs.States.{is-running, is-ready, on-clock, awaits, trapped-on}
 use Rattle.rules.specs.Waking.{is-ordinary, blocks-used, notice-of}
 use Rattle.rules.specs.Interrupt.{held-for}
+use Rattle.laws.specs.Words.{State, Running, Ready, Receiving, Clock, Device, Trapped, Thread, Message, Held, Runner, NoRunner, Runs}
+use Rattle.laws.specs.Types.{here, Inv, Good, Fits}
 use Rattle.laws.proofs.Tests.{same?, same-turned, and-left, and-right, not-true}
-use Rattle.laws.proofs.Tally.{count-cons, count-map, count-add, count-add-le, count-same, count-keep, count-strict, count-insert, length-count, any-count, count-any, any-member, member-any, not-any, none-any, none-count, length-keep}
+use Rattle.laws.proofs.Tally.{count-cons, count-map, count-add, count-add-le, count-same, count-keep, count-strict, count-insert}
+use Rattle.laws.proofs.Tally.{length-count, any-count, count-any, any-member, member-any, not-any, none-any, none-count, length-keep}
 use Rattle.laws.proofs.Members.{mem-insert}
 use Rattle.laws.proofs.Ordered.{up-insert, up-few}
-use Rattle.laws.specs.Types.{here, Inv, Good, Fits}
 use Rattle.laws.proofs.Queues.{no-longer}
 use Rattle.laws.proofs.Threads.{times-kept}
 use Rattle.laws.proofs.Places.{runs-self, asleep}
@@ -43,9 +44,16 @@ one-kind false = omega arith
 -- ---- queues
 
 -- a queue that has each name as often as there are threads of it that pass is no longer than those that pass
-passed-length : (p : Thread → Bool) (ts : List Thread) (q : List ℕ) → ((n : ℕ) → count (λ t. named n t && p t) ts ≡ times-in q n) → length q ≤ count p ts
+passed-length : (p : Thread → Bool) (ts : List Thread) (q : List ℕ) → ((n : ℕ) → count (λ t. named n t && p t) ts ≡ times-in q n) →
+    length q ≤ count p ts
 passed-length p ts q h =
-    omega (arith, no-longer q (map (λ t. t .name) (keep p ts)) (λ n. omega (arith, h n, times-kept p n ts)), length-map (keep p ts) (λ t. t .name), length-keep p ts)
+    omega (
+      arith,
+      no-longer q (map (λ t. t .name) (keep p ts)) (λ n. omega (arith, h n, times-kept p n ts)),
+      length-map (keep p ts)
+          (λ t. t .name),
+      length-keep p ts,
+    )
 
 -- a thread stands in one place at most
 one-place : (s : State) → one-if (is-ready s) + one-if (on-clock s) + one-if (is-running s) ≤ 1
@@ -57,7 +65,8 @@ one-place Clock = omega arith
 one-place (Device d) = omega arith
 one-place (Trapped k) = omega arith
 
-apart-all : (ts : List Thread) → count (λ t. is-ready (t .state)) ts + count (λ t. on-clock (t .state)) ts + count (λ t. is-running (t .state)) ts ≤ length ts
+apart-all : (ts : List Thread) →
+    count (λ t. is-ready (t .state)) ts + count (λ t. on-clock (t .state)) ts + count (λ t. is-running (t .state)) ts ≤ length ts
 unfolding count
 apart-all [] = omega arith
 apart-all (t ∷ ts) = omega (arith, apart-all ts, one-place (t .state))
@@ -76,21 +85,24 @@ module _ (L : Limits) (T : Tables) (inv : Inv L T) where
   unfolding here
   runner-thread n s e =
       any-member (λ t. named n t && is-running (t .state)) (T .threads)
-      (count-any (λ t. named n t && is-running (t .state)) (T .threads) (omega (arith, inv .agree .run n, ap (λ (r : Runner). one-if (runs-as n r)) e, ap one-if (runs-self n s))))
+      (count-any (λ t. named n t && is-running (t .state)) (T .threads)
+      (omega (arith, inv .agree .run n, ap (λ (r : Runner). one-if (runs-as n r)) e, ap one-if (runs-self n s))))
 
   runner-counts : (r : Runner) → T .runner ≡ r → one-if (runs r) ≤ count (λ t. is-running (t .state)) (T .threads)
   unfolding runs
   runner-counts NoRunner e = omega arith
   runner-counts (Runs n s) e =
       let x = runner-thread n s e in
-      any-count (λ t. is-running (t .state)) (T .threads) (member-any (λ t. is-running (t .state)) (T .threads) (x .0) (x .1) (and-right (named n (x .0)) _ (x .2)))
+      any-count (λ t. is-running (t .state)) (T .threads)
+      (member-any (λ t. is-running (t .state)) (T .threads) (x .0) (x .1) (and-right (named n (x .0)) _ (x .2)))
 
   -- The ready, the clock waiters and the runner are threads, each once.
   pub queues-room : length (T .ready) + length (T .clock) + one-if (runs (T .runner)) ≤ length (T .threads)
   queues-room = omega (arith, ready-length, clock-length, runner-counts (T .runner) refl, apart-all (T .threads))
 
   -- Threads that are not ready have room in the ready queue, all of them together.
-  pub released-room : (p : Thread → Bool) → ((t : Thread) → p t ≡ true → is-ready (t .state) ≡ false) → length (T .ready) + count p (T .threads) ≤ length (T .threads)
+  pub released-room : (p : Thread → Bool) → ((t : Thread) → p t ≡ true → is-ready (t .state) ≡ false) →
+      length (T .ready) + count p (T .threads) ≤ length (T .threads)
   released-room p h =
       omega (
         arith,
@@ -102,7 +114,12 @@ module _ (L : Limits) (T : Tables) (inv : Inv L T) where
   -- A thread that is not ready has room in the ready queue.
   pub ready-room : (t : Thread) → List·Memᴰ t (T .threads) → is-ready (t .state) ≡ false → length (T .ready) < length (T .threads)
   ready-room t m e =
-      omega (arith, ready-length, count-strict (λ u. is-ready (u .state)) (λ u. true) (T .threads) (λ u k. refl) t m e refl, length-count (T .threads))
+      omega (
+        arith,
+        ready-length,
+        count-strict (λ u. is-ready (u .state)) (λ u. true) (T .threads) (λ u k. refl) t m e refl,
+        length-count (T .threads),
+      )
 
   -- The runner has room in the clock queue.
   pub clock-room : (n s : ℕ) → T .runner ≡ Runs n s → length (T .clock) < length (T .threads)
@@ -149,12 +166,14 @@ module _ (L : Limits) (T : Tables) (fits : Fits L T) where
       go : (m : Message) → List·Memᴰ m (T .messages) → (b : Bool) → notice-of (t .name) m ≡ b → b ≡ false
       go m k true e =
           let w : awaits (m .to) t ≡ true =
-          fits .messages m k .notice (not-true (is-ordinary (m .kind)) (and-left (is-notice m) _ e)) t i (sym (eqb-true _ _ (and-right (is-notice m) _ e))) in
+          fits .messages m k .notice (not-true (is-ordinary (m .kind)) (and-left (is-notice m) _ e)) t i
+          (sym (eqb-true _ _ (and-right (is-notice m) _ e))) in
           absurd (false≢true (sym (asleep _ _ _ (t .state) w .0) ∙ h))
       go m k false e = refl
 
 -- who has no notice under way leaves room for one
-notices-room : (L : Limits) (T : Tables) → Fits L T → (n : ℕ) → live n T ≡ true → any (notice-of n) (T .messages) ≡ false → count is-notice (T .messages) < length (T .threads)
+notices-room : (L : Limits) (T : Tables) → Fits L T → (n : ℕ) → live n T ≡ true → any (notice-of n) (T .messages) ≡ false →
+    count is-notice (T .messages) < length (T .threads)
 notices-room L T fits n l none =
     omega (
       arith,
@@ -177,7 +196,12 @@ notices-room L T fits n l none =
         let s = sent k in
         let t = count-map (λ m. k == m) (λ t. t .name) (T .threads) in
         ⊎-elim
-        (λ e. omega (arith, ap one-if (e .1), rw (sym (e .0)) at (none-count (notice-of n) (T .messages) none), rw (sym (e .0)) at (any-count (named n) (T .threads) l)))
+        (λ e. omega (
+          arith,
+          ap one-if (e .1),
+          rw (sym (e .0)) at (none-count (notice-of n) (T .messages) none),
+          rw (sym (e .0)) at (any-count (named n) (T .threads) l),
+        ))
         (λ e. ⊎-elim
         (λ z. omega (arith, ap one-if (e .1), z .0))
         (λ z. omega (arith, ap one-if (e .1), fits .notices k, sender-lives L T fits k (omega (arith, z .0))))
@@ -206,14 +230,20 @@ module _ (L : Limits) (T : Tables) (inv : Inv L T) (fits : Fits L T) (n s : ℕ)
 -- ---- held words
 
 -- A word of a device for which none is held has room.
-pub held-room : (L : Limits) (T : Tables) → Fits L T → (d : ℕ) → d < devices → any (held-for d) (T .held) ≡ false → length (T .held) < devices
+pub held-room : (L : Limits) (T : Tables) → Fits L T → (d : ℕ) → d < devices → any (held-for d) (T .held) ≡ false →
+    length (T .held) < devices
 held-room L T fits d l none =
     omega (
       arith,
       length-insert (λ h. ltb (h .device) d) new (T .held),
       up-few (λ h. h .device) 0 devices (insert (λ h. ltb (h .device) d) new (T .held)) (omega arith)
-          (up-insert (λ h. h .device) new (T .held) (λ h m. eqb-false (h .device) d (not-any (held-for d) (T .held) h none m)) (fits .held-order))
-          (λ h m. (omega arith, ⊎-elim (λ e. omega (arith, ap (λ (k : Held). k .device) e)) (λ i. fits .held h i .0) (mem-insert (λ k. ltb (k .device) d) new (T .held) m))),
+          (up-insert (λ h. h .device) new (T .held) (λ h m. eqb-false (h .device) d (not-any (held-for d) (T .held) h none m))
+          (fits .held-order))
+          (λ h m. (
+            omega arith,
+            ⊎-elim (λ e. omega (arith, ap (λ (k : Held). k .device) e)) (λ i. fits .held h i .0)
+                (mem-insert (λ k. ltb (k .device) d) new (T .held) m),
+          )),
     )
   where
     new : Held

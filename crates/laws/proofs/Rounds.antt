@@ -9,9 +9,9 @@ use native.Mathlib.Nat.{add-zero, add-suc}
 use lib.ListN.{length, length-append, length-map}
 use borrow.Author.Tests.{eq-eqb, ne-eqb}
 use Rattle.rules.specs.Lists.{one-if, any, has, keep, count, times}
-use Rattle.laws.specs.Words.{Thread}
 use Rattle.rules.specs.Tables.{named}
 use Rattle.rules.specs.Ending.{depends, grow, ended-set}
+use Rattle.laws.specs.Words.{Thread}
 use Rattle.laws.proofs.Tests.{and-right, not-true, same?}
 use Rattle.laws.proofs.Tally.{count-length, length-count, any-count, only-one, length-keep}
 use Rattle.laws.proofs.Members.{kept-has, has-kept, has-left, has-right, has-split}
@@ -33,7 +33,8 @@ module _ {A : Type 0} where
   times-still (suc k) f x e = ap (times k f) e ∙ times-still k f x e
 
   -- counts add up where the tests do on the members
-  pub count-add-in : (p q r : A → Bool) (xs : List A) → ((x : A) → List·Memᴰ x xs → one-if (p x) ≡ one-if (q x) + one-if (r x)) → count p xs ≡ count q xs + count r xs
+  pub count-add-in : (p q r : A → Bool) (xs : List A) → ((x : A) → List·Memᴰ x xs → one-if (p x) ≡ one-if (q x) + one-if (r x)) →
+      count p xs ≡ count q xs + count r xs
   unfolding count
   count-add-in p q r [] h = refl
   count-add-in p q r (x ∷ xs) h = omega (arith, h x (List·Memᴰ·head refl), count-add-in p q r xs (λ y m. h y (List·Memᴰ·tail m)))
@@ -41,7 +42,8 @@ module _ {A : Type 0} where
 -- ---- one round
 
 -- g: in the grown set, s: in the set, j: joins it
-exact-bits : (g s j : Bool) → (s ≡ true → g ≡ true) → (j ≡ true → g ≡ true) → (j ≡ true → s ≡ false) → (g ≡ true → (s ≡ true) ⊎ (j ≡ true)) → one-if (not s) ≡ one-if (not g) + one-if j
+exact-bits : (g s j : Bool) → (s ≡ true → g ≡ true) → (j ≡ true → g ≡ true) → (j ≡ true → s ≡ false) →
+    (g ≡ true → (s ≡ true) ⊎ (j ≡ true)) → one-if (not s) ≡ one-if (not g) + one-if j
 exact-bits true true true a b c d = absurd (true≢false (c refl))
 exact-bits true true false a b c d = refl
 exact-bits true false true a b c d = refl
@@ -54,7 +56,12 @@ module _ (ts : List Thread) (set : List ℕ) where
   -- A round makes the set longer by those that join it.
   pub grow-length : length (grow ts set) ≡ length set + count (λ t. depends set t && not (has (t .name) set)) ts
   unfolding grow
-  grow-length = omega (arith, length-append set (map (λ t. t .name) (keep (joins set) ts)), length-map (keep (joins set) ts) (λ t. t .name), length-keep (joins set) ts)
+  grow-length = omega (
+    arith,
+    length-append set (map (λ t. t .name) (keep (joins set) ts)),
+    length-map (keep (joins set) ts) (λ t. t .name),
+    length-keep (joins set) ts,
+  )
 
   -- It does not make it shorter.
   pub grow-longer : length set ≤ length (grow ts set)
@@ -83,15 +90,18 @@ module _ (ts : List Thread) (set : List ℕ) where
   -- With distinct names, as many leave the outside as join.
   pub round-exact : ((n : ℕ) → count (named n) ts ≤ 1) → length (grow ts set) + outside ts (grow ts set) ≡ length set + outside ts set
   unfolding grow
-  round-exact once = omega (arith, grow-length, count-add-in (λ t. not (has (t .name) set)) (λ t. not (has (t .name) (grow ts set))) (joins set) ts each)
+  round-exact once =
+      omega (arith, grow-length, count-add-in (λ t. not (has (t .name) set)) (λ t. not (has (t .name) (grow ts set))) (joins set) ts each)
     where
       joined : (t : Thread) → List·Memᴰ t ts → has (t .name) (map (λ u. u .name) (keep (joins set) ts)) ≡ true → joins set t ≡ true
       joined t m h =
           let s = has-kept (λ u. u .name) (joins set) ts (t .name) h in
-          let e = only-one (named (t .name)) ts (once (t .name)) t (s .0) m (s .1) (eq-eqb (t .name) (t .name) refl) (eq-eqb (t .name) (s .0 .name) (s .3)) in
+          let e = only-one (named (t .name)) ts (once (t .name)) t (s .0) m (s .1) (eq-eqb (t .name) (t .name) refl)
+          (eq-eqb (t .name) (s .0 .name) (s .3)) in
           ap (joins set) e ∙ s .2
 
-      each : (t : Thread) → List·Memᴰ t ts → one-if (not (has (t .name) set)) ≡ one-if (not (has (t .name) (grow ts set))) + one-if (joins set t)
+      each : (t : Thread) → List·Memᴰ t ts → one-if (not (has (t .name) set)) ≡ one-if (not (has (t .name) (grow ts set)))
+          + one-if (joins set t)
       each t m =
           exact-bits _ _ _ (has-left (t .name) set _)
           (λ e. has-right (t .name) set _ (kept-has (λ u. u .name) (joins set) ts m e))
@@ -105,13 +115,15 @@ module _ (ts : List Thread) (set : List ℕ) where
   rounds-enough k h =
       let o = outside ts set in
       let e : k ≡ (k - o) + o = omega arith in
-      ap (λ (n : ℕ). times n (grow ts) set) e ∙ times-add (k - o) o (grow ts) set ∙ times-still (k - o) (grow ts) (times o (grow ts) set) (rests ts (times o (grow ts) set) (closes ts o set (omega arith)))
+      ap (λ (n : ℕ). times n (grow ts) set) e ∙ times-add (k - o) o (grow ts) set
+      ∙ times-still (k - o) (grow ts) (times o (grow ts) set) (rests ts (times o (grow ts) set) (closes ts o set (omega arith)))
 
 -- ---- the laws of the code that goes on until a round adds nobody
 
 module _ (ts : List Thread) (set : List ℕ) where
   -- A round that makes the set longer may be followed by the rest of the work on the longer set.
-  pub one-round-more : length (grow ts set) ≢ length set → times (outside ts (grow ts set)) (grow ts) (grow ts set) ≡ times (outside ts set) (grow ts) set
+  pub one-round-more : length (grow ts set) ≢ length set →
+      times (outside ts (grow ts set)) (grow ts) (grow ts set) ≡ times (outside ts set) (grow ts) set
   unfolding times
   one-round-more d = go (outside ts set) (outside-falls ts set d)
     where
@@ -136,7 +148,9 @@ module _ (ts : List Thread) (n : ℕ) where
       omega (
         arith,
         length-count ts,
-        count-add-in (λ t. true) (λ t. not (has (t .name) (n ∷ []))) (named n) ts (λ t m. ⊎-elim (λ e. rw (e .1, eq-eqb n (t .name) (sym (e .0)))) (λ e. rw (e .1, ne-eqb n (t .name) (λ q. e .0 (sym q)))) (same? (t .name) n)),
+        count-add-in (λ t. true) (λ t. not (has (t .name) (n ∷ []))) (named n) ts
+            (λ t m. ⊎-elim (λ e. rw (e .1, eq-eqb n (t .name) (sym (e .0)))) (λ e. rw (e .1, ne-eqb n (t .name) (λ q. e .0 (sym q))))
+            (same? (t .name) n)),
       )
 
   -- A live thread and all outside of it are no more than there are threads.

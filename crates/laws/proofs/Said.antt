@@ -11,10 +11,11 @@ use Rattle.rules.specs.Numbers.{wrap}
 use Rattle.rules.specs.Tags.{facts-in, tag-facts, rule-in, argument-rule, meets}
 use Rattle.rules.specs.Pick.{pick}
 use Rattle.rules.specs.Events.{asked-in, request, trap-of, interrupt-of, meaning, field-of, decode}
+use Rattle.laws.specs.Words.{Anybody, Only, Program, Tlb, SysBp, Oneself, Named, Send, Receive, CreateBrother, CreateSon, Terminate}
+use Rattle.laws.specs.Words.{SetManager, GetCpuTime, WaitForClock, WaitForIo, Trap, Malformed, ByRunner, Tick, Interrupt, Picked}
 use Rattle.laws.specs.Said.{asking, interrupting}
 use Rattle.laws.specs.Pick.{Foremost}
 use Rattle.laws.proofs.Pick.{pick-takes}
-use Rattle.laws.specs.Words.{Anybody, Only, Program, Tlb, SysBp, Oneself, Named, Send, Receive, CreateBrother, CreateSon, Terminate, SetManager, GetCpuTime, WaitForClock, WaitForIo, Trap, Malformed, ByRunner, Tick, Interrupt, Picked}
 use Rattle.laws.proofs.Tally.{all-both}
 use Rattle.laws.proofs.Bytes.{four-are-bytes, four-back, four-number}
 
@@ -39,7 +40,12 @@ pub naming-requests-say : (n : ℕ) → n < 256 →
     × (decode (asking 5 n) ≡ ByRunner (SetManager Tlb n))
     × (decode (asking 6 n) ≡ ByRunner (SetManager SysBp n))
 unfolding decode all field-of tag-facts facts-in meaning argument-rule rule-in meets asked-in request
-naming-requests-say n h = (λ d. rw (lt-ltb n 256 h, one-back n, ne-eqb n 255 d), rw (lt-ltb n 256 h, one-back n), rw (lt-ltb n 256 h, one-back n), rw (lt-ltb n 256 h, one-back n))
+naming-requests-say n h = (
+  λ d. rw (lt-ltb n 256 h, one-back n, ne-eqb n 255 d),
+  rw (lt-ltb n 256 h, one-back n),
+  rw (lt-ltb n 256 h, one-back n),
+  rw (lt-ltb n 256 h, one-back n),
+)
 
 -- "9 WAITFORIO", of "devices 0 to 47".
 pub device-request-says : (d : ℕ) → d < 48 → decode (asking 9 d) ≡ ByRunner (WaitForIo d)
@@ -52,7 +58,8 @@ unfolding decode all field-of tag-facts facts-in meaning
 send-says n w h k = rw (lt-ltb n 256 h, four-are-bytes w, four-back w k)
 
 -- "17 receive (name 1)", "255 .. anybody"
-pub receive-says : (decode (17 ∷ 0 ∷ 1 ∷ 255 ∷ []) ≡ ByRunner (Receive Anybody)) × ((n : ℕ) → n < 255 → decode (17 ∷ 0 ∷ 1 ∷ n ∷ []) ≡ ByRunner (Receive (Only n)))
+pub receive-says : (decode (17 ∷ 0 ∷ 1 ∷ 255 ∷ []) ≡ ByRunner (Receive Anybody))
+    × ((n : ℕ) → n < 255 → decode (17 ∷ 0 ∷ 1 ∷ n ∷ []) ≡ ByRunner (Receive (Only n)))
 unfolding decode all field-of tag-facts facts-in meaning
 receive-says = (refl, λ n h. rw (lt-ltb n 256 (omega arith), ne-eqb n 255 (λ e. omega (arith, e))))
 
@@ -75,10 +82,11 @@ eight-back p h = four-number 0 (p / wrap) (four-bytes p ++ []) ∙ four-number (
 
 are-bytes : (p w : ℕ) → all is-byte (interrupting p w) ≡ true
 unfolding all
-are-bytes p w = all-both is-byte (four-bytes (p / wrap)) (four-bytes p ++ four-bytes w) (four-are-bytes (p / wrap)) (all-both is-byte (four-bytes p) (four-bytes w) (four-are-bytes p) (four-are-bytes w))
+are-bytes p w = all-both is-byte (four-bytes (p / wrap)) (four-bytes p ++ four-bytes w) (four-are-bytes (p / wrap))
+    (all-both is-byte (four-bytes p) (four-bytes w) (four-are-bytes p) (four-are-bytes w))
 
--- With a device pending and none over 47, the event is an interrupt of the foremost that is: "the lowest pending number from 0 to 31, then the
--- lowest transmitter, then the lowest receiver".
+-- With a device pending and none over 47, the event is an interrupt of the foremost that is: "the lowest pending number from 0 to 31,
+-- then the lowest transmitter, then the lowest receiver".
 pub interrupt-says : (p w : ℕ) → 0 < p → p < 2 ^ 48 → w < wrap →
     (d : ℕ) × (decode (interrupting p w) ≡ Interrupt d w) × (d < 48) × (p / 2 ^ d % 2 ≡ 1) × Foremost p d
 unfolding decode field-of tag-facts facts-in meaning interrupt-of

@@ -11,9 +11,8 @@ use borrow.Author.Tests.{eqb-true, eq-eqb, ne-eqb}
 use Rattle.rules.specs.Lists.{if_then_else_, _==_, one-if, any, has, keep, count, insert, Pulled, missing, pulled, pull}
 use Rattle.rules.specs.Numbers.{Limits, names, beat-ticks}
 use Rattle.rules.specs.Words.{by-manager, by-runner}
-use Rattle.laws.specs.Sent.{owes, sends, sent-of, delivered-of, dropped-by, dropped-of, open-of}
-use Rattle.laws.specs.Words.{Wanted, Anybody, Only, TrapKind, State, Running, Ready, Receiving, Clock, Device, Trapped, Answer, Nothing, FromMessage, FromNotice, SenderGone, Result, Manager, Unset, Set, Gone, Parent, Thread, Message, Held, Runner, NoRunner, Runs, Oneself, Named, Send, Receive, CreateBrother, CreateSon, Terminate, SetManager, GetCpuTime, WaitForClock, WaitForIo, Trap, Event, Malformed, ByRunner, Tick, Interrupt, Decision}
-use Rattle.rules.specs.Tables.{Tables, with-time, with-clock, in-state, with-ticks, named, with-messages, with-managers, of-thread, change, set-entry, new-thread, runs-as, me, start}
+use Rattle.rules.specs.Tables.{Tables, with-time, with-clock, in-state, with-ticks, named, with-messages, with-managers, of-thread, change}
+use Rattle.rules.specs.Tables.{set-entry, new-thread, runs-as, me, start}
 use Rattle.rules.specs.States.{is-ready, on-clock, receives, at-device, waits-for, trapped-on, awaits}
 use Rattle.rules.specs.Waking.{Outcome, wake-those, notice-of, handed, accepts, queue, deliver, stop}
 use Rattle.rules.specs.Ending.{ended-set, without-managers, remove, misses, told-gone, release, end}
@@ -29,20 +28,27 @@ use Rattle.rules.specs.Step.{serve, act, Stepped, decided, settle, step}
 use Rattle.rules.specs.Runs.{Input, run}
 use Rattle.rules.specs.TableRules.{table-rules}
 use Rattle.rules.specs.Tick.{one-more, charge, beat, rotate, tick}
+use Rattle.laws.specs.Words.{Wanted, Anybody, Only, TrapKind, State, Running, Ready, Receiving, Clock, Device, Trapped, Answer}
+use Rattle.laws.specs.Words.{Nothing, FromMessage, FromNotice, SenderGone, Result, Manager, Unset, Set, Gone, Parent, Thread, Message}
+use Rattle.laws.specs.Words.{Held, Runner, NoRunner, Runs, Oneself, Named, Send, Receive, CreateBrother, CreateSon, Terminate}
+use Rattle.laws.specs.Words.{SetManager, GetCpuTime, WaitForClock, WaitForIo, Trap, Event, Malformed, ByRunner, Tick, Interrupt}
+use Rattle.laws.specs.Words.{Decision}
+use Rattle.laws.specs.Sent.{owes, sends, sent-of, delivered-of, dropped-by, dropped-of, open-of}
+use Rattle.laws.specs.Types.{Inv, Ruled}
+use Rattle.laws.specs.Refusals.{call-is}
+use Rattle.laws.specs.Counts.{if-accepted, over-run}
+use Rattle.laws.specs.Blocks.{is-receive, entry-of, is-unset, ends}
+use Rattle.laws.specs.Once.{unless-awaited, queues, as-message, hands}
 use Rattle.laws.proofs.Tests.{by-if, by-runs, clash, and-left, and-right, and-true, and-false}
-use Rattle.laws.proofs.Tally.{count-map, count-same, count-zero, count-keep, count-less, count-add, any-count, none-count, member-any, count-insert, count-only}
+use Rattle.laws.proofs.Tally.{count-map, count-same, count-zero, count-keep, count-less, count-add, any-count, none-count}
+use Rattle.laws.proofs.Tally.{member-any, count-insert, count-only}
 use Rattle.laws.proofs.Members.{mem-map, mem-keep}
 use Rattle.laws.proofs.Threads.{live-member, looked-up, of-only, turned, turned-name, names-kept, here-is, apart, left}
-use Rattle.laws.specs.Types.{Inv, Ruled}
 use Rattle.laws.proofs.Steps.{called}
 use Rattle.laws.proofs.PlacesKept.{charge-inv, beat-inv, act-inv}
 use Rattle.laws.proofs.Sound.{tested-ruled}
 use Rattle.laws.proofs.Kept.{step-ruled, start-ruled}
-use Rattle.laws.specs.Refusals.{call-is}
-use Rattle.laws.specs.Counts.{if-accepted, over-run}
-use Rattle.laws.specs.Blocks.{is-receive, entry-of, is-unset, ends}
 use Rattle.laws.proofs.Inboxes.{runs-on, dispatch-messages}
-use Rattle.laws.specs.Once.{unless-awaited, queues, as-message, hands}
 use Rattle.laws.proofs.Once.{or-none, split, handed-back, not-own, awaited-as, accepted}
 
 -- ---- threads and answers
@@ -117,7 +123,8 @@ gone-is-none n Clock = refl
 gone-is-none n (Device d) = refl
 gone-is-none n (Trapped k) = refl
 
-add-in : {A : Type 0} (q r s : A → Bool) (xs : List A) → ((x : A) → List·Memᴰ x xs → one-if (q x) ≡ one-if (r x) + one-if (s x)) → count q xs ≡ count r xs + count s xs
+add-in : {A : Type 0} (q r s : A → Bool) (xs : List A) → ((x : A) → List·Memᴰ x xs → one-if (q x) ≡ one-if (r x) + one-if (s x)) →
+    count q xs ≡ count r xs + count s xs
 unfolding count
 add-in q r s [] h = omega arith
 add-in q r s (x ∷ xs) h = omega (arith, h x (List·Memᴰ·head refl), add-in q r s xs (λ y m. h y (List·Memᴰ·tail m)))
@@ -146,22 +153,33 @@ module _ (p : Message → Bool) where
   silent : (t : Thread) → t .answer ≡ Nothing → owes p t ≡ false
   silent t e = none-due t (unfold as-message in ap (as-message (t .name)) e)
 
-  same-in : (f : Thread → Thread) (ts : List Thread) → ((t : Thread) → List·Memᴰ t ts → owes p (f t) ≡ owes p t) → count (owes p) (map f ts) ≡ count (owes p) ts
-  same-in f ts h = omega (arith, count-map (owes p) f ts, add-in (λ t. owes p (f t)) (owes p) (λ t. false) ts (λ t m. omega (arith, ap one-if (h t m))), count-zero (λ (t : Thread). false) ts (λ t. refl))
+  same-in : (f : Thread → Thread) (ts : List Thread) → ((t : Thread) → List·Memᴰ t ts → owes p (f t) ≡ owes p t) →
+      count (owes p) (map f ts) ≡ count (owes p) ts
+  same-in f ts h = omega (
+    arith,
+    count-map (owes p) f ts,
+    add-in (λ t. owes p (f t)) (owes p) (λ t. false) ts
+        (λ t m. omega (arith, ap one-if (h t m))),
+    count-zero (λ (t : Thread). false) ts (λ t. refl),
+  )
 
   wake-due : (q : Thread → Bool) (a : Thread → Answer) (ns : List ℕ) (T : Tables) →
-      ((t : Thread) → List·Memᴰ t (T .threads) → q t ≡ true → owes p t ≡ false) → ((t : Thread) → as-message (t .name) (a t) ≡ []) → due (wake-those q a ns T) ≡ due T
+      ((t : Thread) → List·Memᴰ t (T .threads) → q t ≡ true → owes p t ≡ false) → ((t : Thread) → as-message (t .name) (a t) ≡ []) →
+      due (wake-those q a ns T) ≡ due T
   unfolding wake-those
   wake-due q a ns T h k =
       same-in (turned q (λ t. in-state Ready (a t) t)) (T .threads)
       (λ t m. by-if (λ (u : Thread). owes p u ≡ owes p t) (q t) (λ e. none-due (in-state Ready (a t) t) (k t) ∙ sym (h t m e)) (λ _. refl))
 
-  change-due : (n : ℕ) (f : Thread → Thread) (T : Tables) → ((t : Thread) → List·Memᴰ t (T .threads) → named n t ≡ true → owes p (f t) ≡ owes p t) → due (change n f T) ≡ due T
+  change-due : (n : ℕ) (f : Thread → Thread) (T : Tables) →
+      ((t : Thread) → List·Memᴰ t (T .threads) → named n t ≡ true → owes p (f t) ≡ owes p t) → due (change n f T) ≡ due T
   unfolding change
-  change-due n f T h = same-in (turned (named n) f) (T .threads) (λ t m. by-if (λ (u : Thread). owes p u ≡ owes p t) (named n t) (h t m) (λ _. refl))
+  change-due n f T h =
+      same-in (turned (named n) f) (T .threads) (λ t m. by-if (λ (u : Thread). owes p u ≡ owes p t) (named n t) (h t m) (λ _. refl))
 
   -- nothing is due to the runner
-  runner-silent : {L : Limits} {T : Tables} → Inv L T → Calm (T .threads) → (s q : ℕ) → T .runner ≡ Runs s q → (t : Thread) → List·Memᴰ t (T .threads) → named s t ≡ true → owes p t ≡ false
+  runner-silent : {L : Limits} {T : Tables} → Inv L T → Calm (T .threads) → (s q : ℕ) → T .runner ≡ Runs s q → (t : Thread) →
+      List·Memᴰ t (T .threads) → named s t ≡ true → owes p t ≡ false
   unfolding runs-as
   runner-silent {L} {T} I C s q h t m e =
       silent t (C t m (no-one (is-ready (t .state)) (omega (
@@ -174,13 +192,23 @@ module _ (p : Message → Bool) where
         ap one-if (eq-eqb (t .name) s (sym (eqb-true s (t .name) e))),
       ))))
 
-  stop-due : {L : Limits} {T : Tables} → Inv L T → Calm (T .threads) → (s q : ℕ) → T .runner ≡ Runs s q → (to : State) → due (stop s to T) ≡ due T
+  stop-due : {L : Limits} {T : Tables} → Inv L T → Calm (T .threads) → (s q : ℕ) → T .runner ≡ Runs s q → (to : State) →
+      due (stop s to T) ≡ due T
   unfolding stop
-  stop-due {T = T} I C s q h to = change-due s (in-state to Nothing) T (λ t m e. silent (in-state to Nothing t) refl ∙ sym (runner-silent I C s q h t m e))
+  stop-due {T = T} I C s q h to =
+      change-due s (in-state to Nothing) T (λ t m e. silent (in-state to Nothing t) refl ∙ sym (runner-silent I C s q h t m e))
 
-  end-due : (n : ℕ) (T : Tables) → Calm (T .threads) → due (end n T) + count (λ t. has (t .name) (ended-set (T .threads) n) && owes p t) (T .threads) ≡ due T
+  end-due : (n : ℕ) (T : Tables) → Calm (T .threads) →
+      due (end n T) + count (λ t. has (t .name) (ended-set (T .threads) n) && owes p t) (T .threads) ≡ due T
   unfolding end release
-  end-due n T C = omega (arith, freed, kept, count-keep (owes p) (λ t. not (out t)) (T .threads), count-add (owes p) (λ t. not (out t) && owes p t) (λ t. out t && owes p t) (T .threads) (λ t. split (out t) (owes p t)))
+  end-due n T C = omega (
+    arith,
+    freed,
+    kept,
+    count-keep (owes p) (λ t. not (out t)) (T .threads),
+    count-add (owes p) (λ t. not (out t)
+        && owes p t) (λ t. out t && owes p t) (T .threads) (λ t. split (out t) (owes p t)),
+  )
     where
       set : List ℕ
       set = ended-set (T .threads) n
@@ -189,20 +217,24 @@ module _ (p : Message → Bool) where
       out t = has (t .name) (ended-set (T .threads) n)
 
       freed : due (release (ended-set (T .threads) n) (remove (ended-set (T .threads) n) T)) ≡ due (remove (ended-set (T .threads) n) T)
-      freed = wake-due (λ t. misses set (t .state)) (λ t. told-gone (t .state)) _ (remove set T) quiet (λ t. gone-is-none (t .name) (t .state))
+      freed = wake-due (λ t. misses set (t .state)) (λ t. told-gone (t .state)) _ (remove set T) quiet
+          (λ t. gone-is-none (t .name) (t .state))
         where
-          quiet : (t : Thread) → List·Memᴰ t (remove (ended-set (T .threads) n) T .threads) → misses (ended-set (T .threads) n) (t .state) ≡ true → owes p t ≡ false
+          quiet : (t : Thread) → List·Memᴰ t (remove (ended-set (T .threads) n) T .threads) →
+              misses (ended-set (T .threads) n) (t .state) ≡ true → owes p t ≡ false
           quiet t m e =
               unfold remove without-managers in
               let r = mem-map (without-managers set) (left set (T .threads)) m in
               let k = mem-keep (λ u. not (has (u .name) set)) (T .threads) (r .1) in
-              silent t (ap (λ (u : Thread). u .answer) (r .2) ∙ C (r .0) (k .0) (no-misser set (r .0 .state) (ap (λ (u : Thread). misses set (u .state)) (sym (r .2)) ∙ e)))
+              silent t (ap (λ (u : Thread). u .answer) (r .2)
+              ∙ C (r .0) (k .0) (no-misser set (r .0 .state) (ap (λ (u : Thread). misses set (u .state)) (sym (r .2)) ∙ e)))
 
       kept : due (remove (ended-set (T .threads) n) T) ≡ count (owes p) (keep (λ t. not (out t)) (T .threads))
       kept = unfold remove without-managers owes in same-in (without-managers set) (left set (T .threads)) (λ t m. refl)
 
   -- a message or notice that its receiver waits for becomes due to it
-  deliver-due : (m : Message) (T : Tables) → ((n : ℕ) → count (named n) (T .threads) ≤ 1) → Calm (T .threads) → due (deliver m T) ≡ due T + count p (if any (accepts m) (T .threads) then m ∷ [] else [])
+  deliver-due : (m : Message) (T : Tables) → ((n : ℕ) → count (named n) (T .threads) ≤ 1) → Calm (T .threads) →
+      due (deliver m T) ≡ due T + count p (if any (accepts m) (T .threads) then m ∷ [] else [])
   unfolding deliver queue wake-those count
   deliver-due m T once C = go (any (accepts m) (T .threads)) refl
     where
@@ -210,12 +242,15 @@ module _ (p : Message → Bool) where
       quiet t i e = silent t (C t i (no-receiver (m .from) (t .state) (and-right (named (m .to) t) _ e)))
 
       given : (t : Thread) → accepts m t ≡ true → owes p (in-state Ready (handed m) t) ≡ p m
-      given t e = unfold owes any in (ap (any p) (handed-back m (t .name) (eqb-true (m .to) (t .name) (and-left (named (m .to) t) _ e))) ∙ or-none (p m))
+      given t e = unfold owes any in
+          (ap (any p) (handed-back m (t .name) (eqb-true (m .to) (t .name) (and-left (named (m .to) t) _ e))) ∙ or-none (p m))
 
-      pointwise : (t : Thread) → List·Memᴰ t (T .threads) → one-if (owes p (turned (accepts m) (λ u. in-state Ready (handed m) u) t)) ≡ one-if (owes p t) + one-if (accepts m t && p m)
+      pointwise : (t : Thread) → List·Memᴰ t (T .threads) →
+          one-if (owes p (turned (accepts m) (λ u. in-state Ready (handed m) u) t)) ≡ one-if (owes p t) + one-if (accepts m t && p m)
       pointwise t i = at (accepts m t) refl
         where
-          at : (b : Bool) → accepts m t ≡ b → one-if (owes p (if b then in-state Ready (handed m) t else t)) ≡ one-if (owes p t) + one-if (b && p m)
+          at : (b : Bool) → accepts m t ≡ b → one-if (owes p (if b then in-state Ready (handed m) t else t)) ≡ one-if (owes p t)
+              + one-if (b && p m)
           at true e = omega (arith, ap one-if (given t e), ap one-if (quiet t i e))
           at false e = omega arith
 
@@ -233,22 +268,27 @@ module _ (p : Message → Bool) where
               )
           at false = count-zero _ (T .threads) (λ t. and-false (accepts m t))
 
-      go : (b : Bool) → any (accepts m) (T .threads) ≡ b → due (deliver m T) ≡ due T + count p (if any (accepts m) (T .threads) then m ∷ [] else [])
+      go : (b : Bool) → any (accepts m) (T .threads) ≡ b →
+          due (deliver m T) ≡ due T + count p (if any (accepts m) (T .threads) then m ∷ [] else [])
       go true e =
           rw e (omega (
             arith,
             count-map (owes p) (turned (accepts m) (λ u. in-state Ready (handed m) u)) (T .threads),
-            add-in (λ t. owes p (turned (accepts m) (λ u. in-state Ready (handed m) u) t)) (owes p) (λ t. accepts m t && p m) (T .threads) pointwise,
+            add-in (λ t. owes p (turned (accepts m) (λ u. in-state Ready (handed m) u) t)) (owes p) (λ t. accepts m t && p m) (T .threads)
+                pointwise,
             received-once e,
           ))
       go false e = rw e (omega arith)
 
   tick-due : {L : Limits} (T : Tables) → Inv L T → Calm (T .threads) → due (tick T) ≡ due T
   unfolding tick
-  tick-due {L} T I C = turned-due (beat (charge T)) (beat-inv (charge-inv I)) (beat-calm (charge T) (charge-calm T C)) ∙ beat-due (charge T) (charge-calm T C) ∙ charge-due T
+  tick-due {L} T I C = turned-due (beat (charge T)) (beat-inv (charge-inv I)) (beat-calm (charge T) (charge-calm T C))
+      ∙ beat-due (charge T) (charge-calm T C) ∙ charge-due T
     where
       charge-due : (U : Tables) → due (charge U) ≡ due U
-      charge-due U = unfold charge owes in by-runs (λ (W : Tables). due W ≡ due U) (U .runner) (λ _. refl) (λ n s _. change-due n (λ t. with-ticks (one-more (t .ticks)) t) U (λ t m e. refl))
+      charge-due U = unfold charge owes in
+          by-runs (λ (W : Tables). due W ≡ due U) (U .runner) (λ _. refl)
+          (λ n s _. change-due n (λ t. with-ticks (one-more (t .ticks)) t) U (λ t m e. refl))
 
       charge-calm : (U : Tables) → Calm (U .threads) → Calm (charge U .threads)
       charge-calm U D = unfold charge change in by-runs (λ (W : Tables). Calm (W .threads)) (U .runner) (λ _. D) (λ n s _. ticked n)
@@ -256,7 +296,8 @@ module _ (p : Message → Bool) where
           ticked : (n : ℕ) → Calm (map (turned (named n) (λ t. with-ticks (one-more (t .ticks)) t)) (U .threads))
           ticked n u m e =
               let r = mem-map (turned (named n) (λ t. with-ticks (one-more (t .ticks)) t)) (U .threads) m in
-              ap (λ (x : Thread). x .answer) (r .2) ∙ same-answer n (r .0) ∙ D (r .0) (r .1) (sym (ap is-ready (ap (λ (x : Thread). x .state) (r .2) ∙ same-state n (r .0))) ∙ e)
+              ap (λ (x : Thread). x .answer) (r .2) ∙ same-answer n (r .0)
+              ∙ D (r .0) (r .1) (sym (ap is-ready (ap (λ (x : Thread). x .state) (r .2) ∙ same-state n (r .0))) ∙ e)
             where
               same-answer : (n : ℕ) (t : Thread) → turned (named n) (λ t. with-ticks (one-more (t .ticks)) t) t .answer ≡ t .answer
               same-answer n t = by-if (λ (x : Thread). x .answer ≡ t .answer) (named n t) (λ _. refl) (λ _. refl)
@@ -267,22 +308,31 @@ module _ (p : Message → Bool) where
       beat-due : (U : Tables) → Calm (U .threads) → due (beat U) ≡ due U
       beat-due U D =
           unfold beat in by-if (λ (W : Tables). due W ≡ due U) (U .since + 1 == beat-ticks)
-          (λ _. wake-due (λ t. on-clock (t .state)) (λ t. Result (one-more (U .beats))) (U .clock) (with-clock [] (with-time 0 (one-more (U .beats)) U)) (λ t m e. silent t (D t m (no-clock (t .state) e))) (λ t. unfold as-message in refl))
+          (λ _. wake-due (λ t. on-clock (t .state)) (λ t. Result (one-more (U .beats))) (U .clock)
+          (with-clock [] (with-time 0 (one-more (U .beats)) U)) (λ t m e. silent t (D t m (no-clock (t .state) e)))
+          (λ t. unfold as-message in refl))
           (λ _. refl)
 
       beat-calm : (U : Tables) → Calm (U .threads) → Calm (beat U .threads)
       beat-calm U D = unfold beat wake-those in by-if (λ (W : Tables). Calm (W .threads)) (U .since + 1 == beat-ticks) (λ _. woken) (λ _. D)
         where
           woken : Calm (map (turned (λ t. on-clock (t .state)) (λ t. in-state Ready (Result (one-more (U .beats))) t)) (U .threads))
-          woken u m e = let r = mem-map (turned (λ t. on-clock (t .state)) (λ t. in-state Ready (Result (one-more (U .beats))) t)) (U .threads) m in ap (λ (x : Thread). x .answer) (r .2) ∙ at (r .0) (r .1) (sym (ap (λ (x : Thread). is-ready (x .state)) (r .2)) ∙ e)
+          woken u m e = let r = mem-map (turned (λ t. on-clock (t .state)) (λ t. in-state Ready (Result (one-more (U .beats))) t))
+              (U .threads) m in ap (λ (x : Thread). x .answer) (r .2)
+              ∙ at (r .0) (r .1) (sym (ap (λ (x : Thread). is-ready (x .state)) (r .2)) ∙ e)
             where
-              at : (t : Thread) → List·Memᴰ t (U .threads) → is-ready (turned (λ t. on-clock (t .state)) (λ t. in-state Ready (Result (one-more (U .beats))) t) t .state) ≡ false → turned (λ t. on-clock (t .state)) (λ t. in-state Ready (Result (one-more (U .beats))) t) t .answer ≡ Nothing
-              at t i = by-if (λ (x : Thread). is-ready (x .state) ≡ false → x .answer ≡ Nothing) (on-clock (t .state)) (λ _ k. absurd (clash ready-is k)) (λ _. D t i)
+              at : (t : Thread) → List·Memᴰ t (U .threads) →
+                  is-ready (turned (λ t. on-clock (t .state)) (λ t. in-state Ready (Result (one-more (U .beats))) t) t .state) ≡ false →
+                  turned (λ t. on-clock (t .state)) (λ t. in-state Ready (Result (one-more (U .beats))) t) t .answer ≡ Nothing
+              at t i = by-if (λ (x : Thread). is-ready (x .state) ≡ false → x .answer ≡ Nothing) (on-clock (t .state))
+                  (λ _ k. absurd (clash ready-is k)) (λ _. D t i)
 
       turned-due : (U : Tables) → Inv L U → Calm (U .threads) → due (rotate U) ≡ due U
       turned-due U K D =
           unfold rotate in by-runs (λ (W : Tables). due W ≡ due U) (U .runner) (λ _. refl)
-          (λ n s e. by-if (λ (W : Tables). due W ≡ due U) (s == 0) (λ _. wake-due (named n) (λ t. Nothing) (n ∷ []) U (λ t m i. runner-silent K D n s e t m i) (λ t. unfold as-message in refl)) (λ _. refl))
+          (λ n s e. by-if (λ (W : Tables). due W ≡ due U) (s == 0)
+          (λ _. wake-due (named n) (λ t. Nothing) (n ∷ []) U (λ t m i. runner-silent K D n s e t m i) (λ t. unfold as-message in refl))
+          (λ _. refl))
 
   -- a dispatch hands over what is due to the thread that it runs; what the event itself hands over is no message here
   dispatch-due : (o : Outcome) → ((n : ℕ) → count (named n) (o .tables .threads) ≤ 1) → ((n : ℕ) → as-message n (o .answer) ≡ []) →
@@ -296,14 +346,17 @@ module _ (p : Message → Bool) where
       as-it-was : due (o .tables) + count p (as-message (me (o .tables .runner)) (o .answer)) ≡ due (o .tables)
       as-it-was = rw (plain (me (o .tables .runner))) (omega arith)
 
-      pointwise : (n : ℕ) (t : Thread) → List·Memᴰ t (o .tables .threads) → one-if (owes p t) ≡ one-if (owes p (turned (named n) (in-state Running Nothing) t)) + one-if (named n t && owes p t)
+      pointwise : (n : ℕ) (t : Thread) → List·Memᴰ t (o .tables .threads) →
+          one-if (owes p t) ≡ one-if (owes p (turned (named n) (in-state Running Nothing) t)) + one-if (named n t && owes p t)
       pointwise n t m = at (named n t)
         where
           at : (b : Bool) → one-if (owes p t) ≡ one-if (owes p (if b then in-state Running Nothing t else t)) + one-if (b && owes p t)
           at true = omega (arith, ap one-if (silent (in-state Running Nothing t) refl))
           at false = omega arith
 
-      front : (n : ℕ) (b : Bool) → any (named n) (o .tables .threads) ≡ b → count (λ t. named n t && owes p t) (o .tables .threads) ≡ count p (as-message n (of-thread Nothing (λ t. t .answer) n (o .tables .threads)))
+      front : (n : ℕ) (b : Bool) → any (named n) (o .tables .threads) ≡ b →
+          count (λ t. named n t && owes p t) (o .tables .threads) ≡ count p
+          (as-message n (of-thread Nothing (λ t. t .answer) n (o .tables .threads)))
       front n true e =
           let r = live-member ts n e in
           count-only (named n) (owes p) ts (once n) (r .0) (r .1) (eq-eqb n (r .0 .name) (r .2))
@@ -313,16 +366,24 @@ module _ (p : Message → Bool) where
           count-zero-in ∙ ⊎-elim no-answer (λ r. absurd (clash (member-named r) e)) (looked-up Nothing (λ t. t .answer) n ts)
         where
           count-zero-in : count (λ t. named n t && owes p t) (o .tables .threads) ≡ 0
-          count-zero-in = omega (arith, count-less (λ t. named n t && owes p t) (named n) ts (λ t i. and-left (named n t) _ i), none-count (named n) ts e)
+          count-zero-in = omega (
+            arith,
+            count-less (λ t. named n t && owes p t) (named n) ts (λ t i. and-left (named n t) _ i),
+            none-count (named n) ts e,
+          )
 
-          no-answer : of-thread Nothing (λ t. t .answer) n (o .tables .threads) ≡ Nothing → 0 ≡ count p (as-message n (of-thread Nothing (λ t. t .answer) n (o .tables .threads)))
+          no-answer : of-thread Nothing (λ t. t .answer) n (o .tables .threads) ≡ Nothing →
+              0 ≡ count p (as-message n (of-thread Nothing (λ t. t .answer) n (o .tables .threads)))
           no-answer i = sym (ap (λ (a : Answer). count p (as-message n a)) i ∙ unfold as-message in refl)
 
-          member-named : (t : Thread) × List·Memᴰ t (o .tables .threads) × (t .name ≡ n) × (of-thread Nothing (λ t. t .answer) n (o .tables .threads) ≡ t .answer) → any (named n) (o .tables .threads) ≡ true
+          member-named : (t : Thread) × List·Memᴰ t (o .tables .threads) × (t .name ≡ n)
+              × (of-thread Nothing (λ t. t .answer) n (o .tables .threads) ≡ t .answer) → any (named n) (o .tables .threads) ≡ true
           member-named r = member-any (named n) ts (r .0) (r .1) (eq-eqb n (r .0 .name) (sym (r .2)))
 
       go : (r : Runner) (q : List ℕ) → o .tables .runner ≡ r → o .tables .ready ≡ q →
-          due (by-runner (run-next q o) (λ n s. o) r .tables) + count p (as-message (me (by-runner (run-next q o) (λ n s. o) r .tables .runner)) (by-runner (run-next q o) (λ n s. o) r .answer)) ≡ due (o .tables)
+          due (by-runner (run-next q o) (λ n s. o) r .tables)
+          + count p (as-message (me (by-runner (run-next q o) (λ n s. o) r .tables .runner))
+          (by-runner (run-next q o) (λ n s. o) r .answer)) ≡ due (o .tables)
       go (Runs n s) q e i = as-it-was
       go NoRunner [] e i = unfold run-next in as-it-was
       go NoRunner (n ∷ q) e i =
@@ -365,28 +426,45 @@ module _ (p : Message → Bool) where
     calm : Calm (T .threads)
     calm t m e = R .fits .threads t m .answer e
 
-    send-passes : (s to w : ℕ) → Passes T (if decides s to T then [] else message to s w ∷ []) (if decides s to T then [] else unless-awaited (message to s w) T)
+    send-passes : (s to w : ℕ) → Passes T (if decides s to T then [] else message to s w ∷ [])
+        (if decides s to T then [] else unless-awaited (message to s w) T)
         (if decides s to T && not (w == 0) then ended-set (T .threads) to else []) (send s to w T)
     unfolding send decide count
     send-passes s to w = go (decides s to T) refl w
       where
-        go : (b : Bool) → decides s to T ≡ b → (w : ℕ) → Passes T (if decides s to T then [] else message to s w ∷ []) (if decides s to T then [] else unless-awaited (message to s w) T)
+        go : (b : Bool) → decides s to T ≡ b → (w : ℕ) →
+            Passes T (if decides s to T then [] else message to s w ∷ []) (if decides s to T then [] else unless-awaited (message to s w) T)
             (if decides s to T && not (w == 0) then ended-set (T .threads) to else []) (send s to w T)
         go true e zero =
-            rw e (still T (decide s to 0 T) (wake-due (waits-for-decision s to) (λ t. Nothing) _ (with-messages (keep (λ m. not (notice-of to m)) (T .messages)) T)
+            rw e (still T (decide s to 0 T)
+            (wake-due (waits-for-decision s to) (λ t. Nothing) _ (with-messages (keep (λ m. not (notice-of to m)) (T .messages)) T)
             (λ t m i. silent t (calm t m (no-decided s t (and-right (named to t) _ i)))) (λ t. unfold as-message in refl)))
         go true e (suc w) = rw (e, ne-eqb (suc w) 0 (λ i. omega arith)) (ended to T calm)
-        go false e w = rw e (omega (arith, deliver-due (message to s w) T (R .inv .agree .once) calm, none-lost T, due-or-queued (message to s w) (any (accepts (message to s w)) (T .threads))))
+        go false e w =
+            rw e (omega (
+              arith,
+              deliver-due (message to s w) T (R .inv .agree .once) calm,
+              none-lost T,
+              due-or-queued (message to s w)
+                  (any (accepts (message to s w)) (T .threads)),
+            ))
 
     -- the trapped thread stops, and its notice goes to the manager
     trap-passes : (s q : ℕ) (k : TrapKind) (c : ℕ) → T .runner ≡ Runs s q →
-        Passes T (by-manager [] (λ n. notice n s c ∷ []) (entry-of k s T)) (by-manager [] (λ n. unless-awaited (notice n s c) T) (entry-of k s T))
+        Passes T (by-manager [] (λ n. notice n s c ∷ []) (entry-of k s T))
+        (by-manager [] (λ n. unless-awaited (notice n s c) T) (entry-of k s T))
         (by-manager (ended-set (T .threads) s) (λ n. []) (entry-of k s T)) (trap s k c T)
     unfolding trap count
     trap-passes s q k c h = go (entry-of k s T) refl
       where
         halted-once : (n : ℕ) → count (named n) (stop s (Trapped k) T .threads) ≤ 1
-        halted-once n = unfold stop change in omega (arith, names-kept (turned (named s) (in-state (Trapped k) Nothing)) (turned-name (named s) (in-state (Trapped k) Nothing) (λ t. refl)) n (T .threads), R .inv .agree .once n)
+        halted-once n = unfold stop change in
+            omega (
+              arith,
+              names-kept (turned (named s) (in-state (Trapped k) Nothing))
+                  (turned-name (named s) (in-state (Trapped k) Nothing) (λ t. refl)) n (T .threads),
+              R .inv .agree .once n,
+            )
 
         halted-calm : Calm (stop s (Trapped k) T .threads)
         halted-calm u m e =
@@ -394,11 +472,13 @@ module _ (p : Message → Bool) where
             let r = mem-map (turned (named s) (in-state (Trapped k) Nothing)) (T .threads) m in
             ap (λ (x : Thread). x .answer) (r .2) ∙ at (r .0) (r .1) (sym (ap (λ (x : Thread). is-ready (x .state)) (r .2)) ∙ e)
           where
-            at : (t : Thread) → List·Memᴰ t (T .threads) → is-ready (turned (named s) (in-state (Trapped k) Nothing) t .state) ≡ false → turned (named s) (in-state (Trapped k) Nothing) t .answer ≡ Nothing
+            at : (t : Thread) → List·Memᴰ t (T .threads) → is-ready (turned (named s) (in-state (Trapped k) Nothing) t .state) ≡ false →
+                turned (named s) (in-state (Trapped k) Nothing) t .answer ≡ Nothing
             at t i = by-if (λ (x : Thread). is-ready (x .state) ≡ false → x .answer ≡ Nothing) (named s t) (λ _ _. refl) (λ _. calm t i)
 
         go : (g : Manager) → entry-of k s T ≡ g →
-            Passes T (by-manager [] (λ n. notice n s c ∷ []) g) (by-manager [] (λ n. unless-awaited (notice n s c) T) g) (by-manager (ended-set (T .threads) s) (λ n. []) g)
+            Passes T (by-manager [] (λ n. notice n s c ∷ []) g) (by-manager [] (λ n. unless-awaited (notice n s c) T) g)
+            (by-manager (ended-set (T .threads) s) (λ n. []) g)
             (by-manager (end s T) (λ n. deliver (notice n s c) (stop s (Trapped k) T)) g)
         go Unset e = ended s T calm
         go (Set n) e =
@@ -413,16 +493,22 @@ module _ (p : Message → Bool) where
         go Gone e = ended s T calm
 
     create-due : (n : ℕ) (x : Parent) → count (owes p) (insert (λ t. ltb (t .name) n) (new-thread n x Ready) (T .threads)) ≡ due T
-    create-due n x = omega (arith, count-insert (owes p) (λ t. ltb (t .name) n) (new-thread n x Ready) (T .threads), ap one-if (silent (new-thread n x Ready) refl))
+    create-due n x = omega (
+      arith,
+      count-insert (owes p) (λ t. ltb (t .name) n) (new-thread n x Ready) (T .threads),
+      ap one-if (silent (new-thread n x Ready) refl),
+    )
 
     act-passes : (e : Event) → refusal L T e ≡ 0 → Passes T (sends T e) (queues T e) (ends T e) (act T e .tables)
     unfolding act serve sends queues ends
     act-passes Malformed a = still T T refl
     act-passes (ByRunner (Send to w)) a = send-passes (me (T .runner)) to w
-    act-passes (ByRunner (Receive w)) a = let C = called L T (Receive w) a in still T (receive (me (T .runner)) w T .tables) (go (C .name) (C .slice) (C .runner) (C .caller))
+    act-passes (ByRunner (Receive w)) a =
+        let C = called L T (Receive w) a in still T (receive (me (T .runner)) w T .tables) (go (C .name) (C .slice) (C .runner) (C .caller))
       where
         go : (s q : ℕ) → T .runner ≡ Runs s q → me (T .runner) ≡ s → due (receive (me (T .runner)) w T .tables) ≡ due T
-        go s q h i = unfold receive in (ap (λ (n : ℕ). due (received n w T (pull (wanted-by n w) (T .messages)) .tables)) i ∙ at (pull (wanted-by s w) (T .messages)))
+        go s q h i = unfold receive in
+            (ap (λ (n : ℕ). due (received n w T (pull (wanted-by n w) (T .messages)) .tables)) i ∙ at (pull (wanted-by s w) (T .messages)))
           where
             at : (x : Pulled Message) → due (received s w T x .tables) ≡ due T
             at missing = unfold received in stop-due (R .inv) calm s q h (Receiving w)
@@ -434,29 +520,36 @@ module _ (p : Message → Bool) where
     act-passes (ByRunner (SetManager k n)) a = go (me (T .runner)) (entry-of k (me (T .runner)) T)
       where
         go : (s : ℕ) (g : Manager) → Passes T [] [] (if is-unset g then [] else ended-set (T .threads) s) (set-over g s k n T .tables)
-        go s Unset = unfold is-unset in still T (set-over Unset s k n T .tables) (unfold set-over owes in change-due s (λ t. with-managers (set-entry k (Set n) (t .managers)) t) T (λ t m e. refl))
+        go s Unset = unfold is-unset in
+            still T (set-over Unset s k n T .tables) (unfold set-over owes in
+            change-due s (λ t. with-managers (set-entry k (Set n) (t .managers)) t) T (λ t m e. refl))
         go s (Set x) = unfold set-over is-unset in ended s T calm
         go s Gone = unfold set-over is-unset in ended s T calm
     act-passes (ByRunner GetCpuTime) a = still T T refl
-    act-passes (ByRunner WaitForClock) a = let C = called L T WaitForClock a in still T (act T (ByRunner WaitForClock) .tables) (go (C .name) (C .slice) (C .runner) (C .caller))
+    act-passes (ByRunner WaitForClock) a = let C =
+        called L T WaitForClock a in still T (act T (ByRunner WaitForClock) .tables) (go (C .name) (C .slice) (C .runner) (C .caller))
       where
         go : (s q : ℕ) → T .runner ≡ Runs s q → me (T .runner) ≡ s → due (act T (ByRunner WaitForClock) .tables) ≡ due T
         go s q h i = unfold wait-for-clock in (ap (λ (n : ℕ). due (stop n Clock T)) i ∙ stop-due (R .inv) calm s q h Clock)
-    act-passes (ByRunner (WaitForIo d)) a = let C = called L T (WaitForIo d) a in still T (act T (ByRunner (WaitForIo d)) .tables) (go (C .name) (C .slice) (C .runner) (C .caller) (pull (held-for d) (T .held)))
+    act-passes (ByRunner (WaitForIo d)) a = let C = called L T (WaitForIo d) a in
+        still T (act T (ByRunner (WaitForIo d)) .tables) (go (C .name) (C .slice) (C .runner) (C .caller) (pull (held-for d) (T .held)))
       where
-        go : (s q : ℕ) → T .runner ≡ Runs s q → me (T .runner) ≡ s → (x : Pulled Held) → due (take-held (me (T .runner)) d T x .tables) ≡ due T
+        go : (s q : ℕ) → T .runner ≡ Runs s q → me (T .runner) ≡ s → (x : Pulled Held) →
+            due (take-held (me (T .runner)) d T x .tables) ≡ due T
         go s q h i missing = unfold take-held in (ap (λ (n : ℕ). due (stop n (Device d) T)) i ∙ stop-due (R .inv) calm s q h (Device d))
         go s q h i (pulled y ys) = unfold take-held in refl
     act-passes (ByRunner (Trap k c)) a = let C = called L T (Trap k c) a in go (C .name) (C .slice) (C .runner) (C .caller)
       where
         go : (s q : ℕ) → T .runner ≡ Runs s q → me (T .runner) ≡ s →
-            Passes T (by-manager [] (λ n. notice n (me (T .runner)) c ∷ []) (entry-of k (me (T .runner)) T)) (by-manager [] (λ n. unless-awaited (notice n (me (T .runner)) c) T) (entry-of k (me (T .runner)) T))
+            Passes T (by-manager [] (λ n. notice n (me (T .runner)) c ∷ []) (entry-of k (me (T .runner)) T))
+            (by-manager [] (λ n. unless-awaited (notice n (me (T .runner)) c) T) (entry-of k (me (T .runner)) T))
             (by-manager (ended-set (T .threads) (me (T .runner))) (λ n. []) (entry-of k (me (T .runner)) T)) (trap (me (T .runner)) k c T)
         go s q h i = rw i (trap-passes s q k c h)
     act-passes Tick a = still T (tick T) (tick-due T (R .inv) calm)
     act-passes (Interrupt d w) a =
         still T (interrupt d w T) (unfold interrupt in by-if (λ (U : Tables). due U ≡ due T) (any (waits-for d) (T .threads))
-        (λ _. wake-due (waits-for d) (λ t. Result w) _ T (λ t m e. silent t (calm t m (no-waiter d (t .state) e))) (λ t. unfold as-message in refl)) (λ _. refl))
+        (λ _. wake-due (waits-for d) (λ t. Result w) _ T (λ t m e. silent t (calm t m (no-waiter d (t .state) e)))
+        (λ t. unfold as-message in refl)) (λ _. refl))
 
     -- an event that is no receive hands over no message by itself
     plain : (e : Event) → is-receive (λ w. true) e ≡ false → (n : ℕ) → as-message n (act T e .answer) ≡ []
@@ -489,10 +582,12 @@ module _ (p : Message → Bool) where
 
     -- what is due after it and what it hands over, apart from inboxes
     abbrev Dues : Event → Stepped → Type 0
-    Dues e s = due (s .tables) + count p (as-message (s .decision .runner) (s .decision .answer)) + lost T (ends T e) + count p (queues T e) ≡ due T + count p (sends T e) + count p (hands T e (s .decision))
+    Dues e s = due (s .tables) + count p (as-message (s .decision .runner) (s .decision .answer)) + lost T (ends T e)
+        + count p (queues T e) ≡ due T + count p (sends T e) + count p (hands T e (s .decision))
 
     -- an event that hands over no message by itself
-    by-dispatching : (e : Event) → L .threads < names → refusal L T e ≡ 0 → ((n : ℕ) → as-message n (act T e .answer) ≡ []) → count p (hands T e (settle 0 T e .decision)) ≡ 0 → Dues e (settle 0 T e)
+    by-dispatching : (e : Event) → L .threads < names → refusal L T e ≡ 0 → ((n : ℕ) → as-message n (act T e .answer) ≡ []) →
+        count p (hands T e (settle 0 T e .decision)) ≡ 0 → Dues e (settle 0 T e)
     unfolding settle
     by-dispatching e few a h none = omega (arith, act-passes e a, dispatch-due (act T e) (act-inv e few a (R .inv) .agree .once) h)
 
@@ -500,21 +595,28 @@ module _ (p : Message → Bool) where
     unfolding hands count
     not-received e d h = rw h
 
-    receive-dues : (w : Wanted) → L .threads < names → refusal L T (ByRunner (Receive w)) ≡ 0 → Dues (ByRunner (Receive w)) (settle 0 T (ByRunner (Receive w)))
+    receive-dues : (w : Wanted) → L .threads < names → refusal L T (ByRunner (Receive w)) ≡ 0 →
+        Dues (ByRunner (Receive w)) (settle 0 T (ByRunner (Receive w)))
     unfolding settle
-    receive-dues w few a = let C = called L T (Receive w) a in go (C .name) (C .slice) (C .runner) (C .caller) (pull (wanted-by (me (T .runner)) w) (T .messages)) refl
+    receive-dues w few a = let C =
+        called L T (Receive w) a in go (C .name) (C .slice) (C .runner) (C .caller) (pull (wanted-by (me (T .runner)) w) (T .messages)) refl
       where
         event : Event
         event = ByRunner (Receive w)
 
-        served : (x : Pulled Message) → pull (wanted-by (me (T .runner)) w) (T .messages) ≡ x → act T (ByRunner (Receive w)) ≡ received (me (T .runner)) w T x
+        served : (x : Pulled Message) → pull (wanted-by (me (T .runner)) w) (T .messages) ≡ x →
+            act T (ByRunner (Receive w)) ≡ received (me (T .runner)) w T x
         served x j = unfold act serve receive in ap (received (me (T .runner)) w T) j
 
-        go : (s q : ℕ) → T .runner ≡ Runs s q → me (T .runner) ≡ s → (x : Pulled Message) → pull (wanted-by (me (T .runner)) w) (T .messages) ≡ x → Dues (ByRunner (Receive w)) (settle 0 T (ByRunner (Receive w)))
-        go s q h i missing j = by-dispatching event few a (λ n. ap (λ (o : Outcome). as-message n (o .answer)) (served missing j) ∙ unfold received as-message in refl) none
+        go : (s q : ℕ) → T .runner ≡ Runs s q → me (T .runner) ≡ s → (x : Pulled Message) →
+            pull (wanted-by (me (T .runner)) w) (T .messages) ≡ x → Dues (ByRunner (Receive w)) (settle 0 T (ByRunner (Receive w)))
+        go s q h i missing j = by-dispatching event few a (λ n. ap (λ (o : Outcome). as-message n (o .answer)) (served missing j)
+            ∙ unfold received as-message in refl) none
           where
             kept : settle 0 T (ByRunner (Receive w)) .tables .messages ≡ T .messages
-            kept = unfold settle in (dispatch-messages (act T event) ∙ ap (λ (o : Outcome). o .tables .messages) (served missing j) ∙ unfold received stop change in refl)
+            kept = unfold settle in
+                (dispatch-messages (act T event) ∙ ap (λ (o : Outcome). o .tables .messages) (served missing j)
+                ∙ unfold received stop change in refl)
 
             none : count p (hands T (ByRunner (Receive w)) (settle 0 T (ByRunner (Receive w)) .decision)) ≡ 0
             none = omega (arith, accepted p L T R event a, ap (count p) kept, nothing-queued)
@@ -524,10 +626,12 @@ module _ (p : Message → Bool) where
         go s q h i (pulled m ms) j = subst (λ (o : Outcome). Dues (ByRunner (Receive w)) (decided 0 o)) (sym went-on) on
           where
             went-on : dispatch (act T (ByRunner (Receive w))) ≡ received (me (T .runner)) w T (pulled m ms)
-            went-on = runs-on (act T event) s q (ap (λ (o : Outcome). o .tables .runner) (served (pulled m ms) j) ∙ unfold received in h) ∙ served (pulled m ms) j
+            went-on = runs-on (act T event) s q (ap (λ (o : Outcome). o .tables .runner) (served (pulled m ms) j) ∙ unfold received in
+                h) ∙ served (pulled m ms) j
 
             on : Dues (ByRunner (Receive w)) (decided 0 (received (me (T .runner)) w T (pulled m ms)))
-            on = unfold received hands is-receive call-is ends queues sends count in rw (eq-eqb (me (T .runner)) (me (T .runner)) refl) (omega (arith, none-lost T))
+            on = unfold received hands is-receive call-is ends queues sends count in
+                rw (eq-eqb (me (T .runner)) (me (T .runner)) refl) (omega (arith, none-lost T))
 
     no-receive : (e : Event) → L .threads < names → refusal L T e ≡ 0 → is-receive (λ w. true) e ≡ false → Dues e (settle 0 T e)
     no-receive e few a h = by-dispatching e few a (plain e h) (not-received e (settle 0 T e .decision) h)
@@ -549,7 +653,8 @@ module _ (p : Message → Bool) where
     accepted-dues (Interrupt d w) few a = no-receive (Interrupt d w) few a refl
 
   step-account : (L : Limits) → L .threads < names → (T : Tables) → Ruled L T → (bytes : List ℕ) →
-      open-of p (step L T bytes .tables) + count p (as-message (step L T bytes .decision .runner) (step L T bytes .decision .answer)) + if-accepted (dropped-by p) L T bytes
+      open-of p (step L T bytes .tables) + count p (as-message (step L T bytes .decision .runner) (step L T bytes .decision .answer))
+      + if-accepted (dropped-by p) L T bytes
       ≡ open-of p T + if-accepted (λ U e. count p (sends U e)) L T bytes
   unfolding step
   step-account L few T R bytes = go (refusal L T (decode bytes)) refl
@@ -558,12 +663,15 @@ module _ (p : Message → Bool) where
       e = decode bytes
 
       go : (r : ℕ) → refusal L T (decode bytes) ≡ r →
-          open-of p (settle r T (decode bytes) .tables) + count p (as-message (settle r T (decode bytes) .decision .runner) (settle r T (decode bytes) .decision .answer)) + (if r == 0 then dropped-by p T (decode bytes) else 0)
+          open-of p (settle r T (decode bytes) .tables)
+          + count p (as-message (settle r T (decode bytes) .decision .runner) (settle r T (decode bytes) .decision .answer))
+          + (if r == 0 then dropped-by p T (decode bytes) else 0)
           ≡ open-of p T + (if r == 0 then count p (sends T (decode bytes)) else 0)
       go zero a = unfold lost in omega (arith, accepted p L T R e a, accepted-dues T R e few a)
       go (suc r) a = rw (ne-eqb (suc r) 0 (λ i. omega arith)) (unfold settle as-message count in omega arith)
 
-  run-account : (L : Limits) → L .threads < names → (T : Tables) → Ruled L T → (es : Input) → open-of p T + sent-of p L T es ≡ delivered-of p L T es + dropped-of p L T es + open-of p (run L T es)
+  run-account : (L : Limits) → L .threads < names → (T : Tables) → Ruled L T → (es : Input) →
+      open-of p T + sent-of p L T es ≡ delivered-of p L T es + dropped-of p L T es + open-of p (run L T es)
   unfolding run over-run delivered-of
   run-account L few T R [] = omega arith
   run-account L few T R (e ∷ es) = omega (arith, step-account L few T R e, run-account L few (step L T e .tables) (step-ruled e few R) es)

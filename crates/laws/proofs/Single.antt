@@ -9,14 +9,15 @@ use lib.ListN.{length, getD, set}
 use borrow.Author.Tests.{eqb-true, eq-eqb, ne-eqb}
 use Rattle.rules.specs.Lists.{if_then_else_, one-if, any, keep, count}
 use Rattle.rules.specs.Numbers.{full-slice, beat-ticks}
-use Rattle.laws.specs.Words.{State, Running, Ready, Answer, Nothing, Result, Thread, Message, NoRunner, Runs}
-use Rattle.rules.specs.Tables.{Tables, with-runner, with-time, with-threads, with-ready, with-clock, with-messages, with-held, in-state, with-ticks, named, live, of-thread, change}
+use Rattle.rules.specs.Tables.{Tables, with-runner, with-time, with-threads, with-ready, with-clock, with-messages, with-held, in-state}
+use Rattle.rules.specs.Tables.{with-ticks, named, live, of-thread, change}
 use Rattle.rules.specs.States.{on-clock, receives, waits-for, awaits}
 use Rattle.rules.specs.Waking.{Outcome, _handing_, wake-those, wake-by-name, wake, notice-of, handed, accepts, queue, deliver, stop}
 use Rattle.rules.specs.Send.{decides, decide}
 use Rattle.rules.specs.Interrupt.{hold, interrupt}
 use Rattle.rules.specs.Tick.{one-more, charge, beat, rotate}
 use Rattle.rules.specs.Dispatch.{run-next, dispatch}
+use Rattle.laws.specs.Words.{State, Running, Ready, Answer, Nothing, Result, Thread, Message, NoRunner, Runs}
 use Rattle.laws.proofs.Tests.{and-left, or-false}
 use Rattle.laws.proofs.Tally.{count-less, keep-none, any-count, zero-any, any-member, member-any, not-any, none-any, map-same}
 
@@ -37,7 +38,8 @@ module _ {A : Type 0} where
   member-place (y ∷ l) x d (List·Memᴰ·tail m) = let r = member-place l x d m in let h = r .1 in (suc (r .0), omega arith, r .2)
 
   -- where one passes at most and a later one passes, the first does not
-  pub first-fails : (p : A → Bool) (x : A) (l : List A) (i : ℕ) (d : A) → count p (x ∷ l) ≤ 1 → i < length l → p (getD l i d) ≡ true → p x ≡ false
+  pub first-fails : (p : A → Bool) (x : A) (l : List A) (i : ℕ) (d : A) → count p (x ∷ l) ≤ 1 → i < length l → p (getD l i d) ≡ true →
+      p x ≡ false
   unfolding count
   first-fails p x l i d c h e = go (p x) c (any-count p l (member-any p l (getD l i d) (getD-member l i d h) e))
     where
@@ -59,14 +61,16 @@ module _ {A : Type 0} where
   map-none p f l h = map-same (λ y. if p y then f y else y) l (λ y m. rw (not-any p l y h m))
 
   -- it is a change at the place of the only one that passes
-  pub map-one : (p : A → Bool) (f : A → A) (l : List A) (i : ℕ) (d : A) → count p l ≤ 1 → i < length l → p (getD l i d) ≡ true → map (λ y. if p y then f y else y) l ≡ set l i (f (getD l i d))
+  pub map-one : (p : A → Bool) (f : A → A) (l : List A) (i : ℕ) (d : A) → count p l ≤ 1 → i < length l → p (getD l i d) ≡ true →
+      map (λ y. if p y then f y else y) l ≡ set l i (f (getD l i d))
   map-one p f [] i d c h e = absurd (omega arith)
   map-one p f (x ∷ l) zero d c h e = rw e (ap (λ (r : List A). f x ∷ r) (map-none p f l (zero-any p l (rest-none p x l c e))))
   map-one p f (x ∷ l) (suc i) d c h e =
       rw (first-fails p x l i d c (omega arith) e) (ap (λ (r : List A). x ∷ r) (map-one p f l i d (rest-once p x l c) (omega arith) e))
 
   -- those that pass are the only one that does
-  pub keep-one : (p : A → Bool) (l : List A) (i : ℕ) (d : A) → count p l ≤ 1 → i < length l → p (getD l i d) ≡ true → keep p l ≡ getD l i d ∷ []
+  pub keep-one : (p : A → Bool) (l : List A) (i : ℕ) (d : A) → count p l ≤ 1 → i < length l → p (getD l i d) ≡ true → keep p l ≡ getD l i d
+      ∷ []
   unfolding keep
   keep-one p [] i d c h e = absurd (omega arith)
   keep-one p (x ∷ l) zero d c h e = rw e (ap (λ (r : List A). x ∷ r) (keep-none p l (rest-none p x l c e)))
@@ -77,7 +81,8 @@ module _ {A : Type 0} where
   any-neither p q l h = none-any (λ y. p y && q y) l (λ y m. rw (not-any p l y h m))
 
   -- whether any passes p and q, where one at most passes p
-  pub any-one : (p q : A → Bool) (l : List A) (i : ℕ) (d : A) → count p l ≤ 1 → i < length l → p (getD l i d) ≡ true → any (λ y. p y && q y) l ≡ q (getD l i d)
+  pub any-one : (p q : A → Bool) (l : List A) (i : ℕ) (d : A) → count p l ≤ 1 → i < length l → p (getD l i d) ≡ true →
+      any (λ y. p y && q y) l ≡ q (getD l i d)
   unfolding any
   any-one p q [] i d c h e = absurd (omega arith)
   any-one p q (x ∷ l) zero d c h e = rw (e, any-neither p q l (zero-any p l (rest-none p x l c e))) (or-none (q x))
@@ -126,22 +131,26 @@ module _ (T : Tables) where
 
 module _ (T : Tables) (once : (n : ℕ) → count (named n) (T .threads) ≤ 1) (i : ℕ) (z : Thread) (inside : i < length (T .threads)) where
   -- A change of the thread of a name is a change at its place.
-  pub change-at : (n : ℕ) (f : Thread → Thread) → named n (getD (T .threads) i z) ≡ true → change n f T ≡ with-threads (set (T .threads) i (f (getD (T .threads) i z))) T
+  pub change-at : (n : ℕ) (f : Thread → Thread) → named n (getD (T .threads) i z) ≡ true →
+      change n f T ≡ with-threads (set (T .threads) i (f (getD (T .threads) i z))) T
   unfolding change
   change-at n f e = ap (λ (l : List Thread). with-threads l T) (map-one (named n) f (T .threads) i z (once n) inside e)
 
   -- Of its name, a look-up gives what the thread at the place says.
-  pub of-at : {A : Type 0} (other : A) (f : Thread → A) (n : ℕ) → named n (getD (T .threads) i z) ≡ true → of-thread other f n (T .threads) ≡ f (getD (T .threads) i z)
+  pub of-at : {A : Type 0} (other : A) (f : Thread → A) (n : ℕ) → named n (getD (T .threads) i z) ≡ true →
+      of-thread other f n (T .threads) ≡ f (getD (T .threads) i z)
   unfolding of-thread
   of-at other f n e = go (T .threads) i (once n) inside e
     where
-      go : (l : List Thread) (j : ℕ) → count (named n) l ≤ 1 → j < length l → named n (getD l j z) ≡ true → of-thread other f n l ≡ f (getD l j z)
+      go : (l : List Thread) (j : ℕ) → count (named n) l ≤ 1 → j < length l → named n (getD l j z) ≡ true →
+          of-thread other f n l ≡ f (getD l j z)
       go [] j c h k = absurd (omega arith)
       go (t ∷ l) zero c h k = rw k
       go (t ∷ l) (suc j) c h k = rw (first-fails (named n) t l j z c (omega arith) k) (go l j (rest-once (named n) t l c) (omega arith) k)
 
   -- To wake those that pass, where the thread at the place alone does, is to wake its name.
-  pub wake-one : (p : Thread → Bool) (a : Answer) → count p (T .threads) ≤ 1 → p (getD (T .threads) i z) ≡ true → wake-by-name p (λ t. a) T ≡ wake (getD (T .threads) i z .name) a T
+  pub wake-one : (p : Thread → Bool) (a : Answer) → count p (T .threads) ≤ 1 → p (getD (T .threads) i z) ≡ true →
+      wake-by-name p (λ t. a) T ≡ wake (getD (T .threads) i z .name) a T
   unfolding wake-those
   wake-one p a c e =
       ap₂ (λ (ns : List ℕ) (l : List Thread). with-ready (T .ready ++ ns) (with-threads l T))
@@ -153,7 +162,8 @@ module _ (T : Tables) (once : (n : ℕ) → count (named n) (T .threads) ≤ 1) 
       x-name = getD (T .threads) i z .name
 
   -- Whether a message is accepted is whether the thread of its receiver's name receives from its sender.
-  pub accepts-at : (m : Message) → named (m .to) (getD (T .threads) i z) ≡ true → any (accepts m) (T .threads) ≡ receives (m .from) (getD (T .threads) i z .state)
+  pub accepts-at : (m : Message) → named (m .to) (getD (T .threads) i z) ≡ true →
+      any (accepts m) (T .threads) ≡ receives (m .from) (getD (T .threads) i z .state)
   accepts-at m e = any-one (named (m .to)) (λ t. receives (m .from) (t .state)) (T .threads) i z (once (m .to)) inside e
 
   -- Whether a word is a decision is whether the thread of that name is trapped on the sender.
@@ -161,16 +171,19 @@ module _ (T : Tables) (once : (n : ℕ) → count (named n) (T .threads) ≤ 1) 
   decides-at me to e = any-one (named to) (awaits me) (T .threads) i z (once to) inside e
 
   -- A word of a device goes to its waiter.
-  pub interrupt-wakes : (d w : ℕ) → count (waits-for d) (T .threads) ≤ 1 → waits-for d (getD (T .threads) i z) ≡ true → interrupt d w T ≡ wake (getD (T .threads) i z .name) (Result w) T
+  pub interrupt-wakes : (d w : ℕ) → count (waits-for d) (T .threads) ≤ 1 → waits-for d (getD (T .threads) i z) ≡ true →
+      interrupt d w T ≡ wake (getD (T .threads) i z .name) (Result w) T
   unfolding interrupt
   interrupt-wakes d w c e =
-      rw (member-any (waits-for d) (T .threads) (getD (T .threads) i z) (getD-member (T .threads) i z inside) e) (wake-one (waits-for d) (Result w) c e)
+      rw (member-any (waits-for d) (T .threads) (getD (T .threads) i z) (getD-member (T .threads) i z inside) e)
+      (wake-one (waits-for d) (Result w) c e)
 
 -- ---- the thread of a name
 
 module _ (T : Tables) (once : (n : ℕ) → count (named n) (T .threads) ≤ 1) where
   -- To wake those of a name that pass a test, where some one does, is to wake the name.
-  pub wake-named : (n : ℕ) (q : Thread → Bool) (a : Answer) → any (λ t. named n t && q t) (T .threads) ≡ true → wake-by-name (λ t. named n t && q t) (λ t. a) T ≡ wake n a T
+  pub wake-named : (n : ℕ) (q : Thread → Bool) (a : Answer) → any (λ t. named n t && q t) (T .threads) ≡ true →
+      wake-by-name (λ t. named n t && q t) (λ t. a) T ≡ wake n a T
   wake-named n q a h =
       let r = any-place (λ t. named n t && q t) (T .threads) h in
       let e : n ≡ getD (T .threads) (r .1) (r .0) .name = eqb-true _ _ (and-left (named n (getD (T .threads) (r .1) (r .0))) _ (r .3)) in
@@ -188,7 +201,8 @@ module _ (T : Tables) (once : (n : ℕ) → count (named n) (T .threads) ≤ 1) 
 pub decide-continues : (T : Tables) → ((n : ℕ) → count (named n) (T .threads) ≤ 1) → (me to : ℕ) → decides me to T ≡ true →
     decide me to 0 T ≡ wake to Nothing (with-messages (keep (λ m. not (notice-of to m)) (T .messages)) T)
 unfolding decide
-decide-continues T once me to h = wake-named (with-messages (keep (λ m. not (notice-of to m)) (T .messages)) T) once to (awaits me) Nothing h
+decide-continues T once me to h =
+    wake-named (with-messages (keep (λ m. not (notice-of to m)) (T .messages)) T) once to (awaits me) Nothing h
 
 -- ---- moves, opened
 
@@ -206,7 +220,8 @@ stop-is me s T = refl
 
 module _ (T : Tables) where
   -- A tick is charged to the runner.
-  pub charge-at : (n s : ℕ) → T .runner ≡ Runs n s → charge T ≡ with-runner (Runs n (s - 1)) (change n (λ t. with-ticks (one-more (t .ticks)) t) T)
+  pub charge-at : (n s : ℕ) → T .runner ≡ Runs n s →
+      charge T ≡ with-runner (Runs n (s - 1)) (change n (λ t. with-ticks (one-more (t .ticks)) t) T)
   unfolding charge
   charge-at n s e = rw e
 
@@ -216,7 +231,9 @@ module _ (T : Tables) where
   charge-none e = rw e
 
   -- The twentieth tick is a beat.
-  pub beat-strikes : T .since + 1 ≡ beat-ticks → beat T ≡ wake-those (λ t. on-clock (t .state)) (λ t. Result (one-more (T .beats))) (T .clock) (with-clock [] (with-time 0 (one-more (T .beats)) T))
+  pub beat-strikes : T .since + 1 ≡ beat-ticks →
+      beat T ≡ wake-those (λ t. on-clock (t .state)) (λ t. Result (one-more (T .beats))) (T .clock)
+      (with-clock [] (with-time 0 (one-more (T .beats)) T))
   unfolding beat
   beat-strikes e = rw (eq-eqb (T .since + 1) beat-ticks e)
 
@@ -255,6 +272,7 @@ module _ (o : Outcome) where
 
   -- With no runner the front of the ready queue runs, and its answer is handed over.
   pub dispatch-front : (n : ℕ) (ns : List ℕ) → o .tables .runner ≡ NoRunner → o .tables .ready ≡ n ∷ ns →
-      dispatch o ≡ (with-runner (Runs n full-slice) (with-ready ns (change n (in-state Running Nothing) (o .tables))) handing of-thread Nothing (λ t. t .answer) n (o .tables .threads))
+      dispatch o ≡ (with-runner (Runs n full-slice) (with-ready ns (change n (in-state Running Nothing) (o .tables)))
+      handing of-thread Nothing (λ t. t .answer) n (o .tables .threads))
   unfolding dispatch run-next
   dispatch-front n ns e q = rw (e, q)

@@ -7,17 +7,17 @@ use native.Mathlib.Nat.{mod-lt}
 use borrow.Author.Tests.{eqb-false}
 use Rattle.rules.specs.Lists.{_==_}
 use Rattle.rules.specs.Numbers.{Limits, names, full-slice, beat-ticks, wrap}
-use Rattle.laws.specs.Words.{Runner, NoRunner, Runs, Event, Malformed, ByRunner, Tick, Interrupt}
 use Rattle.rules.specs.Tables.{Tables, change}
 use Rattle.rules.specs.Waking.{Outcome, wake-those}
 use Rattle.rules.specs.Tick.{charge, beat, rotate, tick}
 use Rattle.rules.specs.Dispatch.{dispatch}
 use Rattle.rules.specs.Events.{decode}
 use Rattle.rules.specs.Step.{act, step}
-use Rattle.laws.proofs.Tests.{by-if, by-runs}
+use Rattle.laws.specs.Words.{Runner, NoRunner, Runs, Event, Malformed, ByRunner, Tick, Interrupt}
 use Rattle.laws.specs.Types.{Inv, Steady}
-use Rattle.laws.proofs.Steps.{by-step, by-dispatch}
 use Rattle.laws.specs.Calm.{is-tick}
+use Rattle.laws.proofs.Tests.{by-if, by-runs}
+use Rattle.laws.proofs.Steps.{by-step, by-dispatch}
 use Rattle.laws.proofs.Calm.{Goes, on, off, Calm, act-calm}
 
 -- ---- slice and time
@@ -32,7 +32,8 @@ no-runner : {r : Runner} {n s : ℕ} → r ≡ NoRunner → r ≡ Runs n s → �
 no-runner a b = let z : _≡_ {A = ℕ} 0 1 = cc in omega arith
 
 calm-timed : {T U : Tables} → Calm T U → Timed T → Timed U
-calm-timed {T} {U} C H = record { slice = goes (C .goes); since = omega (arith, C .since, H .since); beats = omega (arith, C .beats, H .beats) }
+calm-timed {T} {U} C H =
+    record { slice = goes (C .goes); since = omega (arith, C .since, H .since); beats = omega (arith, C .beats, H .beats) }
   where
     goes : Goes T U → (n s : ℕ) → U .runner ≡ Runs n s → (1 ≤ s) × (s ≤ full-slice)
     goes (on a) n s e = H .slice n s (sym a ∙ e)
@@ -49,7 +50,12 @@ unfolding charge
 charge-timed T H =
     by-runs Ticking (T .runner)
     (λ e. record { slice = λ n s i. absurd (no-runner e i); since = H .since; beats = H .beats })
-    (λ n s e. unfold change in record { slice = λ m u i. let q : s - 1 ≡ u = cc in omega (arith, H .slice n s e); since = H .since; beats = H .beats })
+    (λ n s e. unfold change in record {
+      slice = λ m u i. let q : s - 1 ≡ u = cc in
+          omega (arith, H .slice n s e);
+      since = H .since;
+      beats = H .beats;
+    })
 
 beat-timed : (T : Tables) → Ticking T → Ticking (beat T)
 unfolding beat wake-those
@@ -66,7 +72,12 @@ rotate-timed T H =
     (λ n s e.
     by-if Timed (s == 0)
     (λ z. record { slice = λ m u i. absurd (no-runner refl i); since = H .since; beats = H .beats })
-    (λ z. record { slice = λ m u i. let q : s ≡ u = cc in omega (arith, H .slice n s e, eqb-false s 0 z); since = H .since; beats = H .beats }))
+    (λ z. record {
+      slice = λ m u i. let q : s ≡ u = cc in
+          omega (arith, H .slice n s e, eqb-false s 0 z);
+      since = H .since;
+      beats = H .beats;
+    }))
 
 act-timed : (e : Event) (T : Tables) → Timed T → Timed (act T e .tables)
 unfolding is-tick
@@ -81,10 +92,17 @@ dispatch-steady o H =
     by-dispatch Steady o
     (λ n s e. record { slice = H .slice; quiet = λ i. absurd (no-runner i e); since = H .since; beats = H .beats })
     (λ r e. record { slice = H .slice; quiet = λ _. e; since = H .since; beats = H .beats })
-    (λ n q r e. unfold change in record { slice = λ m s i. let k : full-slice ≡ s = cc in omega arith; quiet = λ i. absurd (no-runner i refl); since = H .since; beats = H .beats })
+    (λ n q r e. unfold change in record {
+      slice = λ m s i. let k : full-slice ≡ s = cc in
+          omega arith;
+      quiet = λ i. absurd (no-runner i refl);
+      since = H .since;
+      beats = H .beats;
+    })
 
 -- Every step, accepted or refused, keeps: a slice of 1 to 5 with a runner, nobody ready without one, the beat's numbers in their ranges.
 pub step-steady : {L : Limits} {T : Tables} (bytes : List ℕ) → L .threads < names → Inv L T → Steady T → Steady (step L T bytes .tables)
 step-steady {L} {T} bytes l I S =
     by-step (λ U b. Steady U) L T bytes S
-    (λ _. dispatch-steady (act T (decode bytes)) (act-timed (decode bytes) T (record { slice = S .slice; since = S .since; beats = S .beats })))
+    (λ _. dispatch-steady (act T (decode bytes))
+    (act-timed (decode bytes) T (record { slice = S .slice; since = S .since; beats = S .beats })))

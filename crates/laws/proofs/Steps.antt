@@ -41,7 +41,8 @@ called L T c f = let g = passed _ 2 _ (passed false 1 _ (passed _ 0 _ f .1) .1) 
 
 -- the tables after a step, and whether its event was accepted
 pub by-step : (P : Tables → Bool → Type 0) (L : Limits) (T : Tables) (bytes : List ℕ) →
-    P T false → (refusal L T (decode bytes) ≡ 0 → P (dispatch (act T (decode bytes)) .tables) true) → P (step L T bytes .tables) (refusal L T (decode bytes) == 0)
+    P T false → (refusal L T (decode bytes) ≡ 0 → P (dispatch (act T (decode bytes)) .tables) true) →
+    P (step L T bytes .tables) (refusal L T (decode bytes) == 0)
 unfolding step settle
 by-step P L T bytes f g = go (refusal L T (decode bytes)) refl
   where
@@ -53,7 +54,8 @@ by-step P L T bytes f g = go (refusal L T (decode bytes)) refl
 pub by-dispatch : (P : Tables → Type 0) (o : Outcome) →
     ((n s : ℕ) → o .tables .runner ≡ Runs n s → P (o .tables)) →
     (o .tables .runner ≡ NoRunner → o .tables .ready ≡ [] → P (o .tables)) →
-    ((n : ℕ) (q : List ℕ) → o .tables .runner ≡ NoRunner → o .tables .ready ≡ n ∷ q → P (with-runner (Runs n full-slice) (with-ready q (change n (in-state Running Nothing) (o .tables))))) →
+    ((n : ℕ) (q : List ℕ) → o .tables .runner ≡ NoRunner → o .tables .ready ≡ n ∷ q →
+    P (with-runner (Runs n full-slice) (with-ready q (change n (in-state Running Nothing) (o .tables))))) →
     P (dispatch o .tables)
 unfolding dispatch run-next
 by-dispatch P o a b c = go (o .tables .runner) (o .tables .ready) refl refl

@@ -6,7 +6,8 @@ use mathlib.Core.List.{List, [], _∷_, _++_, map, append-assoc, List·Memᴰ, L
 use native.Mathlib.Omega.{arith}
 use lib.ListN.{length, length-append, drop}
 use Rattle.rules.specs.Lists.{if_then_else_, one-if, all, any, keep, count, insert, each}
-use Rattle.laws.proofs.Tests.{by-if, clash, and-left, and-right, _&_, and-true, and-false, or-left, or-right, one-at-most, one-less, one-kind}
+use Rattle.laws.proofs.Tests.{by-if, clash, and-left, and-right, _&_, and-true, and-false, or-left, or-right, one-at-most, one-less}
+use Rattle.laws.proofs.Tests.{one-kind}
 
 module _ {A : Type 0} where
   -- ---- counts
@@ -25,17 +26,20 @@ module _ {A : Type 0} where
   count-map p f [] = refl
   count-map p f (x ∷ xs) = ap (λ (n : ℕ). one-if (p (f x)) + n) (count-map p f xs)
 
-  pub count-add : (p q r : A → Bool) (xs : List A) → ((x : A) → one-if (p x) ≡ one-if (q x) + one-if (r x)) → count p xs ≡ count q xs + count r xs
+  pub count-add : (p q r : A → Bool) (xs : List A) → ((x : A) → one-if (p x) ≡ one-if (q x) + one-if (r x)) →
+      count p xs ≡ count q xs + count r xs
   unfolding count
   count-add p q r [] h = refl
   count-add p q r (x ∷ xs) h = omega (arith, h x, count-add p q r xs h)
 
-  pub count-le-add : (p q r : A → Bool) (xs : List A) → ((x : A) → one-if (p x) ≤ one-if (q x) + one-if (r x)) → count p xs ≤ count q xs + count r xs
+  pub count-le-add : (p q r : A → Bool) (xs : List A) → ((x : A) → one-if (p x) ≤ one-if (q x) + one-if (r x)) →
+      count p xs ≤ count q xs + count r xs
   unfolding count
   count-le-add p q r [] h = omega arith
   count-le-add p q r (x ∷ xs) h = omega (arith, h x, count-le-add p q r xs h)
 
-  pub count-add-le : (p r q : A → Bool) (xs : List A) → ((x : A) → List·Memᴰ x xs → one-if (p x) + one-if (r x) ≤ one-if (q x)) → count p xs + count r xs ≤ count q xs
+  pub count-add-le : (p r q : A → Bool) (xs : List A) → ((x : A) → List·Memᴰ x xs → one-if (p x) + one-if (r x) ≤ one-if (q x)) →
+      count p xs + count r xs ≤ count q xs
   unfolding count
   count-add-le p r q [] h = omega arith
   count-add-le p r q (x ∷ xs) h = omega (arith, h x (List·Memᴰ·head refl), count-add-le p r q xs (λ y m. h y (List·Memᴰ·tail m)))
@@ -56,9 +60,11 @@ module _ {A : Type 0} where
   count-less p q (x ∷ xs) h = omega (arith, count-less p q xs h, one-less (p x) (q x) (h x))
 
   -- one more passes
-  pub count-strict : (p q : A → Bool) (xs : List A) → ((x : A) → p x ≡ true → q x ≡ true) → (x : A) → List·Memᴰ x xs → p x ≡ false → q x ≡ true → count p xs < count q xs
+  pub count-strict : (p q : A → Bool) (xs : List A) → ((x : A) → p x ≡ true → q x ≡ true) → (x : A) → List·Memᴰ x xs → p x ≡ false →
+      q x ≡ true → count p xs < count q xs
   unfolding count
-  count-strict p q (y ∷ xs) h x (List·Memᴰ·head e) a b = omega (arith, count-less p q xs h, ap one-if (ap p (sym e) ∙ a), ap one-if (ap q (sym e) ∙ b))
+  count-strict p q (y ∷ xs) h x (List·Memᴰ·head e) a b =
+      omega (arith, count-less p q xs h, ap one-if (ap p (sym e) ∙ a), ap one-if (ap q (sym e) ∙ b))
   count-strict p q (y ∷ xs) h x (List·Memᴰ·tail m) a b = omega (arith, count-strict p q xs h x m a b, one-less (p y) (q y) (h y))
 
   pub count-length : (p : A → Bool) (xs : List A) → count p xs ≤ length xs
@@ -81,7 +87,8 @@ module _ {A : Type 0} where
   unfolding count insert
   count-insert p q a [] = refl
   count-insert p q a (x ∷ xs) =
-      by-if (λ (l : List A). count p l ≡ one-if (p a) + count p (x ∷ xs)) (q x) (λ e. omega (arith, count-insert p q a xs)) (λ e. omega arith)
+      by-if (λ (l : List A). count p l ≡ one-if (p a) + count p (x ∷ xs)) (q x) (λ e. omega (arith, count-insert p q a xs))
+      (λ e. omega arith)
 
   pub count-keep : (p k : A → Bool) (xs : List A) → count p (keep k xs) ≡ count (λ x. k x && p x) xs
   unfolding count keep
@@ -177,7 +184,8 @@ module _ {A : Type 0} where
   any-member p [] h = absurd (false≢true h)
   any-member p (x ∷ xs) h = go (p x) refl h (any-member p xs)
     where
-      go : (b : Bool) → p x ≡ b → (b || any p xs) ≡ true → (any p xs ≡ true → (y : A) × List·Memᴰ y xs × (p y ≡ true)) → (y : A) × List·Memᴰ y (x ∷ xs) × (p y ≡ true)
+      go : (b : Bool) → p x ≡ b → (b || any p xs) ≡ true → (any p xs ≡ true → (y : A) × List·Memᴰ y xs × (p y ≡ true)) →
+          (y : A) × List·Memᴰ y (x ∷ xs) × (p y ≡ true)
       go true e i later = (x, List·Memᴰ·head refl, e)
       go false e i later = let r = later i in (r .0, List·Memᴰ·tail (r .1), r .2)
 
@@ -229,7 +237,8 @@ module _ {A : Type 0} where
   -- ---- of those that pass there is one at most
 
   -- two that pass are one
-  pub only-one : (p : A → Bool) (xs : List A) → count p xs ≤ 1 → (x y : A) → List·Memᴰ x xs → List·Memᴰ y xs → p x ≡ true → p y ≡ true → x ≡ y
+  pub only-one : (p : A → Bool) (xs : List A) → count p xs ≤ 1 → (x y : A) → List·Memᴰ x xs → List·Memᴰ y xs → p x ≡ true → p y ≡ true →
+      x ≡ y
   unfolding count
   only-one p (z ∷ xs) h x y (List·Memᴰ·head e) (List·Memᴰ·head f) a b = e ∙ sym f
   only-one p (z ∷ xs) h x y (List·Memᴰ·head e) (List·Memᴰ·tail n) a b =
@@ -253,11 +262,17 @@ module _ {A : Type 0} where
           each-one y n false i = refl
 
   -- and there are as many as f says of it
-  pub count-only : (p f : A → Bool) (xs : List A) → count p xs ≤ 1 → (x : A) → List·Memᴰ x xs → p x ≡ true → count (λ y. p y && f y) xs ≡ one-if (f x)
+  pub count-only : (p f : A → Bool) (xs : List A) → count p xs ≤ 1 → (x : A) → List·Memᴰ x xs → p x ≡ true →
+      count (λ y. p y && f y) xs ≡ one-if (f x)
   count-only p f xs h x m a = go (f x) refl
     where
       go : (b : Bool) → f x ≡ b → count (λ y. p y && f y) xs ≡ one-if b
-      go true e = omega (arith, any-count (λ y. p y && f y) xs (any-only p f xs h x m a ∙ e), count-less (λ y. p y && f y) p xs (λ y k. and-left (p y) _ k))
+      go true e = omega (
+        arith,
+        any-count (λ y. p y && f y) xs (any-only p f xs h x m a ∙ e),
+        count-less (λ y. p y && f y) p xs
+            (λ y k. and-left (p y) _ k),
+      )
       go false e = none-count (λ y. p y && f y) xs (any-only p f xs h x m a ∙ e)
 
 -- ---- a list of each element, one behind the other

@@ -9,21 +9,23 @@ use borrow.Author.Tests.{eqb-true, eq-eqb, ne-eqb, leb-true, le-leb, ltb-true, l
 use Rattle.rules.specs.Lists.{_==_, one-if, all, any, count, times-in, from-on}
 use Rattle.rules.specs.Numbers.{devices}
 use Rattle.rules.specs.Words.{by-runner}
-use Rattle.laws.specs.Words.{State, Running, Ready, Receiving, Clock, Device, Trapped, Thread, Held, Runner, NoRunner, Runs}
 use Rattle.rules.specs.Tables.{Tables, named, live, runs-as}
 use Rattle.rules.specs.States.{is-running, is-ready, on-clock, at-device, waits-for}
 use Rattle.rules.specs.Interrupt.{held-for}
 use Rattle.rules.specs.TableRules.{state-in-range, places-agree, devices-right}
+use Rattle.laws.specs.Words.{State, Running, Ready, Receiving, Clock, Device, Trapped, Thread, Held, Runner, NoRunner, Runs}
+use Rattle.laws.specs.Types.{here, Agree}
 use Rattle.laws.proofs.Tests.{clash, _&_, three, four}
 use Rattle.laws.proofs.Tally.{none-count, none-any, all-of, all-at}
 use Rattle.laws.proofs.Members.{member-times, from-on-mem}
-use Rattle.laws.specs.Types.{here, Agree}
 use Rattle.laws.proofs.Threads.{live-member, here-le, here-live, here-is}
 
 -- ---- "state, runner, ready queue and clock queue agree, each name once"
 
 -- one kind of state, and how often w says that each name has it: right at each thread, and of no other name
-counted : (q : State → Bool) (w : ℕ → ℕ) (ts : List Thread) → ((n : ℕ) → count (named n) ts ≤ 1) → ((t : Thread) → List·Memᴰ t ts → one-if (q (t .state)) ≡ w (t .name)) → ((n : ℕ) → any (named n) ts ≡ false → w n ≡ 0) → (n : ℕ) → here q n ts ≡ w n
+counted : (q : State → Bool) (w : ℕ → ℕ) (ts : List Thread) → ((n : ℕ) → count (named n) ts ≤ 1) →
+    ((t : Thread) → List·Memᴰ t ts → one-if (q (t .state)) ≡ w (t .name)) → ((n : ℕ) → any (named n) ts ≡ false → w n ≡ 0) → (n : ℕ) →
+    here q n ts ≡ w n
 counted q w ts once h z n = go (any (named n) ts) refl
   where
     go : (b : Bool) → any (named n) ts ≡ b → here q n ts ≡ w n
@@ -34,9 +36,11 @@ counted q w ts once h z n = go (any (named n) ts) refl
 
 -- a queue of live names has no other name
 queue-absent : (T : Tables) (Q : List ℕ) → all (λ n. live n T) Q ≡ true → (n : ℕ) → live n T ≡ false → times-in Q n ≡ 0
-queue-absent T Q h n f = none-count (λ m. n == m) Q (none-any (λ m. n == m) Q (λ m i. ne-eqb n m (λ e. clash (all-at (λ x. live x T) Q h m i) (ap (λ (x : ℕ). live x T) (sym e) ∙ f))))
+queue-absent T Q h n f = none-count (λ m. n == m) Q
+    (none-any (λ m. n == m) Q (λ m i. ne-eqb n m (λ e. clash (all-at (λ x. live x T) Q h m i) (ap (λ (x : ℕ). live x T) (sym e) ∙ f))))
 
-runner-absent : (T : Tables) (r : Runner) → by-runner true (λ n s. live n T) r ≡ true → (n : ℕ) → live n T ≡ false → one-if (runs-as n r) ≡ 0
+runner-absent : (T : Tables) (r : Runner) → by-runner true (λ n s. live n T) r ≡ true → (n : ℕ) → live n T ≡ false →
+    one-if (runs-as n r) ≡ 0
 unfolding runs-as
 runner-absent T NoRunner h n f = refl
 runner-absent T (Runs m s) h n f = rw (ne-eqb n m (λ e. clash h (ap (λ (x : ℕ). live x T) (sym e) ∙ f)))
@@ -52,13 +56,18 @@ placed T t =
 pub tested-places : (T : Tables) → ((n : ℕ) → count (named n) (T .threads) ≤ 1) → places-agree T ≡ true → Agree T
 tested-places T once pass = record {
   once = once;
-  run = counted is-running (λ n. one-if (runs-as n (T .runner))) (T .threads) once (λ t m. eqb-true _ _ (agrees t m .0)) (runner-absent T (T .runner) (parts .1));
-  wait = counted is-ready (times-in (T .ready)) (T .threads) once (λ t m. eqb-true _ _ (agrees t m .1)) (queue-absent T (T .ready) (parts .2));
-  beat = counted on-clock (times-in (T .clock)) (T .threads) once (λ t m. eqb-true _ _ (agrees t m .2)) (queue-absent T (T .clock) (parts .3));
+  run = counted is-running (λ n. one-if (runs-as n (T .runner))) (T .threads) once (λ t m. eqb-true _ _ (agrees t m .0))
+      (runner-absent T (T .runner) (parts .1));
+  wait = counted is-ready (times-in (T .ready)) (T .threads) once (λ t m. eqb-true _ _ (agrees t m .1))
+      (queue-absent T (T .ready) (parts .2));
+  beat = counted on-clock (times-in (T .clock)) (T .threads) once (λ t m. eqb-true _ _ (agrees t m .2))
+      (queue-absent T (T .clock) (parts .3));
 }
   where
-    parts : (all (placed T) (T .threads) ≡ true) × (by-runner true (λ n s. live n T) (T .runner) ≡ true) × (all (λ n. live n T) (T .ready) ≡ true) × (all (λ n. live n T) (T .clock) ≡ true)
-    parts = four (all (placed T) (T .threads)) (by-runner true (λ n s. live n T) (T .runner)) (all (λ n. live n T) (T .ready)) (all (λ n. live n T) (T .clock)) pass
+    parts : (all (placed T) (T .threads) ≡ true) × (by-runner true (λ n s. live n T) (T .runner) ≡ true)
+        × (all (λ n. live n T) (T .ready) ≡ true) × (all (λ n. live n T) (T .clock) ≡ true)
+    parts = four (all (placed T) (T .threads)) (by-runner true (λ n s. live n T) (T .runner)) (all (λ n. live n T) (T .ready))
+        (all (λ n. live n T) (T .clock)) pass
 
     agrees : (t : Thread) → List·Memᴰ t (T .threads) →
         ((one-if (is-running (t .state)) == one-if (runs-as (t .name) (T .runner))) ≡ true)
@@ -69,7 +78,8 @@ tested-places T once pass = record {
 queue-live : (q : State → Bool) (T : Tables) (Q : List ℕ) → ((n : ℕ) → here q n (T .threads) ≡ times-in Q n) → all (λ n. live n T) Q ≡ true
 queue-live q T Q h = all-of (λ n. live n T) Q (λ n m. here-live q n (T .threads) (omega (arith, h n, member-times Q n m)))
 
-runner-lives : (T : Tables) (r : Runner) → ((n : ℕ) → here is-running n (T .threads) ≡ one-if (runs-as n r)) → by-runner true (λ n s. live n T) r ≡ true
+runner-lives : (T : Tables) (r : Runner) → ((n : ℕ) → here is-running n (T .threads) ≡ one-if (runs-as n r)) →
+    by-runner true (λ n s. live n T) r ≡ true
 unfolding runs-as
 runner-lives T NoRunner h = refl
 runner-lives T (Runs n s) h = here-live is-running n (T .threads) (omega (arith, h n, ap one-if (eq-eqb n n refl)))
@@ -97,7 +107,9 @@ at-other d (Device e) l h = ne-eqb d e (λ k. omega (arith, ltb-true e devices h
 at-other d (Trapped k) l h = refl
 
 -- Where the test passes, and states and held words are in range, no device has more than one of waiter and held word.
-pub tested-devices : (T : Tables) → ((t : Thread) → List·Memᴰ t (T .threads) → state-in-range (t .state) ≡ true) → ((h : Held) → List·Memᴰ h (T .held) → h .device < devices) → devices-right T ≡ true → (d : ℕ) → count (waits-for d) (T .threads) + count (held-for d) (T .held) ≤ 1
+pub tested-devices : (T : Tables) → ((t : Thread) → List·Memᴰ t (T .threads) → state-in-range (t .state) ≡ true) →
+    ((h : Held) → List·Memᴰ h (T .held) → h .device < devices) → devices-right T ≡ true → (d : ℕ) →
+    count (waits-for d) (T .threads) + count (held-for d) (T .held) ≤ 1
 tested-devices T s h pass d = go (ltb d devices) refl
   where
     go : (b : Bool) → ltb d devices ≡ b → count (waits-for d) (T .threads) + count (held-for d) (T .held) ≤ 1

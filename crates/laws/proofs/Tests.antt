@@ -15,7 +15,8 @@ by-if P true f g = f refl
 by-if P false f g = g refl
 
 -- the same of a value by the runner
-pub by-runs : {A : Type 0} (P : A → Type 0) (r : Runner) {x : A} {f : ℕ → ℕ → A} → (r ≡ NoRunner → P x) → ((n s : ℕ) → r ≡ Runs n s → P (f n s)) → P (by-runner x f r)
+pub by-runs : {A : Type 0} (P : A → Type 0) (r : Runner) {x : A} {f : ℕ → ℕ → A} → (r ≡ NoRunner → P x) →
+    ((n s : ℕ) → r ≡ Runs n s → P (f n s)) → P (by-runner x f r)
 by-runs P NoRunner a b = a refl
 by-runs P (Runs n s) a b = b n s refl
 
@@ -86,7 +87,8 @@ three a b c h = let g = and-left (a && b) c h in (and-left a b g, and-right a b 
 pub four : (a b c d : Bool) → (a && b && c && d) ≡ true → (a ≡ true) × (b ≡ true) × (c ≡ true) × (d ≡ true)
 four a b c d h = let g = three a b c (and-left (a && b && c) d h) in (g .0, g .1, g .2, and-right (a && b && c) d h)
 
-pub six : (a b c d e f : Bool) → (a && b && c && d && e && f) ≡ true → (a ≡ true) × (b ≡ true) × (c ≡ true) × (d ≡ true) × (e ≡ true) × (f ≡ true)
+pub six : (a b c d e f : Bool) → (a && b && c && d && e && f) ≡ true → (a ≡ true) × (b ≡ true) × (c ≡ true) × (d ≡ true) × (e ≡ true)
+    × (f ≡ true)
 six a b c d e f h = let g = three (a && b && c && d) e f h in let k = four a b c d (g .0) in (k .0, k .1, k .2, k .3, g .1, g .2)
 
 -- ---- or, not

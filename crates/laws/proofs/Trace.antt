@@ -22,25 +22,27 @@ use Rattle.rules.specs.Step.{serve, decided, step}
 use Rattle.rules.specs.Runs.{run}
 use Rattle.rules.specs.Benches.{ask}
 use Rattle.rules.specs.TableRules.{table-rules}
-use Rattle.laws.specs.Words.{TrapKind, Program, Tlb, SysBp, State, Running, Ready, Receiving, Clock, Device, Trapped, Nothing, Manager, Unset, Set, Gone, Managers, Parent, NoParent, ParentIs, Thread, Runner, NoRunner, Runs, Named, Call, CreateSon, Terminate, ByRunner}
+use Rattle.laws.specs.Words.{TrapKind, Program, Tlb, SysBp, State, Running, Ready, Receiving, Clock, Device, Trapped, Nothing}
+use Rattle.laws.specs.Words.{Manager, Unset, Set, Gone, Managers, Parent, NoParent, ParentIs, Thread, Runner, NoRunner, Runs, Named}
+use Rattle.laws.specs.Words.{Call, CreateSon, Terminate, ByRunner}
+use Rattle.laws.specs.Types.{Ruled}
+use Rattle.laws.specs.Ending.{Forgotten}
+use Rattle.laws.specs.Requests.{Accepted}
+use Rattle.laws.specs.Comings.{creates}
+use Rattle.laws.specs.Givings.{result, given-by, givings}
 use Rattle.laws.proofs.Tests.{clash, and-false}
 use Rattle.laws.proofs.Tally.{count-insert, none-count, none-any, map-same}
 use Rattle.laws.proofs.Members.{member-has}
-use Rattle.laws.specs.Types.{Ruled}
 use Rattle.laws.proofs.Names.{name-low, name-free}
 use Rattle.laws.proofs.Closure.{joins, rests}
-use Rattle.laws.specs.Ending.{Forgotten}
 use Rattle.laws.proofs.Ending.{freed, missed}
 use Rattle.laws.proofs.EndingKept.{entry-stays}
 use Rattle.laws.proofs.Sound.{tested-ruled}
 use Rattle.laws.proofs.Inboxes.{keep-append, keep-none-of, keep-insert}
 use Rattle.laws.proofs.Rounds.{stops}
-use Rattle.laws.specs.Requests.{Accepted}
 use Rattle.laws.proofs.Requests.{goes-on, kept-all}
 use Rattle.laws.proofs.Said.{requests-say, naming-requests-say}
-use Rattle.laws.specs.Comings.{creates}
 use Rattle.laws.proofs.Comings.{created-lives}
-use Rattle.laws.specs.Givings.{result, given-by, givings}
 use Rattle.laws.proofs.Living.{ruled-names-the-living, named-nowhere}
 
 -- ---- where no name of a set stands in the tables, nobody is concerned, and their ending changes nothing
@@ -69,7 +71,8 @@ module _ {set : List ℕ} {T : Tables} (F : Forgotten set T) where
   module _ (t : Thread) (m : List·Memᴰ t (T .threads)) where
     -- nobody depends on them
     independent : depends set t ≡ false
-    independent = rw (parent (t .parent) refl) (none-any (λ x. awaits x t) set (λ x i. not-eq-not {b = false} .0 (trapped x (member-has set i))))
+    independent =
+        rw (parent (t .parent) refl) (none-any (λ x. awaits x t) set (λ x i. not-eq-not {b = false} .0 (trapped x (member-has set i))))
       where
         parent : (p : Parent) → t .parent ≡ p → by-parent false (λ x. has x set) p ≡ false
         parent NoParent e = refl
@@ -93,7 +96,8 @@ module _ {set : List ℕ} {T : Tables} (F : Forgotten set T) where
     not-missing = not-eq-not {b = false} .0 (λ e. let r = missed set (t .state) e in clash (r .2) (F .wanted t m (r .0) (r .1)))
 
   same-threads : map (without-managers set) (keep (λ t. not (has (t .name) set)) (T .threads)) ≡ T .threads
-  same-threads = ap (map (without-managers set)) (kept (λ t. has (t .name) set) (T .threads) (F .threads)) ∙ map-same (without-managers set) (T .threads) managers-stay
+  same-threads = ap (map (without-managers set)) (kept (λ t. has (t .name) set) (T .threads) (F .threads))
+      ∙ map-same (without-managers set) (T .threads) managers-stay
 
   same-runner : by-runner NoRunner (λ n s. if has n set then NoRunner else Runs n s) (T .runner) ≡ T .runner
   same-runner = go (T .runner) refl
@@ -137,7 +141,8 @@ module _ {L : Limits} {T : Tables} (l : L .threads < names) (R : Ruled L T) (m :
   -- its name is in no place of the tables before
   new-name : Forgotten (n ∷ []) T
   unfolding any
-  new-name = named-nowhere (ruled-names-the-living L T R) (n ∷ []) (λ x h. rw (ne-eqb x n (λ e. clash h (ap (λ y. live y T) e ∙ name-free L T l (R .inv .last) (R .inv .few)))))
+  new-name = named-nowhere (ruled-names-the-living L T R) (n ∷ [])
+      (λ x h. rw (ne-eqb x n (λ e. clash h (ap (λ y. live y T) e ∙ name-free L T l (R .inv .last) (R .inv .few)))))
 
   n-ends : has n (n ∷ []) ≡ true
   n-ends = member-has (n ∷ []) (List·Memᴰ·head refl)
@@ -198,9 +203,11 @@ module _ (L : Limits) (T : Tables) (m s : ℕ) (e : T .runner ≡ Runs m s) (roo
   unfolding given-by result creates create
   son-is-made = (ap (λ x. x .tables) first, rw (first, requests-say .1))
 
-  second : L .threads < names → table-rules L T ≡ true → step L (with-son m T) (ask 3 (next-name T)) ≡ decided 0 (with-last (next-name T) T handing Nothing)
+  second : L .threads < names → table-rules L T ≡ true →
+      step L (with-son m T) (ask 3 (next-name T)) ≡ decided 0 (with-last (next-name T) T handing Nothing)
   unfolding serve terminate
-  second l h = goes-on asked (with-last n T handing Nothing) (ap (λ U. U handing Nothing) (no-trace l (tested-ruled L T h) m)) (unfold create in refl)
+  second l h = goes-on asked (with-last n T handing Nothing) (ap (λ U. U handing Nothing) (no-trace l (tested-ruled L T h) m))
+      (unfold create in refl)
     where
       n : ℕ
       n = next-name T
@@ -209,12 +216,17 @@ module _ (L : Limits) (T : Tables) (m s : ℕ) (e : T .runner ≡ Runs m s) (roo
       free = unfold call-rules first-of ends-nobody in rw (created-lives (ParentIs m) T)
 
       asked : Accepted L (with-son m T) (ask 3 n) (Terminate (Named n))
-      asked = record { asked = says-end T; accepted = ap (refusal L (with-son m T)) (says-end T) ∙ heard L (with-son m T) m s (unfold create in e) (Terminate (Named n)) ∙ free }
+      asked = record {
+        asked = says-end T;
+        accepted = ap (refusal L (with-son m T)) (says-end T)
+            ∙ heard L (with-son m T) m s (unfold create in e) (Terminate (Named n)) ∙ free;
+      }
 
 -- ---- the laws
 
 -- A thread that is made and ended at once leaves no trace but the name given last.
-pub made-and-ended-leaves-no-trace : (L : Limits) (T : Tables) → L .threads < names → table-rules L T ≡ true → (m s : ℕ) → T .runner ≡ Runs m s → length (T .threads) < L .threads →
+pub made-and-ended-leaves-no-trace : (L : Limits) (T : Tables) → L .threads < names → table-rules L T ≡ true → (m s : ℕ) →
+    T .runner ≡ Runs m s → length (T .threads) < L .threads →
     run L T (ask 2 0 ∷ ask 3 (next-name T) ∷ []) ≡ with-last (next-name T) T
 unfolding run
 made-and-ended-leaves-no-trace L T l h m s e room =
@@ -222,7 +234,8 @@ made-and-ended-leaves-no-trace L T l h m s e room =
     ∙ ap (λ x. x .tables) (second L T m s e room l h)
 
 -- Its name is the only one that is given.
-pub made-and-ended-gives-its-name : (L : Limits) (T : Tables) → L .threads < names → table-rules L T ≡ true → (m s : ℕ) → T .runner ≡ Runs m s → length (T .threads) < L .threads →
+pub made-and-ended-gives-its-name : (L : Limits) (T : Tables) → L .threads < names → table-rules L T ≡ true → (m s : ℕ) →
+    T .runner ≡ Runs m s → length (T .threads) < L .threads →
     givings L T (ask 2 0 ∷ ask 3 (next-name T) ∷ []) ≡ next-name T ∷ []
 unfolding givings given-by result creates create
 made-and-ended-gives-its-name L T l h m s e room = rw (first L T m s e room, requests-say .1, second L T m s e room l h, says-end T)

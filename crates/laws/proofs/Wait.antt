@@ -1,4 +1,5 @@
--- The wait of a ready thread: it has been given the processor, or has ended, by the tick number 5 × (threads − 1) accepted after it became ready.
+-- The wait of a ready thread: it has been given the processor, or has ended, by the tick number 5 × (threads − 1) accepted after it
+-- became ready.
 use Prim.Native.Nat.{ℕ, zero, suc, _+_, _-_, _*_, _≤_, _<_}
 use mathlib.Core.Path.{_≡_, refl, ap}
 use mathlib.Core.Bool.{true, false, _&&_, not, false≢true}
@@ -8,8 +9,6 @@ use lib.ListN.{length, replicate, length-map}
 use borrow.Author.Tests.{le-leb, ne-eqb}
 use Rattle.rules.specs.Lists.{_==_, one-if, any, has, times-in}
 use Rattle.rules.specs.Numbers.{Limits, small, names, full-slice}
-use Rattle.laws.specs.Wait.{tick-accepted, ticks-accepted, became-ready, served, served-by}
-use Rattle.laws.specs.Words.{Nothing, Thread, Runner, NoRunner, Runs, Event, Malformed, ByRunner, Tick, Interrupt}
 use Rattle.rules.specs.Tables.{Tables, live, runs-as, start}
 use Rattle.rules.specs.States.{is-running}
 use Rattle.rules.specs.Events.{decode}
@@ -20,12 +19,14 @@ use Rattle.rules.specs.Runs.{Input, run}
 use Rattle.rules.specs.TableRules.{table-rules}
 use Rattle.rules.specs.Opened.{opened}
 use Rattle.rules.specs.Benches.{ask, ticks, sons}
+use Rattle.laws.specs.Words.{Nothing, Thread, Runner, NoRunner, Runs, Event, Malformed, ByRunner, Tick, Interrupt}
+use Rattle.laws.specs.Wait.{tick-accepted, ticks-accepted, became-ready, served, served-by}
+use Rattle.laws.specs.Types.{here, Ruled}
+use Rattle.laws.specs.Calm.{is-tick}
 use Rattle.laws.proofs.Tests.{and-right, _&_, or-left, or-right, one-at-most}
 use Rattle.laws.proofs.Tally.{count-cons, count-map}
-use Rattle.laws.specs.Types.{here, Ruled}
 use Rattle.laws.proofs.Queues.{no-longer, ahead, ahead-less}
 use Rattle.laws.proofs.Threads.{apart}
-use Rattle.laws.specs.Calm.{is-tick}
 use Rattle.laws.proofs.Calm.{slice-left, rank, Nearer, now, over, soon, act-nearer, tick-nearer}
 use Rattle.laws.proofs.Sound.{tested-ruled}
 use Rattle.laws.proofs.Kept.{start-ruled, step-ruled, run-ruled}
@@ -33,7 +34,8 @@ use Rattle.laws.proofs.Kept.{start-ruled, step-ruled, run-ruled}
 -- ---- the rank of a ready thread is at most a full slice for each other thread that there can be
 
 -- who is ready waits for a runner
-pub slice-right : {L : Limits} {T : Tables} (n : ℕ) → Ruled L T → has n (T .ready) ≡ true → (1 ≤ slice-left (T .runner)) × (slice-left (T .runner) ≤ full-slice)
+pub slice-right : {L : Limits} {T : Tables} (n : ℕ) → Ruled L T → has n (T .ready) ≡ true → (1 ≤ slice-left (T .runner))
+    × (slice-left (T .runner) ≤ full-slice)
 unfolding slice-left any
 slice-right {L} {T} n R h = go (T .runner) refl
   where
@@ -50,7 +52,14 @@ ready-few {L} {T} m s R e =
     each : (n : ℕ) → times-in (m ∷ T .ready) n ≤ times-in (map (λ t. t .name) (T .threads)) n
     each n =
         let r : here is-running n (T .threads) ≡ one-if (n == m) = rw e at (R .inv .agree .run n) in
-        omega (arith, count-cons (λ x. n == x) m (T .ready), R .inv .agree .wait n, apart n (T .threads), count-map (λ x. n == x) (λ (t : Thread). t .name) (T .threads))
+        omega (
+          arith,
+          count-cons (λ x. n == x) m (T .ready),
+          R .inv .agree .wait n,
+          apart n (T .threads),
+          count-map (λ x. n == x)
+              (λ (t : Thread). t .name) (T .threads),
+        )
 
 pub rank-most : {L : Limits} {T : Tables} (n : ℕ) → Ruled L T → has n (T .ready) ≡ true → rank n T ≤ full-slice * (L .threads - 1)
 unfolding rank
@@ -63,7 +72,8 @@ rank-most {L} {T} n R h = go (T .runner) refl
 -- ---- one step
 
 -- A step does not raise the rank of a ready thread, and an accepted tick lowers it; unless the thread runs or has ended.
-pub step-nearer : {L : Limits} {T : Tables} (n : ℕ) (bytes : List ℕ) → Ruled L T → has n (T .ready) ≡ true → Nearer n (rank n T - one-if (tick-accepted L T bytes)) (step L T bytes .tables)
+pub step-nearer : {L : Limits} {T : Tables} (n : ℕ) (bytes : List ℕ) → Ruled L T → has n (T .ready) ≡ true →
+    Nearer n (rank n T - one-if (tick-accepted L T bytes)) (step L T bytes .tables)
 unfolding tick-accepted step
 step-nearer {L} {T} n bytes R h = go (refusal L T (decode bytes)) (decode bytes)
   where
@@ -107,7 +117,8 @@ pub rank-served : {L : Limits} (k n : ℕ) (T : Tables) (es : Input) → L .thre
 unfolding ticks-accepted served-by
 rank-served {L} k n T [] l R h le enough = absurd (omega (arith, rank-least n R h))
 rank-served {L} k n T (e ∷ es) l R h le enough =
-    or-right (served n T) _ (le-leb t k (omega (arith, first)) & later (step-nearer n e R h) (rank-served (k - t) n U es l (step-ruled e l R)))
+    or-right (served n T) _ (le-leb t k (omega (arith, first)) & later (step-nearer n e R h)
+    (rank-served (k - t) n U es l (step-ruled e l R)))
   where
     t : ℕ
     t = one-if (tick-accepted L T e)
@@ -132,7 +143,8 @@ wait-ruled : {L : Limits} (n : ℕ) (T : Tables) (es : Input) → L .threads < n
     served-by L (full-slice * (L .threads - 1)) n T es ≡ true
 wait-ruled n T es l R h enough = rank-served _ n T es l R h (rank-most n R h) (omega (arith, rank-most n R h))
 
--- In tables that meet the table rules, whoever is ready is served by the tick number 5 × (threads − 1) accepted from there on, whatever other events come between.
+-- In tables that meet the table rules, whoever is ready is served by the tick number 5 × (threads − 1) accepted from there on, whatever
+-- other events come between.
 pub wait-bound : (L : Limits) (T : Tables) (n : ℕ) (es : Input) → 1 ≤ L .threads → L .threads < names →
     table-rules L T ≡ true → has n (T .ready) ≡ true →
     full-slice * (L .threads - 1) ≤ ticks-accepted L T es →
@@ -146,7 +158,8 @@ pub ready-thread-waits : (L : Limits) → 1 ≤ L .threads → L .threads < name
     served-by L (full-slice * (L .threads - 1)) n (step L (run L start before) e .tables) after ≡ true
 unfolding became-ready
 ready-thread-waits L one l before e after n b enough =
-    wait-ruled n _ after l (step-ruled e l (run-ruled start before l (start-ruled L one))) (and-right (not (has n (run L start before .ready))) _ b) enough
+    wait-ruled n _ after l (step-ruled e l (run-ruled start before l (start-ruled L one)))
+    (and-right (not (has n (run L start before .ready))) _ b) enough
 
 -- Demand 3: a ready thread has been given the processor or has ended by the 95th tick accepted after it became ready.
 pub ready-thread-waits-at-most-95 : (before : Input) (e : List ℕ) (after : Input) (n : ℕ) →
@@ -164,7 +177,8 @@ pub ready-thread-of-64-waits-at-most-315 :
     served-by big 315 n (step big (run big start before) e .tables) after ≡ true
 ready-thread-of-64-waits-at-most-315 = ready-thread-waits _ (omega arith) (omega arith)
 
--- The bound is reached. After P4's 19 sons thread 19 has just become ready; of the 95 ticks that come then, all accepted, 94 are not enough and 95 are.
+-- The bound is reached. After P4's 19 sons thread 19 has just become ready; of the 95 ticks that come then, all accepted, 94 are not
+-- enough and 95 are.
 pub ninety-five-is-reached :
     (became-ready small (run small start (replicate 18 (ask 2 0))) (ask 2 0) 19 ≡ true)
     × (ticks-accepted small (run small start sons) (ticks 95) ≡ 95)

@@ -11,7 +11,9 @@ use Rattle.rules.specs.Ending.{ended-set}
 use Rattle.rules.specs.Send.{decides}
 use Rattle.rules.specs.Receive.{wanted-by}
 use Rattle.rules.specs.Runs.{Input}
-use Rattle.laws.specs.Words.{Wanted, TrapKind, Manager, Unset, Set, Gone, Message, Oneself, Named, Send, Receive, CreateBrother, CreateSon, Terminate, SetManager, GetCpuTime, WaitForClock, WaitForIo, Trap, Event, Malformed, ByRunner, Tick, Interrupt}
+use Rattle.laws.specs.Words.{Wanted, TrapKind, Manager, Unset, Set, Gone, Message, Oneself, Named, Send, Receive, CreateBrother}
+use Rattle.laws.specs.Words.{CreateSon, Terminate, SetManager, GetCpuTime, WaitForClock, WaitForIo, Trap, Event, Malformed, ByRunner}
+use Rattle.laws.specs.Words.{Tick, Interrupt}
 use Rattle.laws.specs.Refusals.{call-is, block-needed}
 use Rattle.laws.specs.Counts.{over-run}
 

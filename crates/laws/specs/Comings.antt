@@ -3,7 +3,8 @@ use Prim.Native.Nat.{ℕ}
 use mathlib.Core.Path.{_≡_}
 use mathlib.Core.Bool.{Bool, true, false}
 use Rattle.rules.specs.Tables.{Tables, live}
-use Rattle.laws.specs.Words.{Send, Receive, CreateBrother, CreateSon, Terminate, SetManager, GetCpuTime, WaitForClock, WaitForIo, Trap, Event, Malformed, ByRunner, Tick, Interrupt}
+use Rattle.laws.specs.Words.{Send, Receive, CreateBrother, CreateSon, Terminate, SetManager, GetCpuTime, WaitForClock, WaitForIo}
+use Rattle.laws.specs.Words.{Trap, Event, Malformed, ByRunner, Tick, Interrupt}
 
 -- request 1 or 2
 unfoldable pub creates : Event → Bool

@@ -11,4 +11,5 @@ use Rattle.laws.specs.Requests.{entry, requester}
 pub data Fate (k : TrapKind) (n : ℕ) (T : Tables) (e : Event) (U : Tables) : Type 0 where
   stays : entry k n (U .threads) ≡ entry k n (T .threads) → Fate k n T e U
   goes : (m : ℕ) → entry k n (T .threads) ≡ Set m → live m U ≡ false → entry k n (U .threads) ≡ Gone → Fate k n T e U
-  is-set : (x : ℕ) → entry k n (T .threads) ≡ Unset → entry k n (U .threads) ≡ Set x → e ≡ ByRunner (SetManager k x) → requester T ≡ n → Fate k n T e U
+  is-set : (x : ℕ) → entry k n (T .threads) ≡ Unset → entry k n (U .threads) ≡ Set x → e ≡ ByRunner (SetManager k x) → requester T ≡ n →
+      Fate k n T e U

@@ -27,8 +27,8 @@ abbrev pub end-of-the-sender : Input
 end-of-the-sender = two-sons ++ (from 1 ∷ ask 3 255 ∷ [])
 
 -- Thread 0 is the desk. It makes the store, 1, and a fetch, 2, and waits for a key of terminal 0 (device 33).
--- The store waits for a question. The fetch asks for revision 40 and waits for the store's answer. The store takes the question and waits for its disk
--- (device 3). Nobody can run.
+-- The store waits for a question. The fetch asks for revision 40 and waits for the store's answer. The store takes the question and waits
+-- for its disk (device 3). Nobody can run.
 abbrev pub asked : Input
 asked = ask 2 0 ∷ ask 2 0 ∷ ask 9 33 ∷ from 255 ∷ to 1 40 ∷ from 1 ∷ ask 9 3 ∷ []
 

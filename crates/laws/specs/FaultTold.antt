@@ -15,7 +15,8 @@ pub record InRange (T : Tables) : Type 0 where
   pub slice : by-runner true (λ n s. ltb n names && leb 1 s && leb s full-slice) (T .runner) ≡ true
   pub answers : all (λ t. answer-in-range (t .answer)) (T .threads) ≡ true
 
--- "a name not live where 01 asks for one": the runner and the queues, parents, names wanted and set, a trapped thread's manager, senders and receivers
+-- "a name not live where 01 asks for one": the runner and the queues, parents, names wanted and set, a trapped thread's manager, senders
+-- and receivers
 pub record Alive (T : Tables) : Type 0 where
   pub runner : by-runner true (λ n s. live n T) (T .runner) ≡ true
   pub ready : all (λ n. live n T) (T .ready) ≡ true

@@ -6,7 +6,9 @@ use mathlib.Core.Bool.{true, false}
 use mathlib.Core.List.{List, [], _∷_, _++_, List·Memᴰ}
 use Rattle.rules.specs.Lists.{any}
 use Rattle.rules.specs.Numbers.{Limits, beat-ticks}
-use Rattle.laws.specs.Words.{TrapKind, State, Ready, Clock, Device, Answer, Nothing, FromMessage, FromNotice, SenderGone, Result, Unset, Thread, Held, Runs, Call, CreateBrother, CreateSon, SetManager, GetCpuTime, WaitForIo, Event, ByRunner, Tick, Interrupt}
+use Rattle.laws.specs.Words.{TrapKind, State, Ready, Clock, Device, Answer, Nothing, FromMessage, FromNotice, SenderGone, Result}
+use Rattle.laws.specs.Words.{Unset, Thread, Held, Runs, Call, CreateBrother, CreateSon, SetManager, GetCpuTime, WaitForIo, Event}
+use Rattle.laws.specs.Words.{ByRunner, Tick, Interrupt}
 use Rattle.rules.specs.Tables.{Tables, live, of-thread, manager, start}
 use Rattle.rules.specs.Interrupt.{held-for}
 use Rattle.rules.specs.Requests.{next-name}
@@ -21,9 +23,11 @@ use Rattle.laws.specs.Late.{Owed, Told}
 pub data ResultOf (T : Tables) (left : List Held) (s : ℕ) : Call → ℕ → Type 0 where
   of-brother : ResultOf T left s CreateBrother (next-name T)
   of-son : ResultOf T left s CreateSon (next-name T)
-  of-manager : {k : TrapKind} {n : ℕ} → of-thread Unset (λ t. manager k (t .managers)) s (T .threads) ≡ Unset → ResultOf T left s (SetManager k n) 0
+  of-manager : {k : TrapKind} {n : ℕ} → of-thread Unset (λ t. manager k (t .managers)) s (T .threads) ≡ Unset →
+      ResultOf T left s (SetManager k n) 0
   of-count : ResultOf T left s GetCpuTime (of-thread 0 (λ t. t .ticks) s (T .threads))
-  of-held : {d : ℕ} (h : Held) → List·Memᴰ h (T .held) → h .device ≡ d → any (held-for d) left ≡ false → ResultOf T left s (WaitForIo d) (h .word)
+  of-held : {d : ℕ} (h : Held) → List·Memᴰ h (T .held) → h .device ≡ d → any (held-for d) left ≡ false →
+      ResultOf T left s (WaitForIo d) (h .word)
 
 -- In tables T the event with these bytes is accepted, is a request of the runner n, and has the result w at once.
 pub record Answers (L : Limits) (T : Tables) (bytes : List ℕ) (n w : ℕ) : Type 0 where
@@ -56,7 +60,8 @@ pub data Woken (L : Limits) : Input → ℕ → ℕ → Type 0 where
 -- After these events, from a start, thread n has asked for the result w in its present life: the last event is its request and has
 -- this result at once, or it waited for the clock or for a device and was woken with it.
 pub data Asked (L : Limits) : Input → ℕ → ℕ → Type 0 where
-  at-once : (es : Input) (e : List ℕ) {n w : ℕ} → Answers L (run L start es) e n w → live n (run L start (es ++ (e ∷ []))) ≡ true → Asked L (es ++ (e ∷ [])) n w
+  at-once : (es : Input) (e : List ℕ) {n w : ℕ} → Answers L (run L start es) e n w → live n (run L start (es ++ (e ∷ []))) ≡ true →
+      Asked L (es ++ (e ∷ [])) n w
   woken : {es : Input} {n w : ℕ} → Woken L es n w → Asked L es n w
 
 -- In tables T the event with these bytes is accepted and wakes thread n with the result w.

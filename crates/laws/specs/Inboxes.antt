@@ -52,7 +52,8 @@ pub data Moves (L : Limits) (T : Tables) (bytes : List ℕ) (n : ℕ) : Type 0 w
   joined : (m : Message) → Sends L T bytes n (handed m) → inbox n (step L T bytes .tables) ≡ inbox n T ++ (m ∷ []) → Moves L T bytes n
   taken : Taken L T bytes n → Moves L T bytes n
   discarded : (x : ℕ) → act T (decode bytes) .tables ≡ end x T →
-      inbox n (step L T bytes .tables) ≡ keep (λ m. not (has (m .to) (ended-set (T .threads) x) || has (m .from) (ended-set (T .threads) x))) (inbox n T) →
+      inbox n (step L T bytes .tables) ≡ keep
+      (λ m. not (has (m .to) (ended-set (T .threads) x) || has (m .from) (ended-set (T .threads) x))) (inbox n T) →
       Moves L T bytes n
   decision : (s q x : ℕ) → T .runner ≡ Runs s q → decode bytes ≡ ByRunner (Send x 0) → decides s x T ≡ true →
       inbox n (step L T bytes .tables) ≡ keep (λ m. not (notice-of x m)) (inbox n T) →
@@ -65,14 +66,16 @@ pub data Passes (L : Limits) (n : ℕ) : Tables → Input → List Message → L
   stays : (T : Tables) (e : List ℕ) (es : Input) {ins outs : List Message} →
       inbox n (step L T e .tables) ≡ inbox n T → Passes L n (step L T e .tables) es ins outs → Passes L n T (e ∷ es) ins outs
   comes : (T : Tables) (e : List ℕ) (es : Input) {ins outs : List Message} (m : Message) → Sends L T e n (handed m) →
-      inbox n (step L T e .tables) ≡ inbox n T ++ (m ∷ []) → Passes L n (step L T e .tables) es ins outs → Passes L n T (e ∷ es) (m ∷ ins) outs
+      inbox n (step L T e .tables) ≡ inbox n T ++ (m ∷ []) → Passes L n (step L T e .tables) es ins outs →
+      Passes L n T (e ∷ es) (m ∷ ins) outs
   goes : (T : Tables) (e : List ℕ) (es : Input) {ins outs : List Message} (X : Taken L T e n) →
       Passes L n (step L T e .tables) es ins outs → Passes L n T (e ∷ es) ins (X .oldest ∷ outs)
 
 -- One of these events ends threads, or is a decision that continues one: these alone discard.
 pub data Discards (L : Limits) : Tables → Input → Type 0 where
   by-ending : (T : Tables) (e : List ℕ) (es : Input) (x : ℕ) → act T (decode e) .tables ≡ end x T → Discards L T (e ∷ es)
-  by-decision : (T : Tables) (e : List ℕ) (es : Input) (s q x : ℕ) → T .runner ≡ Runs s q → decode e ≡ ByRunner (Send x 0) → decides s x T ≡ true → Discards L T (e ∷ es)
+  by-decision : (T : Tables) (e : List ℕ) (es : Input) (s q x : ℕ) → T .runner ≡ Runs s q → decode e ≡ ByRunner (Send x 0) →
+      decides s x T ≡ true → Discards L T (e ∷ es)
   later : (T : Tables) (e : List ℕ) (es : Input) → Discards L (step L T e .tables) es → Discards L T (e ∷ es)
 
 abbrev pub of-sender : ℕ → List Message → List Message

@@ -4,7 +4,8 @@ use mathlib.Core.Path.{_≡_}
 use mathlib.Core.Bool.{Bool, true, false}
 use mathlib.Core.List.{List, [], _∷_, _++_, List·Memᴰ}
 use Rattle.rules.specs.Numbers.{Limits}
-use Rattle.laws.specs.Words.{Only, TrapKind, Receiving, Answer, Nothing, FromMessage, FromNotice, SenderGone, Result, Unset, Set, Thread, Runs, Send, Trap, ByRunner}
+use Rattle.laws.specs.Words.{Only, TrapKind, Receiving, Answer, Nothing, FromMessage, FromNotice, SenderGone, Result, Unset, Set}
+use Rattle.laws.specs.Words.{Thread, Runs, Send, Trap, ByRunner}
 use Rattle.rules.specs.Tables.{Tables, live, of-thread, manager, start}
 use Rattle.rules.specs.Send.{decides}
 use Rattle.rules.specs.Events.{decode}

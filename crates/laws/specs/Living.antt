@@ -8,14 +8,16 @@ use Rattle.rules.specs.Lists.{times-in}
 use Rattle.rules.specs.Tables.{Tables, live, manager}
 use Rattle.laws.specs.Words.{Only, TrapKind, Ready, Receiving, Device, Trapped, Nothing, Set, ParentIs, Thread, Message, Runs}
 
--- Every name in these places is a live thread's: messages, waits, parents, managers and the runner. The answers that are due are not among them.
+-- Every name in these places is a live thread's: messages, waits, parents, managers and the runner. The answers that are due are not
+-- among them.
 pub record NamesTheLiving (T : Tables) : Type 0 where
   -- messages and notices
   pub senders : (m : Message) → List·Memᴰ m (T .messages) → live (m .from) T ≡ true
   pub receivers : (m : Message) → List·Memᴰ m (T .messages) → live (m .to) T ≡ true
   -- waits: for a thread's message, for a manager's decision, for a device, for the clock, for the processor
   pub wanted : (t : Thread) → List·Memᴰ t (T .threads) → (n : ℕ) → t .state ≡ Receiving (Only n) → live n T ≡ true
-  pub awaited : (t : Thread) → List·Memᴰ t (T .threads) → (k : TrapKind) → t .state ≡ Trapped k → (n : ℕ) × (manager k (t .managers) ≡ Set n) × (live n T ≡ true)
+  pub awaited : (t : Thread) → List·Memᴰ t (T .threads) → (k : TrapKind) → t .state ≡ Trapped k →
+      (n : ℕ) × (manager k (t .managers) ≡ Set n) × (live n T ≡ true)
   pub at-devices : (t : Thread) → List·Memᴰ t (T .threads) → (d : ℕ) → t .state ≡ Device d → live (t .name) T ≡ true
   pub on-the-clock : (n : ℕ) → List·Memᴰ n (T .clock) → live n T ≡ true
   pub ready : (n : ℕ) → List·Memᴰ n (T .ready) → live n T ≡ true
@@ -24,7 +26,8 @@ pub record NamesTheLiving (T : Tables) : Type 0 where
   pub managers : (t : Thread) → List·Memᴰ t (T .threads) → (k : TrapKind) (n : ℕ) → manager k (t .managers) ≡ Set n → live n T ≡ true
   pub runner : (n s : ℕ) → T .runner ≡ Runs n s → live n T ≡ true
 
--- Thread n has its own row and its place in the ready queue. No message, wait, parent, manager or runner names it, and no answer is due to it.
+-- Thread n has its own row and its place in the ready queue. No message, wait, parent, manager or runner names it, and no answer is due
+-- to it.
 pub record NotYetNamed (n : ℕ) (T : Tables) : Type 0 where
   pub senders : (m : Message) → List·Memᴰ m (T .messages) → m .from ≢ n
   pub receivers : (m : Message) → List·Memᴰ m (T .messages) → m .to ≢ n

@@ -14,8 +14,8 @@ pub data Reached : List ℕ → ℕ → Type 0 where
   front : {l : List ℕ} → Reached l 0
   behind : {l : List ℕ} {k : ℕ} → whole l ≡ true → Reached (past l) k → Reached l (field-size l + k)
 
--- A complete field begins at an offset: it is reached from field to field, the bytes from there on open with a complete field, and that is listed
--- with this offset.
+-- A complete field begins at an offset: it is reached from field to field, the bytes from there on open with a complete field, and that
+-- is listed with this offset.
 pub record BeginsAt (bytes : List ℕ) (o : ℕ) : Type 0 where
   pub reached : Reached bytes o
   pub all-there : whole (drop o bytes) ≡ true

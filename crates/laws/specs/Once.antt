@@ -5,7 +5,9 @@ use mathlib.Core.List.{List, [], _∷_}
 use Rattle.rules.specs.Lists.{if_then_else_, _==_, any, has, keep, count}
 use Rattle.rules.specs.Numbers.{Limits}
 use Rattle.rules.specs.Words.{by-manager}
-use Rattle.laws.specs.Words.{Answer, Nothing, FromMessage, FromNotice, SenderGone, Result, Message, Send, Receive, CreateBrother, CreateSon, Terminate, SetManager, GetCpuTime, WaitForClock, WaitForIo, Trap, Event, Malformed, ByRunner, Tick, Interrupt, Decision}
+use Rattle.laws.specs.Words.{Answer, Nothing, FromMessage, FromNotice, SenderGone, Result, Message, Send, Receive, CreateBrother}
+use Rattle.laws.specs.Words.{CreateSon, Terminate, SetManager, GetCpuTime, WaitForClock, WaitForIo, Trap, Event, Malformed, ByRunner}
+use Rattle.laws.specs.Words.{Tick, Interrupt, Decision}
 use Rattle.rules.specs.Tables.{Tables, me}
 use Rattle.rules.specs.Waking.{notice-of, accepts}
 use Rattle.rules.specs.Send.{message, decides}
@@ -40,7 +42,8 @@ queues T (Interrupt d w) = []
 -- what an accepted event discards of the messages and notices that wait: those to or from members of the set that it ends, and by the
 -- decision 0 the notice of the thread that it continues
 unfoldable pub discards : Tables → Event → Message → Bool
-discards T e m = is-send (λ to w. decides (me (T .runner)) to T && w == 0 && notice-of to m) e || (has (m .to) (ends T e) || has (m .from) (ends T e))
+discards T e m =
+    is-send (λ to w. decides (me (T .runner)) to T && w == 0 && notice-of to m) e || (has (m .to) (ends T e) || has (m .from) (ends T e))
 
 -- the message or notice that an answer is to its thread
 unfoldable pub as-message : ℕ → Answer → List Message

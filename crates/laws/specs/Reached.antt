@@ -11,6 +11,7 @@ use Rattle.rules.specs.Benches.{ask}
 unfoldable pub made-and-ended : ℕ → ℕ → Input
 made-and-ended n k = each (λ m. ask 2 0 ∷ ask 3 m ∷ []) (from-on n k)
 
--- all but one of the n threads that there can be stay; the last one's place goes round, through the names up to 253, and then one more is made
+-- all but one of the n threads that there can be stay; the last one's place goes round, through the names up to 253, and then one more is
+-- made
 unfoldable pub a-round : ℕ → Input
 a-round n = replicate (n - 2) (ask 2 0) ++ (made-and-ended (n - 1) (names + 1 - n) ++ (ask 2 0 ∷ []))

@@ -9,8 +9,10 @@ use Rattle.rules.specs.Tables.{Tables, live, runs, me}
 use Rattle.rules.specs.States.{waits-for}
 use Rattle.rules.specs.Send.{decides}
 use Rattle.rules.specs.Dispatch.{status}
-use Rattle.rules.specs.Refusals.{Rule, _refuses_, over, is-malformed, needs-runner, wants-nobody, ends-nobody, needs-block, no-block-free, no-thread-free}
-use Rattle.laws.specs.Words.{Wanted, Target, Send, Receive, CreateBrother, CreateSon, Terminate, SetManager, GetCpuTime, WaitForClock, WaitForIo, Trap, Event, Malformed, ByRunner, Tick, Interrupt}
+use Rattle.rules.specs.Refusals.{Rule, _refuses_, over, is-malformed, needs-runner, wants-nobody, ends-nobody, needs-block, no-block-free}
+use Rattle.rules.specs.Refusals.{no-thread-free}
+use Rattle.laws.specs.Words.{Wanted, Target, Send, Receive, CreateBrother, CreateSon, Terminate, SetManager, GetCpuTime, WaitForClock}
+use Rattle.laws.specs.Words.{WaitForIo, Trap, Event, Malformed, ByRunner, Tick, Interrupt}
 
 -- does a rule before number n hold?
 unfoldable pub before : ℕ → List Rule → Bool

@@ -5,7 +5,8 @@ use mathlib.Core.List.{List, [], _∷_}
 use Rattle.rules.specs.Lists.{if_then_else_, any, has, keep, count}
 use Rattle.rules.specs.Numbers.{Limits}
 use Rattle.rules.specs.Words.{by-manager}
-use Rattle.laws.specs.Words.{Thread, Message, Send, Receive, CreateBrother, CreateSon, Terminate, SetManager, GetCpuTime, WaitForClock, WaitForIo, Trap, Event, Malformed, ByRunner, Tick, Interrupt}
+use Rattle.laws.specs.Words.{Thread, Message, Send, Receive, CreateBrother, CreateSon, Terminate, SetManager, GetCpuTime}
+use Rattle.laws.specs.Words.{WaitForClock, WaitForIo, Trap, Event, Malformed, ByRunner, Tick, Interrupt}
 use Rattle.rules.specs.Tables.{Tables, me}
 use Rattle.rules.specs.Send.{message, decides}
 use Rattle.rules.specs.Trap.{notice}
@@ -41,7 +42,8 @@ sent-of p L T es = over-run (λ U e. count p (sends U e)) L T es
 -- handed over by a decision, whatever the event was
 unfoldable pub delivered-of : (Message → Bool) → Limits → Tables → Input → ℕ
 delivered-of p L T [] = 0
-delivered-of p L T (e ∷ es) = count p (as-message (step L T e .decision .runner) (step L T e .decision .answer)) + delivered-of p L (step L T e .tables) es
+delivered-of p L T (e ∷ es) =
+    count p (as-message (step L T e .decision .runner) (step L T e .decision .answer)) + delivered-of p L (step L T e .tables) es
 
 -- discarded from an inbox, or due to a thread that ended
 abbrev pub dropped-by : (Message → Bool) → Tables → Event → ℕ

@@ -9,7 +9,8 @@ use lib.ListN.{length}
 use Rattle.rules.specs.Lists.{one-if, any, count, chain, times-in}
 use Rattle.rules.specs.Numbers.{Limits, names, full-slice, beat-ticks, devices, wrap}
 use Rattle.rules.specs.Words.{by-wanted, by-manager}
-use Rattle.laws.specs.Words.{TrapKind, State, Running, Ready, Receiving, Clock, Device, Trapped, Nothing, Manager, Unset, Set, Gone, Managers, NoParent, ParentIs, Thread, Message, Held, Runner, NoRunner, Runs}
+use Rattle.laws.specs.Words.{TrapKind, State, Running, Ready, Receiving, Clock, Device, Trapped, Nothing, Manager, Unset, Set, Gone}
+use Rattle.laws.specs.Words.{Managers, NoParent, ParentIs, Thread, Message, Held, Runner, NoRunner, Runs}
 use Rattle.rules.specs.Tables.{Tables, named, manager, runs-as}
 use Rattle.rules.specs.States.{is-running, is-ready, on-clock, waits-for, awaits}
 use Rattle.rules.specs.Waking.{is-ordinary, notice-of}
@@ -81,7 +82,8 @@ pub record Post (ts : List Thread) (m : Message) : Type 0 where
 pub record Family (ts : List Thread) : Type 0 where
   pub depth : ℕ → ℕ
   pub root : (t : Thread) → List·Memᴰ t ts → t .name ≡ 0 → t .parent ≡ NoParent
-  pub under : (t : Thread) → List·Memᴰ t ts → t .name ≢ 0 → (p : ℕ) × (t .parent ≡ ParentIs p) × (any (named p) ts ≡ true) × (depth p < depth (t .name))
+  pub under : (t : Thread) → List·Memᴰ t ts → t .name ≢ 0 → (p : ℕ) × (t .parent ≡ ParentIs p) × (any (named p) ts ≡ true)
+      × (depth p < depth (t .name))
 
 -- b: the blocks that there are
 pub record Good (b : ℕ) (ts : List Thread) (ms : List Message) (hs : List Held) : Type 0 where

@@ -31,4 +31,5 @@ served n T = runs-as n (T .runner) || not (live n T)
 -- n is served now, or after some further event that comes no later than the k-th accepted tick
 unfoldable pub served-by : Limits → ℕ → ℕ → Tables → Input → Bool
 served-by L k n T [] = served n T
-served-by L k n T (e ∷ es) = let t = one-if (tick-accepted L T e) in served n T || (leb t k && served-by L (k - t) n (step L T e .tables) es)
+served-by L k n T (e ∷ es) = let t =
+    one-if (tick-accepted L T e) in served n T || (leb t k && served-by L (k - t) n (step L T e .tables) es)

@@ -24,7 +24,8 @@ pub use Rattle.rules.specs.declared.Status.the-variants.{Running as Working, Id
 pub use Rattle.rules.specs.declared.Target.{Target}
 pub use Rattle.rules.specs.declared.Target.the-variants.{Oneself, Named}
 pub use Rattle.rules.specs.declared.Call.{Call}
-pub use Rattle.rules.specs.declared.Call.the-variants.{Send, Receive, CreateBrother, CreateSon, Terminate, SetManager, GetCpuTime, WaitForClock, WaitForIo, Trap}
+pub use Rattle.rules.specs.declared.Call.the-variants.{Send, Receive, CreateBrother, CreateSon, Terminate, SetManager, GetCpuTime}
+pub use Rattle.rules.specs.declared.Call.the-variants.{WaitForClock, WaitForIo, Trap}
 pub use Rattle.rules.specs.declared.Event.{Event}
 pub use Rattle.rules.specs.declared.Event.the-variants.{Malformed, ByRunner, Tick, Interrupt}
 pub use Rattle.rules.specs.declared.Decision.{Decision}

@@ -1,5 +1,5 @@
--- Determinacy on a lent memory: any two results that a public operation's promise allows agree, in decision and in dump. By value too: what is
--- promised of a struct is promised of its words. The promises of check and dump are equalities.
+-- Determinacy on a lent memory: any two results that a public operation's promise allows agree, in decision and in dump. By value too:
+-- what is promised of a struct is promised of its words. The promises of check and dump are equalities.
 use Prim.Native.Nat.{ℕ}
 use mathlib.Core.Path.{_≡_, refl, sym, ap, _∙_}
 use mathlib.Core.Logic.{_≢_}
@@ -37,7 +37,8 @@ module _ {m bytes a b : List ℕ} {d e : Decision} (p : Answered m bytes a d) (q
 
   -- Any two results of a step that its promise allows agree: in the decision; in the tables and their dump, where what is lent is valid; in
   -- every word, where it is not.
-  pub step-in-determined : (d ≡ e) × (valid m ≡ true → (tables a ≡ tables b) × (dump (tables a) ≡ dump (tables b))) × (valid m ≡ false → a ≡ b)
+  pub step-in-determined : (d ≡ e) × (valid m ≡ true → (tables a ≡ tables b) × (dump (tables a) ≡ dump (tables b)))
+      × (valid m ≡ false → a ≡ b)
   step-in-determined = (
     decision-determined,
     (λ v. let same = determined (p .leaves v .1) (q .leaves v .1) in (same, ap dump same)),
@@ -58,11 +59,12 @@ unfolding stands
 lent-dump-tells a b v w e =
     dump-tells small (tables a) (tables b) (and-right (shaped small a) _ v) (and-right (shaped small b) _ w) e
 
--- Any two results of load_value that its promise allows agree: in the refusal and the offset; in the tables and their dump, where the bytes are accepted; in
--- every word, where they are not.
+-- Any two results of load_value that its promise allows agree: in the refusal and the offset; in the tables and their dump, where the
+-- bytes are accepted; in every word, where they are not.
 pub load-value-determined : (t : Lent) (bytes : List ℕ) (l k : Loaded) →
     Loads (t .words) bytes (l .tables .words) (l .verdict) → Loads (t .words) bytes (k .tables .words) (k .verdict) →
     (l .verdict ≡ k .verdict)
-    × (l .verdict .refusal ≡ 0 → (tables (l .tables .words) ≡ tables (k .tables .words)) × (dump (tables (l .tables .words)) ≡ dump (tables (k .tables .words))))
+    × (l .verdict .refusal ≡ 0 → (tables (l .tables .words) ≡ tables (k .tables .words))
+    × (dump (tables (l .tables .words)) ≡ dump (tables (k .tables .words))))
     × (l .verdict .refusal ≢ 0 → l .tables .words ≡ k .tables .words)
 load-value-determined t bytes l k p q = load-in-determined (t .words) bytes _ _ _ _ p q

@@ -31,4 +31,5 @@ module _ (m before : List ℕ) where
     pub written : (n : ℕ) (after : List ℕ) → length (dump (tables m)) ≤ length before → Puts (dump (tables m)) before after n →
         Answers m before (record { refusal = 0; length = n }) after
     unfolding dumped buffer-after
-    written n after fits p = (rw (v, le-leb _ _ fits) (λ j. record { refusal = 0; length = p .counts j }), rw (v, le-leb _ _ fits) (p .shows))
+    written n after fits p =
+        (rw (v, le-leb _ _ fits) (λ j. record { refusal = 0; length = p .counts j }), rw (v, le-leb _ _ fits) (p .shows))

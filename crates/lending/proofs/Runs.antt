@@ -58,7 +58,8 @@ module _ {es : Input} {m : List ℕ} (s : Series es m) where
       became-ready small (tables m) e n ≡ true → 95 ≤ ticks-accepted small (tables m′) after → served-by small 95 n (tables m′) after ≡ true
   waits-at-most-95 e m′ d a after n b t =
       let i = stands-for-the-run s in
-      let now : tables m′ ≡ step small (run small start es) e .tables = a .leaves (i .0) .1 ∙ ap (λ (T : Tables). step small T e .tables) (i .1) in
+      let now : tables m′ ≡ step small (run small start es) e .tables =
+      a .leaves (i .0) .1 ∙ ap (λ (T : Tables). step small T e .tables) (i .1) in
       subst (λ (T : Tables). served-by small 95 n T after ≡ true) (sym now)
       (ready-thread-waits-at-most-95 es e after n
       (subst (λ (T : Tables). became-ready small T e n ≡ true) (i .1) b)
@@ -69,4 +70,5 @@ module _ {es : Input} {m : List ℕ} (s : Series es m) where
       (status (tables m) ≡ Panicked) ↔ ((os : List Event) → all from-outside os ≡ true → some-ready (outside (tables m) os) ≡ false)
   panics-exactly r some =
       let i = stands-for-the-run s in
-      panicked-exactly small (tables m) (subst (λ (T : Tables). table-rules small T ≡ true) (sym (i .1)) (rules-hold-in-runs small es (omega arith) (omega arith))) r some
+      panicked-exactly small (tables m)
+      (subst (λ (T : Tables). table-rules small T ≡ true) (sym (i .1)) (rules-hold-in-runs small es (omega arith) (omega arith))) r some

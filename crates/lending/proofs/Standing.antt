@@ -26,8 +26,17 @@ unfolding stands
 checked m e =
     let s : shaped small m ≡ true = and-left (shaped small m) _ e in
     let l : limits m ≡ small = own-limits small m s in
-    let r : Ruled (limits m) (tables m) = rw l (tested-ruled small (tables m) (and-right (shaped small m) _ e)) in
-    (record { holding = record { shaped = shaped-right small m s (omega arith) (omega arith); rising = r .fits .rising; once = r .inv .agree .once }; ruled = r }, l)
+    let r : Ruled (limits m) (tables m) = rw l (tested-ruled small (tables m) (and-right (shaped small m) _ e)) in (
+      record {
+        holding = record {
+          shaped = shaped-right small m s (omega arith) (omega arith);
+          rising = r .fits .rising;
+          once = r .inv .agree .once;
+        };
+        ruled = r;
+      },
+      l,
+    )
 
 -- and one that stands with these limits passes
 pub passes : (m : List ℕ) → AtRest m → limits m ≡ small → stands small m ≡ true
@@ -44,7 +53,8 @@ refused-11 e h = record {
 }
 
 -- a step on what stands
-pub stepped : {m bytes m′ : List ℕ} {d : Decision} → stands small m ≡ true → Steps m m′ d (step (limits m) (tables m) bytes) → Answered m bytes m′ d
+pub stepped : {m bytes m′ : List ℕ} {d : Decision} → stands small m ≡ true → Steps m m′ d (step (limits m) (tables m) bytes) →
+    Answered m bytes m′ d
 stepped {m} {bytes} {m′} v S =
     let e : limits m ≡ small = checked m v .1 in
     record {

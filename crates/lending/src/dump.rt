@@ -15,7 +15,8 @@ fn refused(refusal: u8) -> Dumped
 
 // In place.
 pub fn dump_in(m: &[u32], out: &mut [u8]) -> Dumped
-    ensures { λ d. ⌜ (d ≡ dumped (now (m .entry)) (length (now (out .entry)))) × (now (out .exit) ≡ buffer-after (now (m .entry)) (now (out .entry))) ⌝ }
+    ensures { λ d. ⌜ (d ≡ dumped (now (m .entry)) (length (now (out .entry))))
+        × (now (out .exit) ≡ buffer-after (now (m .entry)) (now (out .entry))) ⌝ }
 {
     if !check::check(m) {
         return refused(11);
@@ -29,7 +30,8 @@ pub fn dump_in(m: &[u32], out: &mut [u8]) -> Dumped
 
 // The same by value.
 pub fn dump_value(t: Tables, out: &mut [u8]) -> Dumped
-    ensures { λ d. ⌜ (d ≡ dumped (t .words) (length (now (out .entry)))) × (now (out .exit) ≡ buffer-after (t .words) (now (out .entry))) ⌝ }
+    ensures { λ d. ⌜ (d ≡ dumped (t .words) (length (now (out .entry))))
+        × (now (out .exit) ≡ buffer-after (t .words) (now (out .entry))) ⌝ }
 {
     let words = t.words;
     dump_in(&words, out)

@@ -1,4 +1,5 @@
-// The public operations on lent tables: a memory of any length and contents gets its answer. Reading a dump in place is loading::load::load_in.
+// The public operations on lent tables: a memory of any length and contents gets its answer. Reading a dump in place is
+// loading::load::load_in.
 pub mod check;
 pub mod dump;
 pub mod load;

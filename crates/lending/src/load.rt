@@ -1,4 +1,5 @@
-// Reading a dump into lent tables, by value. Nothing looks at the tables that came: they are handed in so that a refused reading gives them back.
+// Reading a dump into lent tables, by value. Nothing looks at the tables that came: they are handed in so that a refused reading gives
+// them back.
 use crate::Loaded;
 use crate::Tables;
 ghost use Rattle.loading.specs.Loading.{Loads};

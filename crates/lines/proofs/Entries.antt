@@ -116,7 +116,8 @@ module _ (d : ℕ) (hs : List Held) where
 
   pub word-few : length (each held-line (held-at d hs)) ≤ 64
   unfolding held-at each
-  word-few = by-if (λ (l : List Held). length (each held-line l) ≤ 64) (any (held-for d) hs) (λ e. one-few held-line held-few _) (λ e. omega arith)
+  word-few =
+      by-if (λ (l : List Held). length (each held-line l) ≤ 64) (any (held-for d) hs) (λ e. one-few held-line held-few _) (λ e. omega arith)
 
 -- ---- names behind a tag
 

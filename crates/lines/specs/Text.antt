@@ -42,7 +42,8 @@ last-line Idle = 83 ∷ 89 ∷ 83 ∷ 84 ∷ 69 ∷ 77 ∷ 32 ∷ 85 ∷ 80 ∷ 
 -- ---- a dump for people: a line for each field, the tag and then its values
 
 abbrev pub head-line : Tables → List ℕ
-head-line T = numbers-line (head-tag ∷ status-code (status T) ∷ T .last ∷ me (T .runner) ∷ slice-code (T .runner) ∷ T .since ∷ T .beats ∷ [])
+head-line T =
+    numbers-line (head-tag ∷ status-code (status T) ∷ T .last ∷ me (T .runner) ∷ slice-code (T .runner) ∷ T .since ∷ T .beats ∷ [])
 
 abbrev pub thread-line : Thread → List ℕ
 thread-line t =

@@ -50,8 +50,10 @@ module _ (a b : List ℕ) (n : ℕ) where
   more : (l : List ℕ) (i : ℕ) → i < length l → take (i + 1) l ≡ take i l ++ (getD l i 0 ∷ [])
   more l i k = ap (λ (j : ℕ). take j l) (add-one i) ∙ take-suc l i 0 k
 
-  longer : (i : ℕ) → n ≤ length a → length b ≡ n → i < n → same (take (i + 1) a) (take (i + 1) b) ≡ same (take i a ++ (getD a i 0 ∷ [])) (take i b ++ (getD b i 0 ∷ []))
-  longer i w l h = ap (λ (z : List ℕ). same z (take (i + 1) b)) (more a i (omega arith)) ∙ ap (λ (z : List ℕ). same (take i a ++ (getD a i 0 ∷ [])) z) (more b i (omega arith))
+  longer : (i : ℕ) → n ≤ length a → length b ≡ n → i < n →
+      same (take (i + 1) a) (take (i + 1) b) ≡ same (take i a ++ (getD a i 0 ∷ [])) (take i b ++ (getD b i 0 ∷ []))
+  longer i w l h = ap (λ (z : List ℕ). same z (take (i + 1) b)) (more a i (omega arith))
+      ∙ ap (λ (z : List ℕ). same (take i a ++ (getD a i 0 ∷ [])) z) (more b i (omega arith))
 
   pub alike-next : (i : ℕ) (good : Bool) → Alike a b n i good → i < n → getD a i 0 ≡ getD b i 0 → Alike a b n (i + 1) good
   alike-next i good A h e = record {

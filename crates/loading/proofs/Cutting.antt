@@ -61,8 +61,10 @@ field-within tag size bytes at o = omega (arith, opens-room tag size (drop at by
 
 -- ---- a row of fields
 
--- Up to place `at` n fields were read: where the bytes are the fields of a row that is fine and something behind them, they gave the first of it.
-pub record Cut {A : Type 0} (most tag : ℕ) (value : A → List ℕ) (fine : List A → Type 0) (bytes : List ℕ) (from : ℕ) (row : List A) (n at : ℕ) : Type 0 where
+-- Up to place `at` n fields were read: where the bytes are the fields of a row that is fine and something behind them, they gave the
+-- first of it.
+pub record Cut {A : Type 0} (most tag : ℕ) (value : A → List ℕ) (fine : List A → Type 0) (bytes : List ℕ) (from : ℕ) (row : List A)
+    (n at : ℕ) : Type 0 where
   pub few : n ≤ most
   pub within : at ≤ length bytes
   pub so : (xs : List A) (rest : List ℕ) → length xs ≤ most → fine xs → starts tag rest ≡ false
@@ -70,7 +72,8 @@ pub record Cut {A : Type 0} (most tag : ℕ) (value : A → List ℕ) (fine : Li
       → (ys : List A) × (row ++ ys ≡ xs) × (length row ≡ n) × (drop at bytes ≡ each (λ x. field tag (value x)) ys ++ rest)
 
 module _ {A : Type 0} (most tag size : ℕ) (value : A → List ℕ) (back : List ℕ → A) (fine : List A → Type 0)
-    (sized : (x : A) → length (value x) ≡ size) (short : size < 256) (backs : (xs : List A) → fine xs → (x : A) → List·Memᴰ x xs → back (value x) ≡ x) where
+    (sized : (x : A) → length (value x) ≡ size) (short : size < 256) (backs : (xs : List A) → fine xs → (x : A) → List·Memᴰ x xs →
+    back (value x) ≡ x) where
   -- the first field of a row, and the others behind it
   first : (s : List ℕ) (y : A) (ys : List A) (rest : List ℕ) → s ≡ each (λ x. field tag (value x)) (y ∷ ys) ++ rest
       → s ≡ field tag (value y) ++ (each (λ x. field tag (value x)) ys ++ rest)
@@ -78,7 +81,8 @@ module _ {A : Type 0} (most tag size : ℕ) (value : A → List ℕ) (back : Lis
   first s y ys rest e = e ∙ append-assoc (field tag (value y)) (each (λ x. field tag (value x)) ys) rest
 
   -- fields that do not open are none
-  none-left : (s : List ℕ) (ys : List A) (rest : List ℕ) → opens tag size s ≡ false → s ≡ each (λ x. field tag (value x)) ys ++ rest → ys ≡ []
+  none-left : (s : List ℕ) (ys : List A) (rest : List ℕ) → opens tag size s ≡ false → s ≡ each (λ x. field tag (value x)) ys ++ rest →
+      ys ≡ []
   none-left s [] rest o e = refl
   none-left s (y ∷ ys) rest o e =
       let behind = each (λ x. field tag (value x)) ys ++ rest in
@@ -95,7 +99,8 @@ module _ {A : Type 0} (most tag size : ℕ) (value : A → List ℕ) (back : Lis
 
   module _ (bytes : List ℕ) (from : ℕ) where
     pub cut-starts : (row : List A) → row ≡ [] → from ≤ length bytes → Cut most tag value fine bytes from row 0 from
-    cut-starts row e k = record { few = omega arith; within = k; so = λ xs rest l f s g. (xs, ap (λ (r : List A). r ++ xs) e, ap length e, g) }
+    cut-starts row e k =
+        record { few = omega arith; within = k; so = λ xs rest l f s g. (xs, ap (λ (r : List A). r ++ xs) e, ap length e, g) }
 
     -- what was read is the first of those that are left
     next-is : (row : List A) (at : ℕ) (x : A) (xs ys : List A) (rest : List ℕ) → opens tag size (drop at bytes) ≡ true
@@ -107,18 +112,21 @@ module _ {A : Type 0} (most tag size : ℕ) (value : A → List ℕ) (back : Lis
     next-is row at x xs (y ∷ zs) rest o e f s p q =
         let r = one-read (drop at bytes) y zs rest q in
         let on : at + (size + 3) ≡ at + 3 + size = omega arith in
-        let same : x ≡ y = e ∙ ap back (ap (take size) (sym (drop-drop 3 at bytes)) ∙ r .0) ∙ backs xs f y (rw (← p) (Memᴰ·append-right row (List·Memᴰ·head refl))) in (
+        let same : x ≡ y = e ∙ ap back (ap (take size) (sym (drop-drop 3 at bytes)) ∙ r .0)
+        ∙ backs xs f y (rw (← p) (Memᴰ·append-right row (List·Memᴰ·head refl))) in (
           zs,
           ap (λ (z : A). row ++ z ∷ zs) same ∙ p,
           ap (λ (k : ℕ). drop k bytes) on ∙ sym (drop-drop size (at + 3) bytes) ∙ ap (drop size) (sym (drop-drop 3 at bytes)) ∙ r .1,
         )
 
     -- as the slice between two places says it
-    exact : (at : ℕ) (x : A) → x ≡ back (take (at + (size + 3) - (at + 3)) (drop (at + 3) bytes)) → x ≡ back (take size (drop (at + 3) bytes))
+    exact : (at : ℕ) (x : A) → x ≡ back (take (at + (size + 3) - (at + 3)) (drop (at + 3) bytes)) →
+        x ≡ back (take size (drop (at + 3) bytes))
     exact at x e = let k : at + (size + 3) - (at + 3) ≡ size = omega arith in e ∙ ap (λ (m : ℕ). back (take m (drop (at + 3) bytes))) k
 
     -- One more field was read. The row with its element is the row and then the element, where the fields are those of a row that is fine.
-    pub cut-next : (row row′ : List A) (n at : ℕ) (x : A) → Cut most tag value fine bytes from row n at → n < most → opens tag size (drop at bytes) ≡ true
+    pub cut-next : (row row′ : List A) (n at : ℕ) (x : A) → Cut most tag value fine bytes from row n at → n < most →
+        opens tag size (drop at bytes) ≡ true
         → x ≡ back (take (at + (size + 3) - (at + 3)) (drop (at + 3) bytes))
         → ((xs zs : List A) → fine xs → row ++ x ∷ zs ≡ xs → row′ ≡ row ++ (x ∷ []))
         → Cut most tag value fine bytes from row′ (n + 1) (at + (size + 3))
@@ -147,7 +155,8 @@ module _ {A : Type 0} (most tag size : ℕ) (value : A → List ℕ) (back : Lis
     pub cut-ends : (row : List A) (n at : ℕ) → Cut most tag value fine bytes from row n at → opens tag size (drop at bytes) ≡ false
         → RowRead most tag value fine (drop from bytes) row (drop at bytes)
     cut-ends row n at C o = record {
-      reads = λ xs rest l f s g. let r = C .so xs rest l f s g in at-end row at (r .0) xs rest (ap length (none-left (drop at bytes) (r .0) rest o (r .3))) (r .1) (r .3);
+      reads = λ xs rest l f s g. let r =
+          C .so xs rest l f s g in at-end row at (r .0) xs rest (ap length (none-left (drop at bytes) (r .0) rest o (r .3))) (r .1) (r .3);
     }
 
     -- no further room
@@ -179,7 +188,8 @@ module _ (tag : ℕ) (bytes : List ℕ) (from : ℕ) where
 
   -- bytes that start with no such field
   pub names-short : length bytes - from < 3 → NamesCounted tag bytes from 255
-  names-short h = record { whole = λ k. absurd (omega arith); counts = λ q rest l e. absurd (omega (arith, ap length e, length-drop from bytes)) }
+  names-short h =
+      record { whole = λ k. absurd (omega arith); counts = λ q rest l e. absurd (omega (arith, ap length e, length-drop from bytes)) }
 
   pub names-many : 20 < getD bytes (from + 2) 0 → NamesCounted tag bytes from 255
   names-many h = record { whole = λ k. absurd (omega arith); counts = λ q rest l e. absurd (omega (arith, many q rest l e)) }
@@ -199,7 +209,8 @@ module _ (tag : ℕ) (bytes : List ℕ) (from : ℕ) where
     pub names-none : 20 < n → NamesRead tag (drop from bytes) false names (drop from bytes)
     names-none h = record { reads = λ q rest l e. absurd (omega (arith, C .counts q rest l e)) }
 
-    pub names-read : names ≡ take (from + 3 + n - (from + 3)) (drop (from + 3) bytes) → NamesRead tag (drop from bytes) true names (drop (from + 3 + n) bytes)
+    pub names-read : names ≡ take (from + 3 + n - (from + 3)) (drop (from + 3) bytes) →
+        NamesRead tag (drop from bytes) true names (drop (from + 3 + n) bytes)
     names-read k = record {
       reads = λ q rest l e.
           let long : length q ≡ n = sym (C .counts q rest l e) in

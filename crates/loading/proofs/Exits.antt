@@ -1,5 +1,5 @@
--- The exits of reading: sound, since what is accepted meets the rules and is written as those bytes again; complete, since the first stage finds
--- the tables whose dump the bytes are.
+-- The exits of reading: sound, since what is accepted meets the rules and is written as those bytes again; complete, since the first
+-- stage finds the tables whose dump the bytes are.
 use Prim.Native.Nat.{ℕ, _≤_}
 use mathlib.Core.Path.{_≡_, refl, sym, ap, _∙_}
 use mathlib.Core.Bool.{Bool, true, false}
@@ -66,7 +66,8 @@ module _ {bytes m : List ℕ} {good : Bool} (F : Found bytes m good) where
   -- a stage failed: the bytes are the dump of no tables
   refused : ((T : Tables) → table-rules small T ≡ true → dump T ≡ bytes → good ≡ true → tables m ≡ T → Small m → ⊥) → Accepts bytes m false
   refused never = record {
-    takes = λ T e. let d = load-is-dump small bytes T e in let g = F .finds T (d .0) (d .1) in absurd (never T (d .0) (d .1) (g .0) (g .1) (g .2));
+    takes = λ T e. let d = load-is-dump small bytes T e in let g = F .finds T (d .0) (d .1) in
+        absurd (never T (d .0) (d .1) (g .0) (g .1) (g .2));
     refuses = λ _. refl;
   }
 
@@ -126,13 +127,18 @@ module _ {bytes w : List ℕ} {good : Bool} (A : Accepts bytes w good) where
       never T e = let z : _≡_ {A = ℕ} 0 1 = cc in omega arith
 
   -- the words copied to the front of it
-  pub copied : (m m′ : List ℕ) → good ≡ true → length w ≡ 656 → m′ ≡ w ++ drop (length w) m → Loads m bytes m′ (record { refusal = 0; offset = 0 })
+  pub copied : (m m′ : List ℕ) → good ≡ true → length w ≡ 656 → m′ ≡ w ++ drop (length w) m →
+      Loads m bytes m′ (record { refusal = 0; offset = 0 })
   unfolding verdict verdict-on
   copied m m′ g l c =
       let r = good-reads g in
       record {
         decides = sym (ap (verdict-on bytes) (r .0));
-        leaves = λ T e. (ap (stands small) c ∙ stands-front w (drop (length w) m) (r .1) l, ap tables c ∙ tables-front w (drop (length w) m) (r .1) l ∙ told T (sym (r .0) ∙ e));
+        leaves = λ T e. (
+          ap (stands small) c ∙ stands-front w (drop (length w) m) (r .1) l,
+          ap tables c
+              ∙ tables-front w (drop (length w) m) (r .1) l ∙ told T (sym (r .0) ∙ e),
+        );
         keeps = λ n. absurd (n refl);
       }
     where

@@ -64,13 +64,15 @@ Left K m₀ bytes from m at =
     × RowRead (K .most) (K .tag) (K .value) (K .fine) (drop from bytes) (K .get (tables m)) (drop at bytes)
 
 module _ {A : Type 0} (K : Kind A) (m₀ bytes : List ℕ) (from : ℕ) where
-  pub rowing-starts : Small m₀ → K .get (tables m₀) ≡ [] → from ≤ length bytes → K .holds (K .get (tables m₀)) 0 → Rowing K m₀ bytes from m₀ 0 from
+  pub rowing-starts : Small m₀ → K .get (tables m₀) ≡ [] → from ≤ length bytes → K .holds (K .get (tables m₀)) 0 →
+      Rowing K m₀ bytes from m₀ 0 from
   rowing-starts S e h k = record {
     long = refl;
     only = record { says = sym (K .put-get (tables m₀)); same = refl; shaped = S .shaped };
     small = S .limits;
     holds = k;
-    cut = cut-starts (K .most) (K .tag) (K .size) (K .value) (K .back) (K .fine) (K .sized) (K .short) (K .backs) bytes from (K .get (tables m₀)) e h;
+    cut = cut-starts (K .most) (K .tag) (K .size) (K .value) (K .back) (K .fine) (K .sized) (K .short) (K .backs) bytes from
+        (K .get (tables m₀)) e h;
   }
 
   module _ (m : List ℕ) (n at : ℕ) (R : Rowing K m₀ bytes from m n at) where
@@ -84,7 +86,8 @@ module _ {A : Type 0} (K : Kind A) (m₀ bytes : List ℕ) (from : ℕ) where
         record {
           long = j ∙ R .long;
           only = record {
-            says = F .says ∙ ap (K .put l) (R .only .says) ∙ K .put-put l (K .get (tables m)) (tables m₀) ∙ ap (λ (r : List A). K .put r (tables m₀)) (sym now);
+            says = F .says ∙ ap (K .put l) (R .only .says) ∙ K .put-put l (K .get (tables m)) (tables m₀)
+                ∙ ap (λ (r : List A). K .put r (tables m₀)) (sym now);
             same = F .same ∙ R .only .same;
             shaped = F .shaped;
           };
@@ -98,14 +101,18 @@ module _ {A : Type 0} (K : Kind A) (m₀ bytes : List ℕ) (from : ℕ) where
     left r = (R .cut .within, R .only, r)
 
     pub rowing-ends : opens (K .tag) (K .size) (drop at bytes) ≡ false → Left K m₀ bytes from m at
-    rowing-ends o = left (cut-ends (K .most) (K .tag) (K .size) (K .value) (K .back) (K .fine) (K .sized) (K .short) (K .backs) bytes from (K .get (tables m)) n at (R .cut) o)
+    rowing-ends o = left (cut-ends (K .most) (K .tag) (K .size) (K .value) (K .back) (K .fine) (K .sized) (K .short) (K .backs) bytes from
+        (K .get (tables m)) n at (R .cut) o)
 
     pub rowing-full : K .most ≤ n → Left K m₀ bytes from m at
-    rowing-full h = left (cut-full (K .most) (K .tag) (K .size) (K .value) (K .back) (K .fine) (K .sized) (K .short) (K .backs) bytes from (K .get (tables m)) n at (R .cut) h)
+    rowing-full h = left (cut-full (K .most) (K .tag) (K .size) (K .value) (K .back) (K .fine) (K .sized) (K .short) (K .backs) bytes from
+        (K .get (tables m)) n at (R .cut) h)
 
-    pub rowing-stops : (x : A) → opens (K .tag) (K .size) (drop at bytes) ≡ true → x ≡ K .back (take (at + (K .size + 3) - (at + 3)) (drop (at + 3) bytes))
+    pub rowing-stops : (x : A) → opens (K .tag) (K .size) (drop at bytes) ≡ true →
+        x ≡ K .back (take (at + (K .size + 3) - (at + 3)) (drop (at + 3) bytes))
         → ((xs : List A) → K .fine xs → List·Memᴰ x xs → ⊥) → Left K m₀ bytes from m at
-    rowing-stops x o e never = left (cut-stops (K .most) (K .tag) (K .size) (K .value) (K .back) (K .fine) (K .sized) (K .short) (K .backs) bytes from (K .get (tables m)) n at x (R .cut) o e never)
+    rowing-stops x o e never = left (cut-stops (K .most) (K .tag) (K .size) (K .value) (K .back) (K .fine) (K .sized) (K .short) (K .backs)
+        bytes from (K .get (tables m)) n at x (R .cut) o e never)
 
 -- ---- threads and messages: each behind the others
 
@@ -154,11 +161,15 @@ pub one-longer : {A : Type 0} (l : List A) (x : A) (n : ℕ) → length l ≡ n 
 one-longer l x n e = omega (arith, length-append l (x ∷ []), e)
 
 -- there is room for it
-pub thread-room : {m₀ bytes : List ℕ} {from : ℕ} {m : List ℕ} {n at : ℕ} → Rowing thread-kind m₀ bytes from m n at → n < 20 → Shaped m × (length (tables m .threads) < limits m .threads)
-thread-room {m₀} {bytes} {from} {m} R h = let l : limits m ≡ small = R .only .same ∙ R .small in (R .only .shaped, rw l (omega (arith, R .holds)))
+pub thread-room : {m₀ bytes : List ℕ} {from : ℕ} {m : List ℕ} {n at : ℕ} → Rowing thread-kind m₀ bytes from m n at → n < 20 →
+    Shaped m × (length (tables m .threads) < limits m .threads)
+thread-room {m₀} {bytes} {from} {m} R h = let l : limits m ≡ small = R .only .same ∙ R .small in
+    (R .only .shaped, rw l (omega (arith, R .holds)))
 
-pub message-room : {m₀ bytes : List ℕ} {from : ℕ} {m : List ℕ} {n at : ℕ} → Rowing message-kind m₀ bytes from m n at → n < 40 → Shaped m × (length (tables m .messages) < limits m .threads + limits m .blocks)
-message-room {m₀} {bytes} {from} {m} R h = let l : limits m ≡ small = R .only .same ∙ R .small in (R .only .shaped, rw l (omega (arith, R .holds)))
+pub message-room : {m₀ bytes : List ℕ} {from : ℕ} {m : List ℕ} {n at : ℕ} → Rowing message-kind m₀ bytes from m n at → n < 40 →
+    Shaped m × (length (tables m .messages) < limits m .threads + limits m .blocks)
+message-room {m₀} {bytes} {from} {m} R h = let l : limits m ≡ small = R .only .same ∙ R .small in
+    (R .only .shaped, rw l (omega (arith, R .holds)))
 
 -- ---- held words: each in its place
 
@@ -186,7 +197,8 @@ held-kind =
     }
 
 -- behind lower devices a word stands last
-rising-last : (hs zs : List Held) (h : Held) → chain (λ a b. ltb (a .device) (b .device)) (hs ++ h ∷ zs) ≡ true → hold (h .device) (h .word) hs ≡ hs ++ (h ∷ [])
+rising-last : (hs zs : List Held) (h : Held) → chain (λ a b. ltb (a .device) (b .device)) (hs ++ h ∷ zs) ≡ true →
+    hold (h .device) (h .word) hs ≡ hs ++ (h ∷ [])
 unfolding hold keep insert
 rising-last [] zs h c = refl
 rising-last (k ∷ hs) zs h c =
@@ -197,7 +209,8 @@ rising-last (k ∷ hs) zs h c =
 pub held-last : (xs hs zs : List Held) (h : Held) → HeldFine xs → hs ++ h ∷ zs ≡ xs → hold (h .device) (h .word) hs ≡ hs ++ (h ∷ [])
 held-last xs hs zs h f e = rising-last hs zs h (ap (chain (λ a b. ltb (a .device) (b .device))) e ∙ f .rising)
 
-pub held-low : (hs : List Held) (d w : ℕ) → d < devices → all (λ h. ltb (h .device) devices) hs ≡ true → all (λ h. ltb (h .device) devices) (hold d w hs) ≡ true
+pub held-low : (hs : List Held) (d w : ℕ) → d < devices → all (λ h. ltb (h .device) devices) hs ≡ true →
+    all (λ h. ltb (h .device) devices) (hold d w hs) ≡ true
 unfolding hold
 held-low hs d w l a =
     all-of low _ (λ x m. ⊎-elim
@@ -214,14 +227,17 @@ never-high h l xs f m = let k : h .device < devices = ltb-true (h .device) devic
 names-back : (tag : ℕ) (q : List ℕ) (T : Tables) → names-in tag (with-names tag q T) ≡ q
 names-back tag q T = go (tag == 3)
   where
-    go : (b : Bool) → (if b then (if b then with-ready q T else with-clock q T) .ready else (if b then with-ready q T else with-clock q T) .clock) ≡ q
+    go : (b : Bool) →
+        (if b then (if b then with-ready q T else with-clock q T) .ready else (if b then with-ready q T else with-clock q T) .clock) ≡ q
     go true = refl
     go false = refl
 
 names-over : (tag : ℕ) (q p : List ℕ) (T : Tables) → with-names tag q (with-names tag p T) ≡ with-names tag q T
 names-over tag q p T = go (tag == 3)
   where
-    go : (b : Bool) → (if b then with-ready q (if b then with-ready p T else with-clock p T) else with-clock q (if b then with-ready p T else with-clock p T)) ≡ (if b then with-ready q T else with-clock q T)
+    go : (b : Bool) →
+        (if b then with-ready q (if b then with-ready p T else with-clock p T) else with-clock q
+        (if b then with-ready p T else with-clock p T)) ≡ (if b then with-ready q T else with-clock q T)
     go true = refl
     go false = refl
 
@@ -247,7 +263,11 @@ module _ (tag : ℕ) (names m₀ : List ℕ) where
     within = omega arith;
     long = refl;
     small = S .limits;
-    only = record { says = sym (ap (λ (q : List ℕ). with-names tag q (tables m₀)) (sym e) ∙ names-same tag (tables m₀)); same = refl; shaped = S .shaped };
+    only = record {
+      says = sym (ap (λ (q : List ℕ). with-names tag q (tables m₀)) (sym e) ∙ names-same tag (tables m₀));
+      same = refl;
+      shaped = S .shaped;
+    };
   }
 
   module _ (m : List ℕ) (i : ℕ) (N : Naming tag names m₀ m i) where
@@ -260,17 +280,20 @@ module _ (tag : ℕ) (names m₀ : List ℕ) where
         let l : limits m ≡ small = N .only .same ∙ N .small in
         (N .only .shaped, rw l (omega (arith, k, N .few)))
 
-    pub naming-next : (m′ : List ℕ) (x : ℕ) → i < length names → x ≡ getD names i 0 → Fills m m′ (with-names tag (names-in tag (tables m) ++ (x ∷ [])) (tables m)) → length m′ ≡ length m → Naming tag names m₀ m′ (i + 1)
+    pub naming-next : (m′ : List ℕ) (x : ℕ) → i < length names → x ≡ getD names i 0 →
+        Fills m m′ (with-names tag (names-in tag (tables m) ++ (x ∷ [])) (tables m)) → length m′ ≡ length m → Naming tag names m₀ m′ (i + 1)
     naming-next m′ x h e F j =
         let more : names-in tag (tables m) ++ (x ∷ []) ≡ take (i + 1) names =
-        ap (λ (q : List ℕ). q ++ (x ∷ [])) names-now ∙ ap (λ (y : ℕ). take i names ++ (y ∷ [])) e ∙ sym (ap (λ (j : ℕ). take j names) (add-one i) ∙ take-suc names i 0 h) in
+        ap (λ (q : List ℕ). q ++ (x ∷ [])) names-now ∙ ap (λ (y : ℕ). take i names ++ (y ∷ [])) e
+        ∙ sym (ap (λ (j : ℕ). take j names) (add-one i) ∙ take-suc names i 0 h) in
         record {
           few = N .few;
           within = omega arith;
           long = j ∙ N .long;
           small = N .small;
           only = record {
-            says = F .says ∙ ap (λ (q : List ℕ). with-names tag q (tables m)) more ∙ ap (with-names tag (take (i + 1) names)) (N .only .says)
+            says = F .says ∙ ap (λ (q : List ℕ). with-names tag q (tables m)) more
+                ∙ ap (with-names tag (take (i + 1) names)) (N .only .says)
                 ∙ names-over tag (take (i + 1) names) (take i names) (tables m₀);
             same = F .same ∙ N .only .same;
             shaped = F .shaped;
@@ -278,7 +301,11 @@ module _ (tag : ℕ) (names m₀ : List ℕ) where
         }
 
     pub naming-ends : length names ≤ i → Fills m₀ m (with-names tag names (tables m₀))
-    naming-ends h = record { says = N .only .says ∙ ap (λ (q : List ℕ). with-names tag q (tables m₀)) (take-all i names h); same = N .only .same; shaped = N .only .shaped }
+    naming-ends h = record {
+      says = N .only .says ∙ ap (λ (q : List ℕ). with-names tag q (tables m₀)) (take-all i names h);
+      same = N .only .same;
+      shaped = N .only .shaped;
+    }
 
 -- nothing was read
 pub unnamed : (tag : ℕ) (m : List ℕ) → Small m → Fills m m (with-names tag (names-in tag (tables m)) (tables m))
@@ -299,10 +326,12 @@ part-few bytes a n h l = omega (arith, length-take-le (a + n - a) (drop a bytes)
 -- ---- the head
 
 -- m became m₁, m₂ and then m′
-pub head-written : {m m₁ m₂ m′ : List ℕ} {a c w v : ℕ} {r s : Runner} → Leaves m m₁ (with-last a (tables m)) → Leaves m₁ m₂ (with-runner r (tables m₁)) → Leaves m₂ m′ (with-time c w (tables m₂))
+pub head-written : {m m₁ m₂ m′ : List ℕ} {a c w v : ℕ} {r s : Runner} → Leaves m m₁ (with-last a (tables m)) →
+    Leaves m₁ m₂ (with-runner r (tables m₁)) → Leaves m₂ m′ (with-time c w (tables m₂))
     → r ≡ s → w ≡ v → Leaves m m′ (with-time c v (with-runner s (with-last a (tables m))))
 head-written {m} {a = a} {c = c} {w = w} {r = r} A B C e f = record {
-  says = C .says ∙ ap (with-time c w) (B .says ∙ ap (with-runner r) (A .says)) ∙ ap₂ (λ (x : Runner) (y : ℕ). with-time c y (with-runner x (with-last a (tables m)))) e f;
+  says = C .says ∙ ap (with-time c w) (B .says ∙ ap (with-runner r) (A .says))
+      ∙ ap₂ (λ (x : Runner) (y : ℕ). with-time c y (with-runner x (with-last a (tables m)))) e f;
   same = C .same ∙ B .same ∙ A .same;
   holding = C .holding;
 }

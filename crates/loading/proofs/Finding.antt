@@ -20,7 +20,8 @@ use Rattle.laws.proofs.Sound.{tested-ruled}
 use Rattle.laws.proofs.DumpLength.{queues-few, messages-few, held-few}
 use Rattle.laws.proofs.Dump.{thread-back, message-back, held-back, head-back, thread-ranged, runner-ranged}
 use Rattle.store.specs.Store.{tables, nothing, Leaves, Fills}
-use Rattle.loading.specs.Reading.{starts, opens, Small, Empty, behind-head, head-from, ThreadsRead, MessagesRead, HeldRead, NamesRead, RestFound, Found}
+use Rattle.loading.specs.Reading.{starts, opens, Small, Empty, behind-head, head-from, ThreadsRead, MessagesRead, HeldRead, NamesRead}
+use Rattle.loading.specs.Reading.{RestFound, Found}
 use Rattle.loading.proofs.Cutting.{field-opens}
 use Rattle.loading.proofs.Filling.{still-small}
 
@@ -43,7 +44,8 @@ six a b c d e f = simp append-assoc
 
 regrouped : (T : Tables) → dump T ≡ field 1 (head-value T) ++ body T
 unfolding dump
-regrouped T = six (field 1 (head-value T)) (each (λ t. field 2 (thread-value t)) (T .threads)) (field 3 (T .ready)) (field 4 (T .clock)) (each (λ m. field 5 (message-value m)) (T .messages)) (words T)
+regrouped T = six (field 1 (head-value T)) (each (λ t. field 2 (thread-value t)) (T .threads)) (field 3 (T .ready)) (field 4 (T .clock))
+    (each (λ m. field 5 (message-value m)) (T .messages)) (words T)
 
 -- no message stands behind the messages
 words-start : (hs : List Held) → starts 5 (each (λ h. field 6 (held-value h)) hs) ≡ false
@@ -74,7 +76,14 @@ module _ (T : Tables) (h : table-rules small T ≡ true) where
   unfolding head-value
   headed-front =
       let told = head-back T (runner-ranged small T ruled) (ruled .steady .beats) in
-      record { known = field-opens 1 (head-value T) (body T) (omega arith); last = told .last; runner = told .runner; since = told .since; beats = told .beats; behind = refl }
+      record {
+        known = field-opens 1 (head-value T) (body T) (omega arith);
+        last = told .last;
+        runner = told .runner;
+        since = told .since;
+        beats = told .beats;
+        behind = refl;
+      }
 
   headed : (bytes : List ℕ) → dump T ≡ bytes → Headed T bytes
   headed bytes e = rw (sym e ∙ regrouped T) headed-front
@@ -98,11 +107,22 @@ module _ (bytes : List ℕ) {c m : List ℕ} (L : Leaves c m (head-from bytes (t
   -- and the rest of the tables was read behind it
   pub all-found : (m′ : List ℕ) (good : Bool) → RestFound (tables m) bytes m′ good → Found bytes m′ good
   all-found m′ good R = record {
-    finds = λ T h e. let r = R .finds T h e in (r .0, r .1 ∙ ap (λ (U : Tables). behind-head U T) (L .says) ∙ told T (headed T h bytes e), r .2);
+    finds = λ T h e. let r = R .finds T h e in
+        (r .0, r .1 ∙ ap (λ (U : Tables). behind-head U T) (L .says) ∙ told T (headed T h bytes e), r .2);
   }
     where
       told : (T : Tables) → Headed T bytes → behind-head (head-from bytes (tables c)) T ≡ T
-      told T d = λ i. record { last = d .last i; runner = d .runner i; since = d .since i; beats = d .beats i; threads = T .threads; ready = T .ready; clock = T .clock; messages = T .messages; held = T .held }
+      told T d = λ i. record {
+        last = d .last i;
+        runner = d .runner i;
+        since = d .since i;
+        beats = d .beats i;
+        threads = T .threads;
+        ready = T .ready;
+        clock = T .clock;
+        messages = T .messages;
+        held = T .held;
+      }
 
 -- ---- the stages behind the head
 
@@ -121,10 +141,14 @@ pub record Stages (bytes m₀ m₁ m₂ m₃ m₄ m₅ : List ℕ) (good-ready g
   pub held-read : HeldRead (drop d bytes) (tables m₅ .held) (drop e bytes)
 
 pub stages : {bytes m₀ m₁ m₂ m₃ m₄ m₅ : List ℕ} {gr gc : Bool} {a b c d e : ℕ} → Small m₀
-    → (a ≤ length bytes) × Fills m₀ m₁ (with-threads (tables m₁ .threads) (tables m₀)) × ThreadsRead (drop 12 bytes) (tables m₁ .threads) (drop a bytes)
-    → (b ≤ length bytes) × Fills m₁ m₂ (with-ready (tables m₂ .ready) (tables m₁)) × NamesRead 3 (drop a bytes) gr (tables m₂ .ready) (drop b bytes)
-    → (c ≤ length bytes) × Fills m₂ m₃ (with-clock (tables m₃ .clock) (tables m₂)) × NamesRead 4 (drop b bytes) gc (tables m₃ .clock) (drop c bytes)
-    → (d ≤ length bytes) × Fills m₃ m₄ (with-messages (tables m₄ .messages) (tables m₃)) × MessagesRead (drop c bytes) (tables m₄ .messages) (drop d bytes)
+    → (a ≤ length bytes) × Fills m₀ m₁ (with-threads (tables m₁ .threads) (tables m₀))
+    × ThreadsRead (drop 12 bytes) (tables m₁ .threads) (drop a bytes)
+    → (b ≤ length bytes) × Fills m₁ m₂ (with-ready (tables m₂ .ready) (tables m₁))
+    × NamesRead 3 (drop a bytes) gr (tables m₂ .ready) (drop b bytes)
+    → (c ≤ length bytes) × Fills m₂ m₃ (with-clock (tables m₃ .clock) (tables m₂))
+    × NamesRead 4 (drop b bytes) gc (tables m₃ .clock) (drop c bytes)
+    → (d ≤ length bytes) × Fills m₃ m₄ (with-messages (tables m₄ .messages) (tables m₃))
+    × MessagesRead (drop c bytes) (tables m₄ .messages) (drop d bytes)
     → (e ≤ length bytes) × Fills m₄ m₅ (with-held (tables m₅ .held) (tables m₄)) × HeldRead (drop d bytes) (tables m₅ .held) (drop e bytes)
     → Stages bytes m₀ m₁ m₂ m₃ m₄ m₅ gr gc a b c d e
 stages S t q k m h =
@@ -159,10 +183,12 @@ module _ {bytes m₀ m₁ m₂ m₃ m₄ m₅ : List ℕ} {gr gc : Bool} {a b c 
   whole T h i =
       let r = ruled T h in
       let few = queues-few (T .threads) (T .runner) (T .ready) (T .clock) (r .inv .agree) in
-      let t = P .threads-read .reads (T .threads) (queues T) (r .inv .few) (record { each-back = λ x m. thread-back x (thread-ranged small T r x m) }) (queues-start T) (headed T h bytes i .behind) in
+      let t = P .threads-read .reads (T .threads) (queues T) (r .inv .few)
+      (record { each-back = λ x m. thread-back x (thread-ranged small T r x m) }) (queues-start T) (headed T h bytes i .behind) in
       let q = P .ready-read .reads (T .ready) (field 4 (T .clock) ++ post T) (omega (arith, r .inv .few)) (t .1) in
       let k = P .clock-read .reads (T .clock) (post T) (omega (arith, r .inv .few)) (q .2) in
-      let m = P .messages-read .reads (T .messages) (words T) (omega (arith, r .inv .few, messages-few 20 (T .threads) (T .messages) (T .held) (r .fits)))
+      let m = P .messages-read .reads (T .messages) (words T)
+      (omega (arith, r .inv .few, messages-few 20 (T .threads) (T .messages) (T .held) (r .fits)))
       (record { each-back = λ x n. message-back x (r .fits .messages x n .word) }) (words-start (T .held)) (k .2) in
       let w = P .held-read .reads (T .held) [] (held-few 20 (T .threads) (T .messages) (T .held) (r .fits))
       (record {
@@ -181,7 +207,9 @@ module _ {bytes m₀ m₁ m₂ m₃ m₄ m₅ : List ℕ} {gr gc : Bool} {a b c 
   no-clock f = record { finds = λ T h i. absurd (clash (whole T h i .good-c) f) }
 
   -- what stands in the memory is put together
-  together : tables m₅ ≡ with-held (tables m₅ .held) (with-messages (tables m₄ .messages) (with-clock (tables m₃ .clock) (with-ready (tables m₂ .ready) (with-threads (tables m₁ .threads) (tables m₀)))))
+  together : tables m₅ ≡ with-held (tables m₅ .held)
+      (with-messages (tables m₄ .messages)
+      (with-clock (tables m₃ .clock) (with-ready (tables m₂ .ready) (with-threads (tables m₁ .threads) (tables m₀)))))
   together =
       P .held .says
       ∙ ap (with-held (tables m₅ .held)) (P .messages .says
@@ -195,10 +223,23 @@ module _ {bytes m₀ m₁ m₂ m₃ m₄ m₅ : List ℕ} {gr gc : Bool} {a b c 
         let w = whole T h i in (
           eq-eqb e (length bytes) (omega (arith, ap length (w .end), length-drop e bytes)),
           together ∙ told T w,
-          still-small (still-small (still-small (still-small (still-small (P .small) (P .threads)) (P .ready)) (P .clock)) (P .messages)) (P .held),
+          still-small (still-small (still-small (still-small (still-small (P .small) (P .threads)) (P .ready)) (P .clock)) (P .messages))
+              (P .held),
         );
   }
     where
       told : (T : Tables) → Whole T bytes m₁ m₂ m₃ m₄ m₅ gr gc e →
-          with-held (tables m₅ .held) (with-messages (tables m₄ .messages) (with-clock (tables m₃ .clock) (with-ready (tables m₂ .ready) (with-threads (tables m₁ .threads) (tables m₀))))) ≡ behind-head (tables m₀) T
-      told T w = λ i. record { last = tables m₀ .last; runner = tables m₀ .runner; since = tables m₀ .since; beats = tables m₀ .beats; threads = w .threads i; ready = w .ready i; clock = w .clock i; messages = w .messages i; held = w .held i }
+          with-held (tables m₅ .held) (with-messages (tables m₄ .messages)
+          (with-clock (tables m₃ .clock) (with-ready (tables m₂ .ready) (with-threads (tables m₁ .threads) (tables m₀))))) ≡ behind-head
+          (tables m₀) T
+      told T w = λ i. record {
+        last = tables m₀ .last;
+        runner = tables m₀ .runner;
+        since = tables m₀ .since;
+        beats = tables m₀ .beats;
+        threads = w .threads i;
+        ready = w .ready i;
+        clock = w .clock i;
+        messages = w .messages i;
+        held = w .held i;
+      }

@@ -57,7 +57,8 @@ module _ (from to₀ : List ℕ) where
     pub place-ends : length from ≤ i → to ≡ from ++ drop (length from) to₀
     place-ends h =
         let e : i ≡ length from = omega (arith, P .within) in
-        P .so ∙ ap (λ (j : ℕ). take j from ++ drop j to₀) e ∙ ap (λ (r : List ℕ). r ++ drop (length from) to₀) (take-all (length from) from (omega arith))
+        P .so ∙ ap (λ (j : ℕ). take j from ++ drop j to₀) e
+        ∙ ap (λ (r : List ℕ). r ++ drop (length from) to₀) (take-all (length from) from (omega arith))
 
 -- ---- what the memory stands for
 
@@ -89,10 +90,12 @@ module _ (w rest : List ℕ) (v : stands small w ≡ true) (long : length w ≡ 
       part-word m a n k j ∙ word-front (a + k) (omega arith) ∙ sym (part-word w a n k j))
 
   -- word c of each record
-  cells-front : (c : ℕ) → c < 16 → row (λ i. byte (word m (thread-place i + c))) 0 (word m 0) ≡ row (λ i. byte (word w (thread-place i + c))) 0 (word w 0)
+  cells-front : (c : ℕ) → c < 16 →
+      row (λ i. byte (word m (thread-place i + c))) 0 (word m 0) ≡ row (λ i. byte (word w (thread-place i + c))) 0 (word w 0)
   cells-front c h =
       ap (row (λ i. byte (word m (thread-place i + c))) 0) (word-front 0 (omega arith))
-      ∙ row-same (λ i. byte (word m (thread-place i + c))) (λ i. byte (word w (thread-place i + c))) 0 (word w 0) (λ k l. ap byte (word-front (thread-place k + c) (omega (arith, threads-is))))
+      ∙ row-same (λ i. byte (word m (thread-place i + c))) (λ i. byte (word w (thread-place i + c))) 0 (word w 0)
+      (λ k l. ap byte (word-front (thread-place k + c) (omega (arith, threads-is))))
 
   threads-front : row (thread-of m) 0 (word m 0) ≡ row (thread-of w) 0 (word w 0)
   threads-front =
@@ -107,9 +110,11 @@ module _ (w rest : List ℕ) (v : stands small w ≡ true) (long : length w ≡ 
       ∙ ap message-in (part-front (message-place (word w 0) k) 3 (omega (arith, threads-is, blocks-is))))
 
   held-front : each (held-of m) (from-on 0 devices) ≡ each (held-of w) (from-on 0 devices)
-  held-front = each-same (held-of m) (held-of w) 0 devices (λ k a b. ap₂ (held-in k) (word-front (held-place k) (omega arith)) (word-front (held-place k + 1) (omega arith)))
+  held-front = each-same (held-of m) (held-of w) 0 devices
+      (λ k a b. ap₂ (held-in k) (word-front (held-place k) (omega arith)) (word-front (held-place k + 1) (omega arith)))
 
-  rows-front : rows-of m ≡ told (length m) (words w) (rows-of w .threads) (rows-of w .ready) (rows-of w .clock) (rows-of w .messages) (rows-of w .held) (rows-of w .ended)
+  rows-front : rows-of m ≡ told (length m) (words w) (rows-of w .threads) (rows-of w .ready) (rows-of w .clock) (rows-of w .messages)
+      (rows-of w .held) (rows-of w .ended)
   unfolding rows-of
   rows-front =
       rows-told m (length m) (words w) _ _ _ _ _ _ refl (λ k h. word-front k (omega arith))

@@ -45,11 +45,22 @@ pub record Empty (T : Tables) : Type 0 where
 
 -- the head of T₀ and all else of T
 abbrev pub behind-head : Tables → Tables → Tables
-behind-head T₀ T = record { last = T₀ .last; runner = T₀ .runner; since = T₀ .since; beats = T₀ .beats; threads = T .threads; ready = T .ready; clock = T .clock; messages = T .messages; held = T .held }
+behind-head T₀ T = record {
+  last = T₀ .last;
+  runner = T₀ .runner;
+  since = T₀ .since;
+  beats = T₀ .beats;
+  threads = T .threads;
+  ready = T .ready;
+  clock = T .clock;
+  messages = T .messages;
+  held = T .held;
+}
 
 -- the head as the first twelve bytes tell it, without the status, which is computed
 abbrev pub head-from : List ℕ → Tables → Tables
-head-from bytes T = with-time (getD bytes 7 0) (word-at bytes 8) (with-runner (runner-from (getD bytes 5 0) (getD bytes 6 0)) (with-last (getD bytes 4 0) T))
+head-from bytes T = with-time (getD bytes 7 0) (word-at bytes 8)
+    (with-runner (runner-from (getD bytes 5 0) (getD bytes 6 0)) (with-last (getD bytes 4 0) T))
 
 -- the queue of a field's tag: 3 ready names, 4 clock waiters
 abbrev pub names-in : ℕ → Tables → List ℕ
@@ -60,8 +71,10 @@ with-names tag q T = if tag == ready-tag then with-ready q T else with-clock q T
 
 -- ---- the stages
 
--- A row was read from these bytes and `behind` is left: where the bytes are the fields of a row that is fine and something behind them, those.
-pub record RowRead {A : Type 0} (most tag : ℕ) (value : A → List ℕ) (fine : List A → Type 0) (bytes : List ℕ) (row : List A) (behind : List ℕ) : Type 0 where
+-- A row was read from these bytes and `behind` is left: where the bytes are the fields of a row that is fine and something behind them,
+-- those.
+pub record RowRead {A : Type 0} (most tag : ℕ) (value : A → List ℕ) (fine : List A → Type 0) (bytes : List ℕ) (row : List A)
+    (behind : List ℕ) : Type 0 where
   pub reads : (xs : List A) (rest : List ℕ) → length xs ≤ most → fine xs → starts tag rest ≡ false
       → bytes ≡ each (λ x. field tag (value x)) xs ++ rest → (row ≡ xs) × (behind ≡ rest)
 
@@ -79,20 +92,22 @@ abbrev pub ThreadsRead : List ℕ → List Thread → List ℕ → Type 0
 ThreadsRead bytes row behind = RowRead (small .threads) thread-tag thread-value (Backs thread-value thread-from) bytes row behind
 
 abbrev pub MessagesRead : List ℕ → List Message → List ℕ → Type 0
-MessagesRead bytes row behind = RowRead (small .blocks + small .threads) message-tag message-value (Backs message-value message-from) bytes row behind
+MessagesRead bytes row behind =
+    RowRead (small .blocks + small .threads) message-tag message-value (Backs message-value message-from) bytes row behind
 
 abbrev pub HeldRead : List ℕ → List Held → List ℕ → Type 0
 HeldRead bytes row behind = RowRead devices held-tag held-value HeldFine bytes row behind
 
--- From a place on there are n names of a field: where such a field stands there, as many as it has. Else n is any; where it is 20 at most, so many
--- bytes are there.
+-- From a place on there are n names of a field: where such a field stands there, as many as it has. Else n is any; where it is 20 at
+-- most, so many bytes are there.
 pub record NamesCounted (tag : ℕ) (bytes : List ℕ) (from n : ℕ) : Type 0 where
   pub whole : n ≤ small .threads → from + before-value + n ≤ length bytes
   pub counts : (q rest : List ℕ) → length q ≤ small .threads → drop from bytes ≡ field tag q ++ rest → n ≡ length q
 
 -- Names were read from these bytes and `behind` is left, as for a row.
 pub record NamesRead (tag : ℕ) (bytes : List ℕ) (good : Bool) (names : List ℕ) (behind : List ℕ) : Type 0 where
-  pub reads : (q : List ℕ) (rest : List ℕ) → length q ≤ small .threads → bytes ≡ field tag q ++ rest → (good ≡ true) × (names ≡ q) × (behind ≡ rest)
+  pub reads : (q : List ℕ) (rest : List ℕ) → length q ≤ small .threads → bytes ≡ field tag q ++ rest → (good ≡ true) × (names ≡ q)
+      × (behind ≡ rest)
 
 -- What stands behind a head T₀, if the bytes are the dump of tables that meet the rules: all else of them.
 pub record RestFound (T₀ : Tables) (bytes m : List ℕ) (good : Bool) : Type 0 where

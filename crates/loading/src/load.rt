@@ -1,6 +1,6 @@
 // Reading a dump, in stages: the fields are cut and their values put into a memory of its own; that meets the table rules; the writer gives
-// those bytes again, so that every value was in its range. Only then the lent memory is written. Where a stage fails the bytes are no dump, and
-// crates/faults says where: a dump pays nothing for that.
+// those bytes again, so that every value was in its range. Only then the lent memory is written. Where a stage fails the bytes are no
+// dump, and crates/faults says where: a dump pays nothing for that.
 use crate::reading;
 use checking::check;
 use dumping::writing;
@@ -26,7 +26,8 @@ pub const WORDS: usize = 656;
 // A dump has at most so many bytes.
 const LONGEST: usize = 1241;
 
-// Are the first n bytes of a all the bytes of b? It goes on behind a byte that differs: a loop with one end is compiled to compare many at once.
+// Are the first n bytes of a all the bytes of b? It goes on behind a byte that differs: a loop with one end is compiled to compare many
+// at once.
 fn same(a: &[u8], n: usize, b: &[u8]) -> bool
     requires { ⌜ n ≤ length (now a) ⌝ }
     ensures { λ r. ⌜ r ≡ same-of (take n (now (a .entry))) (now (b .entry)) ⌝ }

@@ -12,7 +12,8 @@ ghost use Rattle.rules.specs.Tables.{with-threads, with-messages, with-held};
 ghost use Rattle.rules.specs.Tags.{before-value, head-size};
 ghost use Rattle.memory.specs.Layout.{size};
 ghost use Rattle.store.specs.Store.{limits, tables, Shaped, Holding, Leaves, Fills};
-ghost use Rattle.loading.specs.Reading.{Small, Empty, head-from, names-in, with-names, ThreadsRead, MessagesRead, HeldRead, NamesCounted, NamesRead, RestFound, Found};
+ghost use Rattle.loading.specs.Reading.{Small, Empty, head-from, names-in, with-names, ThreadsRead, MessagesRead, HeldRead};
+ghost use Rattle.loading.specs.Reading.{NamesCounted, NamesRead, RestFound, Found};
 
 // A field has at most so many names: a queue holds a thread once.
 const MOST_NAMES: u8 = numbers::THREADS as u8;
@@ -38,7 +39,9 @@ fn read_head(m: &mut [u32], bytes: &[u8])
 
 fn read_threads(m: &mut [u32], bytes: &[u8], from: usize) -> usize
     requires { ⌜ Small (now m) × (tables (now m) .threads ≡ []) × (from ≤ length (now bytes)) ⌝ }
-    ensures { λ p. ⌜ (p ≤ length (now (bytes .entry))) × Fills (now (m .entry)) (now (m .exit)) (with-threads (tables (now (m .exit)) .threads) (tables (now (m .entry)))) × ThreadsRead (drop from (now (bytes .entry))) (tables (now (m .exit)) .threads) (drop p (now (bytes .entry))) ⌝ }
+    ensures { λ p. ⌜ (p ≤ length (now (bytes .entry)))
+        × Fills (now (m .entry)) (now (m .exit)) (with-threads (tables (now (m .exit)) .threads) (tables (now (m .entry))))
+        × ThreadsRead (drop from (now (bytes .entry))) (tables (now (m .exit)) .threads) (drop p (now (bytes .entry))) ⌝ }
 {
     let mut n: usize = 0;
     let mut at = from;
@@ -77,7 +80,8 @@ fn count_names(bytes: &[u8], from: usize, tag: u8) -> usize
 // A name behind the others of a queue.
 fn fill_name(m: &mut [u32], tag: u8, name: u8)
     requires { ⌜ Shaped (now m) × (length (names-in tag (tables (now m))) < limits (now m) .threads) ⌝ }
-    ensures { λ _. ⌜ Fills (now (m .entry)) (now (m .exit)) (with-names tag (names-in tag (tables (now (m .entry))) ++ (name ∷ [])) (tables (now (m .entry)))) ⌝ }
+    ensures { λ _. ⌜ Fills (now (m .entry)) (now (m .exit))
+        (with-names tag (names-in tag (tables (now (m .entry))) ++ (name ∷ [])) (tables (now (m .entry)))) ⌝ }
 {
     if tag == tags::READY {
         store::fill_ready(m, name);
@@ -101,7 +105,10 @@ fn fill_names(m: &mut [u32], names: &[u8], tag: u8)
 // A field of names: its length is how many.
 fn read_names(m: &mut [u32], bytes: &[u8], from: usize, tag: u8) -> Names
     requires { ⌜ Small (now m) × (names-in tag (tables (now m)) ≡ []) × (from ≤ length (now bytes)) ⌝ }
-    ensures { λ r. ⌜ (r .at ≤ length (now (bytes .entry))) × Fills (now (m .entry)) (now (m .exit)) (with-names tag (names-in tag (tables (now (m .exit)))) (tables (now (m .entry)))) × NamesRead tag (drop from (now (bytes .entry))) (r .good) (names-in tag (tables (now (m .exit)))) (drop (r .at) (now (bytes .entry))) ⌝ }
+    ensures { λ r. ⌜ (r .at ≤ length (now (bytes .entry)))
+        × Fills (now (m .entry)) (now (m .exit)) (with-names tag (names-in tag (tables (now (m .exit)))) (tables (now (m .entry))))
+        × NamesRead tag (drop from (now (bytes .entry))) (r .good) (names-in tag (tables (now (m .exit))))
+        (drop (r .at) (now (bytes .entry))) ⌝ }
 {
     let n = count_names(bytes, from, tag);
     if n > numbers::THREADS {
@@ -121,7 +128,9 @@ fn read_names(m: &mut [u32], bytes: &[u8], from: usize, tag: u8) -> Names
 
 fn read_messages(m: &mut [u32], bytes: &[u8], from: usize) -> usize
     requires { ⌜ Small (now m) × (tables (now m) .messages ≡ []) × (from ≤ length (now bytes)) ⌝ }
-    ensures { λ p. ⌜ (p ≤ length (now (bytes .entry))) × Fills (now (m .entry)) (now (m .exit)) (with-messages (tables (now (m .exit)) .messages) (tables (now (m .entry)))) × MessagesRead (drop from (now (bytes .entry))) (tables (now (m .exit)) .messages) (drop p (now (bytes .entry))) ⌝ }
+    ensures { λ p. ⌜ (p ≤ length (now (bytes .entry)))
+        × Fills (now (m .entry)) (now (m .exit)) (with-messages (tables (now (m .exit)) .messages) (tables (now (m .entry))))
+        × MessagesRead (drop from (now (bytes .entry))) (tables (now (m .exit)) .messages) (drop p (now (bytes .entry))) ⌝ }
 {
     let mut n: usize = 0;
     let mut at = from;
@@ -142,7 +151,9 @@ fn read_messages(m: &mut [u32], bytes: &[u8], from: usize) -> usize
 // A device that there is not ends the row: then the bytes are no dump.
 fn read_held(m: &mut [u32], bytes: &[u8], from: usize) -> usize
     requires { ⌜ Small (now m) × (tables (now m) .held ≡ []) × (from ≤ length (now bytes)) ⌝ }
-    ensures { λ p. ⌜ (p ≤ length (now (bytes .entry))) × Fills (now (m .entry)) (now (m .exit)) (with-held (tables (now (m .exit)) .held) (tables (now (m .entry)))) × HeldRead (drop from (now (bytes .entry))) (tables (now (m .exit)) .held) (drop p (now (bytes .entry))) ⌝ }
+    ensures { λ p. ⌜ (p ≤ length (now (bytes .entry)))
+        × Fills (now (m .entry)) (now (m .exit)) (with-held (tables (now (m .exit)) .held) (tables (now (m .entry))))
+        × HeldRead (drop from (now (bytes .entry))) (tables (now (m .exit)) .held) (drop p (now (bytes .entry))) ⌝ }
 {
     let mut n: usize = 0;
     let mut at = from;

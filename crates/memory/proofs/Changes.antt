@@ -42,7 +42,8 @@ told n w ts rs cs ms hs es =
 -- rows whose head is told by words w, with these rows behind it
 pub rows-told : (m : List ℕ) (n : ℕ) (w : ℕ → ℕ) (ts : List Thread) (rs cs : List ℕ) (ms : List Message) (hs : List Held) (es : List ℕ) →
     length m ≡ n → ((k : ℕ) → k < 12 → word m k ≡ w k) →
-    rows-of m .threads ≡ ts → rows-of m .ready ≡ rs → rows-of m .clock ≡ cs → rows-of m .messages ≡ ms → rows-of m .held ≡ hs → rows-of m .ended ≡ es →
+    rows-of m .threads ≡ ts → rows-of m .ready ≡ rs → rows-of m .clock ≡ cs → rows-of m .messages ≡ ms → rows-of m .held ≡ hs →
+    rows-of m .ended ≡ es →
     rows-of m ≡ told n w ts rs cs ms hs es
 unfolding rows-of
 rows-told m n w ts rs cs ms hs es l h e₀ e₁ e₂ e₃ e₄ e₅ =
@@ -68,7 +69,8 @@ rows-told m n w ts rs cs ms hs es l h e₀ e₁ e₂ e₃ e₄ e₅ =
 
 -- the rows of m under a head of words w
 abbrev pub headed : List ℕ → (ℕ → ℕ) → Rows
-headed m w = told (length m) w (rows-of m .threads) (rows-of m .ready) (rows-of m .clock) (rows-of m .messages) (rows-of m .held) (rows-of m .ended)
+headed m w =
+    told (length m) w (rows-of m .threads) (rows-of m .ready) (rows-of m .clock) (rows-of m .messages) (rows-of m .held) (rows-of m .ended)
 
 abbrev pub words : List ℕ → ℕ → ℕ
 words m = λ j. word m j
@@ -101,30 +103,37 @@ module _ {a n : ℕ} {m m′ : List ℕ} (E : Elsewhere a n m m′) (b : 2 ≤ a
 
   threads-stay : ((j k : ℕ) → j < word m 0 → k < 11 → Out a n (thread-place j + k)) → rows-of m′ .threads ≡ rows-of m .threads
   unfolding rows-of
-  threads-stay o = ap (row (thread-of m′) 0) limit-stays ∙ row-same (thread-of m′) (thread-of m) 0 (word m 0) (λ j h. thread-stays j (λ k. o j k (omega arith)))
+  threads-stay o = ap (row (thread-of m′) 0) limit-stays
+      ∙ row-same (thread-of m′) (thread-of m) 0 (word m 0) (λ j h. thread-stays j (λ k. o j k (omega arith)))
 
   queue-stays : (c : ℕ) → ((j : ℕ) → j < word m 0 → Out a n (thread-place j + c)) → queue c m′ ≡ queue c m
-  queue-stays c o = ap (row (cell c m′) 0) limit-stays ∙ row-same (cell c m′) (cell c m) 0 (word m 0) (λ j h. ap byte (E .same (thread-place j + c) (o j (omega arith))))
+  queue-stays c o = ap (row (cell c m′) 0) limit-stays
+      ∙ row-same (cell c m′) (cell c m) 0 (word m 0) (λ j h. ap byte (E .same (thread-place j + c) (o j (omega arith))))
 
   message-stays : (j : ℕ) → ((k : ℕ) → k < 3 → Out a n (message-place (word m 0) j + k)) → message-of m′ j ≡ message-of m j
   message-stays j o =
       ap (λ (t : ℕ). message-in (part m′ (message-place t j) 3)) limit-stays
       ∙ ap message-in (part-same m m′ (message-place (word m 0) j) 3 (E .long) (λ k h. E .same (message-place (word m 0) j + k) (o k h)))
 
-  messages-stay : ((j k : ℕ) → j < word m 0 + word m 1 → k < 3 → Out a n (message-place (word m 0) j + k)) → rows-of m′ .messages ≡ rows-of m .messages
+  messages-stay : ((j k : ℕ) → j < word m 0 + word m 1 → k < 3 → Out a n (message-place (word m 0) j + k)) →
+      rows-of m′ .messages ≡ rows-of m .messages
   unfolding rows-of
-  messages-stay o = ap (row (message-of m′) 0) places-stay ∙ row-same (message-of m′) (message-of m) 0 (word m 0 + word m 1) (λ j h. message-stays j (λ k. o j k (omega arith)))
+  messages-stay o = ap (row (message-of m′) 0) places-stay
+      ∙ row-same (message-of m′) (message-of m) 0 (word m 0 + word m 1) (λ j h. message-stays j (λ k. o j k (omega arith)))
 
   pub held-stays : (j : ℕ) → ((k : ℕ) → k < 2 → Out a n (held-place j + k)) → held-of m′ j ≡ held-of m j
-  held-stays j o = ap₂ (held-in j) (ap (λ (k : ℕ). word m′ k) (omega arith) ∙ E .same (held-place j + 0) (o 0 (omega arith)) ∙ ap (λ (k : ℕ). word m k) (omega arith)) (E .same (held-place j + 1) (o 1 (omega arith)))
+  held-stays j o = ap₂ (held-in j) (ap (λ (k : ℕ). word m′ k) (omega arith) ∙ E .same (held-place j + 0) (o 0 (omega arith))
+      ∙ ap (λ (k : ℕ). word m k) (omega arith)) (E .same (held-place j + 1) (o 1 (omega arith)))
 
   helds-stay : ((j k : ℕ) → j < devices → k < 2 → Out a n (held-place j + k)) → rows-of m′ .held ≡ rows-of m .held
   unfolding rows-of
   helds-stay o = each-same (held-of m′) (held-of m) 0 devices (λ j p q. held-stays j (λ k. o j k (omega arith)))
 
   -- a place in a queue is written
-  queue-set : (c i x : ℕ) → i < word m 0 → cell c m′ i ≡ x → ((j : ℕ) → (j ≡ i → ⊥) → Out a n (thread-place j + c)) → queue c m′ ≡ set (queue c m) i x
-  queue-set c i x h e o = ap (row (cell c m′) 0) limit-stays ∙ row-set (cell c m) (cell c m′) (word m 0) i x h e (λ j l d. ap byte (E .same (thread-place j + c) (o j d)))
+  queue-set : (c i x : ℕ) → i < word m 0 → cell c m′ i ≡ x → ((j : ℕ) → (j ≡ i → ⊥) → Out a n (thread-place j + c)) →
+      queue c m′ ≡ set (queue c m) i x
+  queue-set c i x h e o = ap (row (cell c m′) 0) limit-stays
+      ∙ row-set (cell c m) (cell c m′) (word m 0) i x h e (λ j l d. ap byte (E .same (thread-place j + c) (o j d)))
 
   -- all rows behind the head stay
   pub rows-stay : (w : ℕ → ℕ) → ((k : ℕ) → k < 12 → word m′ k ≡ w k) → ((k : ℕ) → 16 ≤ k → (k < hints ⊎ (thread-place 0 ≤ k)) → Out a n k) →
@@ -145,7 +154,8 @@ module _ {a n : ℕ} {m m′ : List ℕ} (E : Elsewhere a n m m′) (b : 2 ≤ a
 
 -- the words after a store
 pub word-after : (m : List ℕ) (k v : ℕ) → k < length m → (j : ℕ) → word (set m k v) j ≡ put-word k v (words m) j
-word-after m k v h j = ⊎-elim (λ e. rw (e .1, e .0) (getD-set-same m k v 0 h)) (λ d. rw (d .1) (getD-set-other m k j v 0 (d .0))) (same? j k)
+word-after m k v h j =
+    ⊎-elim (λ e. rw (e .1, e .0) (getD-set-same m k v 0 h)) (λ d. rw (d .1) (getD-set-other m k j v 0 (d .0))) (same? j k)
 
 pub after-store : (m : List ℕ) (k v : ℕ) → k < length m → words (set m k v) ≡ put-word k v (words m)
 after-store m k v h = λ ι j. word-after m k v h j ι
@@ -159,7 +169,8 @@ pub head-put : (m : List ℕ) (k v : ℕ) → 2 ≤ k → k < 16 → 16 ≤ leng
 head-put m k v p q h = heads m (set m k v) _ (widen 2 14 (stored m k v) (omega arith) (omega arith)) (after-store m k v (omega arith))
 
 -- the runner's two
-pub runner-put : (m : List ℕ) (n s : ℕ) (r : Runner) → 16 ≤ length m → runner-in n s ≡ r → rows-of (set (set m 3 n) 4 s) ≡ put-runner r (rows-of m)
+pub runner-put : (m : List ℕ) (n s : ℕ) (r : Runner) → 16 ≤ length m → runner-in n s ≡ r →
+    rows-of (set (set m 3 n) 4 s) ≡ put-runner r (rows-of m)
 unfolding rows-of
 runner-put m n s r h e =
     heads m (set (set m 3 n) 4 s) (put-word 4 s (put-word 3 n (words m)))
@@ -170,26 +181,30 @@ runner-put m n s r h e =
 -- hints say nothing
 pub hint-put : (m : List ℕ) (k v : ℕ) → hints ≤ k → k < thread-place 0 → rows-of (set m k v) ≡ rows-of m
 unfolding rows-of
-hint-put m k v p q = rows-stay (stored m k v) (omega arith) (words m) (λ j h. stored m k v .same j (λ r s. omega arith)) (λ j h s r t. ⊎-elim (λ x. omega arith) (λ x. omega arith) s)
+hint-put m k v p q = rows-stay (stored m k v) (omega arith) (words m) (λ j h. stored m k v .same j (λ r s. omega arith))
+    (λ j h s r t. ⊎-elim (λ x. omega arith) (λ x. omega arith) s)
 
 -- ---- an entry
 
 module _ (m m′ : List ℕ) (i : ℕ) where
-  pub thread-put : (t : Thread) → i < word m 0 → Elsewhere (thread-place i) 12 m m′ → thread-of m′ i ≡ t → rows-of m′ ≡ put-threads (set (rows-of m .threads) i t) (rows-of m)
+  pub thread-put : (t : Thread) → i < word m 0 → Elsewhere (thread-place i) 12 m m′ → thread-of m′ i ≡ t →
+      rows-of m′ ≡ put-threads (set (rows-of m .threads) i t) (rows-of m)
   unfolding rows-of
   thread-put t h E e =
       let b : 2 ≤ thread-place i = omega arith in
       rows-told m′ (length m) (words m) _ _ _ _ _ _
       (E .long)
       (λ k l. E .same k (λ p q. omega arith))
-      (ap (row (thread-of m′) 0) (limit-stays E b) ∙ row-set (thread-of m) (thread-of m′) (word m 0) i t h e (λ j l d. thread-stays E b j (λ k x p q. d (omega arith))))
+      (ap (row (thread-of m′) 0) (limit-stays E b)
+      ∙ row-set (thread-of m) (thread-of m′) (word m 0) i t h e (λ j l d. thread-stays E b j (λ k x p q. d (omega arith))))
       (queue-stays E b 12 (λ j l p q. omega arith))
       (queue-stays E b 13 (λ j l p q. omega arith))
       (messages-stay E b (λ j k l x p q. omega arith))
       (helds-stay E b (λ j k l x p q. omega arith))
       (queue-stays E b 14 (λ j l p q. omega arith))
 
-  pub message-put : (x : Message) → i < word m 0 + word m 1 → Elsewhere (message-place (word m 0) i) 4 m m′ → message-in (part m′ (message-place (word m 0) i) 3) ≡ x → rows-of m′ ≡ put-messages (set (rows-of m .messages) i x) (rows-of m)
+  pub message-put : (x : Message) → i < word m 0 + word m 1 → Elsewhere (message-place (word m 0) i) 4 m m′ →
+      message-in (part m′ (message-place (word m 0) i) 3) ≡ x → rows-of m′ ≡ put-messages (set (rows-of m .messages) i x) (rows-of m)
   unfolding rows-of
   message-put x h E e =
       let b : 2 ≤ message-place (word m 0) i = omega arith in
@@ -200,7 +215,9 @@ module _ (m m′ : List ℕ) (i : ℕ) where
       (queue-stays E b 12 (λ j l p q. omega arith))
       (queue-stays E b 13 (λ j l p q. omega arith))
       (ap (row (message-of m′) 0) (places-stay E b)
-      ∙ row-set (message-of m) (message-of m′) (word m 0 + word m 1) i x h (ap (λ (t : ℕ). message-in (part m′ (message-place t i) 3)) (limit-stays E b) ∙ e) (λ j l d. message-stays E b j (λ k x p q. d (omega arith))))
+      ∙ row-set (message-of m) (message-of m′) (word m 0 + word m 1) i x h
+      (ap (λ (t : ℕ). message-in (part m′ (message-place t i) 3)) (limit-stays E b) ∙ e)
+      (λ j l d. message-stays E b j (λ k x p q. d (omega arith))))
       (helds-stay E b (λ j k l x p q. omega arith))
       (queue-stays E b 14 (λ j l p q. omega arith))
 
@@ -220,34 +237,36 @@ held-put m m′ hs E e =
     (queue-stays E b 14 (λ j l p q. omega arith))
 
 -- a place in a queue: word c of record i is written, and says n
-module _ (m : List ℕ) (i c x n : ℕ) (h : i < word m 0) (room : thread-place i + 16 ≤ length m) (says : byte x ≡ n) (p : 12 ≤ c) (q : c < 16) where
-  abbrev m′ : List ℕ
-  m′ = set m (thread-place i + c) x
+module _ (m : List ℕ) (i c x n : ℕ) (h : i < word m 0) (room : thread-place i + 16 ≤ length m) (says : byte x ≡ n) (p : 12 ≤ c) (q : c < 16)
+  where
+    abbrev m′ : List ℕ
+    m′ = set m (thread-place i + c) x
 
-  -- queue d afterwards
-  abbrev pick : ℕ → List ℕ
-  pick d = if d == c then set (queue d m) i n else queue d m
+    -- queue d afterwards
+    abbrev pick : ℕ → List ℕ
+    pick d = if d == c then set (queue d m) i n else queue d m
 
-  written : cell c m′ i ≡ n
-  written = ap byte (getD-set-same m (thread-place i + c) x 0 (omega arith)) ∙ says
+    written : cell c m′ i ≡ n
+    written = ap byte (getD-set-same m (thread-place i + c) x 0 (omega arith)) ∙ says
 
-  picked : (d : ℕ) → 12 ≤ d → d < 16 → queue d m′ ≡ pick d
-  picked d r s =
-      let E = stored m (thread-place i + c) x in
-      let b : 2 ≤ thread-place i + c = omega arith in
-      ⊎-elim (λ e. rw (e .1, e .0) (queue-set E b c i n h written (λ j k y z. k (omega arith)))) (λ k. rw (k .1) (queue-stays E b d (λ j l y z. k .0 (omega arith)))) (same? d c)
+    picked : (d : ℕ) → 12 ≤ d → d < 16 → queue d m′ ≡ pick d
+    picked d r s =
+        let E = stored m (thread-place i + c) x in
+        let b : 2 ≤ thread-place i + c = omega arith in
+        ⊎-elim (λ e. rw (e .1, e .0) (queue-set E b c i n h written (λ j k y z. k (omega arith))))
+        (λ k. rw (k .1) (queue-stays E b d (λ j l y z. k .0 (omega arith)))) (same? d c)
 
-  pub queue-put : rows-of m′ ≡ put-ready (pick 12) (put-clock (pick 13) (put-ended (pick 14) (rows-of m)))
-  unfolding rows-of
-  queue-put =
-      let E = stored m (thread-place i + c) x in
-      let b : 2 ≤ thread-place i + c = omega arith in
-      rows-told m′ (length m) (words m) _ _ _ _ _ _
-      (E .long)
-      (λ k l. E .same k (λ y z. omega arith))
-      (threads-stay E b (λ j k l x y z. omega arith))
-      (picked 12 (omega arith) (omega arith))
-      (picked 13 (omega arith) (omega arith))
-      (messages-stay E b (λ j k l x y z. omega arith))
-      (helds-stay E b (λ j k l x y z. omega arith))
-      (picked 14 (omega arith) (omega arith))
+    pub queue-put : rows-of m′ ≡ put-ready (pick 12) (put-clock (pick 13) (put-ended (pick 14) (rows-of m)))
+    unfolding rows-of
+    queue-put =
+        let E = stored m (thread-place i + c) x in
+        let b : 2 ≤ thread-place i + c = omega arith in
+        rows-told m′ (length m) (words m) _ _ _ _ _ _
+        (E .long)
+        (λ k l. E .same k (λ y z. omega arith))
+        (threads-stay E b (λ j k l x y z. omega arith))
+        (picked 12 (omega arith) (omega arith))
+        (picked 13 (omega arith) (omega arith))
+        (messages-stay E b (λ j k l x y z. omega arith))
+        (helds-stay E b (λ j k l x y z. omega arith))
+        (picked 14 (omega arith) (omega arith))

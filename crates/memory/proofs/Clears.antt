@@ -15,14 +15,16 @@ record Says (n : ℕ) (m : List ℕ) (w : ℕ → ℕ) : Type 0 where
   words-are : words m ≡ w
 
 more : (n : ℕ) (m : List ℕ) (w : ℕ → ℕ) (k v : ℕ) → k < n → Says n m w → Says n (set m k v) (put-word k v w)
-more n m w k v h s = record { long = length-set m k v ∙ s .long; words-are = after-store m k v (omega (arith, s .long)) ∙ ap (put-word k v) (s .words-are) }
+more n m w k v h s =
+    record { long = length-set m k v ∙ s .long; words-are = after-store m k v (omega (arith, s .long)) ∙ ap (put-word k v) (s .words-are) }
 
 module _ (m : List ℕ) (t b : ℕ) (room : 16 ≤ length m) where
   abbrev pub anew : List ℕ
   anew = set (set (set (set (set (set (set (set (set m 0 t) 1 b) 2 0) 5 0) 6 0) 7 0) 8 0) 9 0) 10 0
 
   abbrev says : ℕ → ℕ
-  says = put-word 10 0 (put-word 9 0 (put-word 8 0 (put-word 7 0 (put-word 6 0 (put-word 5 0 (put-word 2 0 (put-word 1 b (put-word 0 t (words m)))))))))
+  says = put-word 10 0
+      (put-word 9 0 (put-word 8 0 (put-word 7 0 (put-word 6 0 (put-word 5 0 (put-word 2 0 (put-word 1 b (put-word 0 t (words m)))))))))
 
   all-more : Says (length m) anew says
   all-more =
@@ -40,12 +42,14 @@ module _ (m : List ℕ) (t b : ℕ) (room : 16 ≤ length m) where
   pub anew-long : length anew ≡ length m
   anew-long = all-more .long
 
-  rows-anew : rows-of anew ≡ told (length m) says (rows-of anew .threads) (rows-of anew .ready) (rows-of anew .clock) (rows-of anew .messages) (rows-of anew .held) (rows-of anew .ended)
+  rows-anew : rows-of anew ≡ told (length m) says (rows-of anew .threads) (rows-of anew .ready) (rows-of anew .clock)
+      (rows-of anew .messages) (rows-of anew .held) (rows-of anew .ended)
   rows-anew = rows-told anew (length m) says _ _ _ _ _ _ (all-more .long) (λ k h ι. all-more .words-are ι k) refl refl refl refl refl refl
 
   pub anew-roomy : Room (record { threads = t; blocks = b }) (length m) → Roomy (rows-of anew)
   anew-roomy h = rw rows-anew h
 
   pub anew-nothing : (r : Rows) → r ≡ put-held [] (put-runner NoRunner (rows-of anew)) →
-      (view r ≡ nothing) × (r .limits ≡ record { threads = t; blocks = b }) × (r .count ≡ 0) × (r .readies ≡ 0) × (r .clocks ≡ 0) × (r .letters ≡ 0)
+      (view r ≡ nothing) × (r .limits ≡ record { threads = t; blocks = b }) × (r .count ≡ 0) × (r .readies ≡ 0) × (r .clocks ≡ 0)
+      × (r .letters ≡ 0)
   anew-nothing r e = rw (e, rows-anew) (refl, refl, refl, refl, refl, refl)

@@ -22,7 +22,8 @@ use Rattle.memory.proofs.Rowing.{Elsewhere, each-same, stored, widen, t
 use Rattle.memory.proofs.Changes.{held-stays, held-put}
 
 -- by a device's first word
-by-flag : (P : List Held → Type 0) (d f w : ℕ) → (f ≡ 0 → P []) → (f ≡ 1 → P (record { device = d; word = w } ∷ [])) → (1 < f → P (record { device = nobody; word = w } ∷ [])) → P (held-in d f w)
+by-flag : (P : List Held → Type 0) (d f w : ℕ) → (f ≡ 0 → P []) → (f ≡ 1 → P (record { device = d; word = w } ∷ [])) →
+    (1 < f → P (record { device = nobody; word = w } ∷ [])) → P (held-in d f w)
 unfolding held-in
 by-flag P d f w none one more =
     by-if P (f == 0) (λ e. none (eqb-true f 0 e)) (λ n.
@@ -70,16 +71,20 @@ module _ (F W : ℕ → ℕ) where
       (λ e. rw (ne-eqb a d (λ z. omega arith)) (none-behind d (suc a) n (omega arith) l))
       (λ e. rw (ne-eqb nobody d (λ z. omega arith)) (none-behind d (suc a) n (omega arith) l))
 
-  pub own : (d a n : ℕ) → a ≤ d → d < a + n → d < nobody → keep (held-for d) (helds a n) ≡ (if F d == 1 then record { device = d; word = W d } ∷ [] else [])
+  pub own : (d a n : ℕ) → a ≤ d → d < a + n → d < nobody →
+      keep (held-for d) (helds a n) ≡ (if F d == 1 then record { device = d; word = W d } ∷ [] else [])
   unfolding keep each from-on
   own d a zero h k l = absurd (omega arith)
   own d a (suc n) h k l =
       ⊎-elim
-      (λ e. rw (← e .0) (by-flag (λ xs. keep (held-for a) (xs ++ helds (suc a) n) ≡ (if F a == 1 then record { device = a; word = W a } ∷ [] else [])) a (F a) (W a)
+      (λ e. rw (← e .0) (by-flag (λ xs. keep (held-for a) (xs ++ helds (suc a) n) ≡ (if F a == 1 then record { device = a; word = W a }
+      ∷ [] else [])) a (F a) (W a)
       (λ z. rw (ne-eqb (F a) 1 (λ y. omega arith)) (none-behind a (suc a) n (omega arith) (omega arith)))
       (λ z. rw (eq-eqb (F a) 1 z, eq-eqb a a refl, none-behind a (suc a) n (omega arith) (omega arith)) refl)
-      (λ z. rw (ne-eqb (F a) 1 (λ y. omega arith), ne-eqb nobody a (λ y. omega arith)) (none-behind a (suc a) n (omega arith) (omega arith)))))
-      (λ e. by-flag (λ xs. keep (held-for d) (xs ++ helds (suc a) n) ≡ (if F d == 1 then record { device = d; word = W d } ∷ [] else [])) a (F a) (W a)
+      (λ z. rw (ne-eqb (F a) 1 (λ y. omega arith), ne-eqb nobody a (λ y. omega arith))
+      (none-behind a (suc a) n (omega arith) (omega arith)))))
+      (λ e. by-flag (λ xs. keep (held-for d) (xs ++ helds (suc a) n) ≡ (if F d == 1 then record { device = d; word = W d } ∷ [] else [])) a
+      (F a) (W a)
       (λ z. own d (suc a) n (omega (arith, e .0)) (omega arith) l)
       (λ z. rw (e .1) (own d (suc a) n (omega (arith, e .0)) (omega arith) l))
       (λ z. rw (ne-eqb nobody d (λ y. omega arith)) (own d (suc a) n (omega (arith, e .0)) (omega arith) l)))
@@ -120,7 +125,8 @@ module _ (F W : ℕ → ℕ) where
   untold a (suc n) d p q f =
       by-flag (λ xs. all (λ h. ltb (h .device) devices) (xs ++ helds (suc a) n) ≡ false) a (F a) (W a)
       (λ e. untold (suc a) n d (later (λ z. omega (arith, ap F z))) (omega arith) f)
-      (λ e. ap (λ b. ltb a devices && b) (untold (suc a) n d (later (λ z. omega (arith, ap F z))) (omega arith) f) ∙ and-false (ltb a devices))
+      (λ e. ap (λ b. ltb a devices && b) (untold (suc a) n d (later (λ z. omega (arith, ap F z))) (omega arith) f)
+      ∙ and-false (ltb a devices))
       (λ e. refl)
     where
       later : (a ≢ d) → suc a ≤ d
@@ -137,7 +143,8 @@ module _ (F W : ℕ → ℕ) where
   pub none-held : (a n : ℕ) → ((j : ℕ) → a ≤ j → j < a + n → F j ≡ 0) → helds a n ≡ []
   unfolding each from-on held-in
   none-held a zero h = refl
-  none-held a (suc n) h = rw (eq-eqb (F a) 0 (h a (omega arith) (omega arith))) (none-held (suc a) n (λ j p q. h j (omega arith) (omega arith)))
+  none-held a (suc n) h =
+      rw (eq-eqb (F a) 0 (h a (omega arith) (omega arith))) (none-held (suc a) n (λ j p q. h j (omega arith) (omega arith)))
 
   -- ---- one device's words change: g says what is held afterwards
 
@@ -147,7 +154,9 @@ module _ (F W : ℕ → ℕ) where
   kept-behind d a (suc n) h g =
       by-flag (λ xs. keep (other d) (xs ++ helds (suc a) n) ≡ xs ++ helds (suc a) n) a (F a) (W a)
       (λ e. kept-behind d (suc a) n (omega arith) (λ j p q. g j (omega arith) (omega arith)))
-      (λ e. rw (ne-eqb a d (λ z. omega arith)) (ap (λ (xs : List Held). record { device = a; word = W a } ∷ xs) (kept-behind d (suc a) n (omega arith) (λ j p q. g j (omega arith) (omega arith)))))
+      (λ e. rw (ne-eqb a d (λ z. omega arith))
+      (ap (λ (xs : List Held). record { device = a; word = W a } ∷ xs)
+      (kept-behind d (suc a) n (omega arith) (λ j p q. g j (omega arith) (omega arith)))))
       (λ e. absurd (omega (arith, g a (omega arith) (omega arith))))
 
   first-behind : (x : Held) (d a n : ℕ) → d < a → Gentle a n → insert (λ h. ltb (h .device) d) x (helds a n) ≡ x ∷ helds a n
@@ -177,7 +186,8 @@ module _ (F W : ℕ → ℕ) where
         (λ z. absurd (omega (arith, t a (omega arith) (omega arith)))))
         (same? a d)
 
-    pub held-anew : (w : ℕ) → g d ≡ record { device = d; word = w } ∷ [] → (a n : ℕ) → a ≤ d → d < a + n → Gentle a n → each g (from-on a n) ≡ hold d w (helds a n)
+    pub held-anew : (w : ℕ) → g d ≡ record { device = d; word = w } ∷ [] → (a n : ℕ) → a ≤ d → d < a + n → Gentle a n →
+        each g (from-on a n) ≡ hold d w (helds a n)
     unfolding hold keep insert each from-on
     held-anew w e a zero p q t = absurd (omega arith)
     held-anew w e a (suc n) p q t =
@@ -186,10 +196,13 @@ module _ (F W : ℕ → ℕ) where
         ⊎-elim
         (λ y. ap₂ _++_ (ap g (y .0) ∙ e) (each-same g of (suc a) n (λ k r s. same k (λ z. omega (arith, y .0))))
         ∙ sym (by-flag (λ xs. insert below x (keep (other d) (xs ++ helds (suc a) n)) ≡ x ∷ helds (suc a) n) a (F a) (W a)
-        (λ z. rw (kept-behind d (suc a) n (omega (arith, y .0)) (λ j r s. t j (omega arith) (omega arith))) (first-behind x d (suc a) n (omega (arith, y .0)) (λ j r s. t j (omega arith) (omega arith))))
-        (λ z. rw (y .1, kept-behind d (suc a) n (omega (arith, y .0)) (λ j r s. t j (omega arith) (omega arith))) (first-behind x d (suc a) n (omega (arith, y .0)) (λ j r s. t j (omega arith) (omega arith))))
+        (λ z. rw (kept-behind d (suc a) n (omega (arith, y .0)) (λ j r s. t j (omega arith) (omega arith)))
+        (first-behind x d (suc a) n (omega (arith, y .0)) (λ j r s. t j (omega arith) (omega arith))))
+        (λ z. rw (y .1, kept-behind d (suc a) n (omega (arith, y .0)) (λ j r s. t j (omega arith) (omega arith)))
+        (first-behind x d (suc a) n (omega (arith, y .0)) (λ j r s. t j (omega arith) (omega arith))))
         (λ z. absurd (omega (arith, t a (omega arith) (omega arith))))))
-        (λ y. ap₂ _++_ (same a (y .0)) (held-anew w e (suc a) n (omega (arith, y .0)) (omega arith) (λ j r s. t j (omega arith) (omega arith)))
+        (λ y. ap₂ _++_ (same a (y .0))
+        (held-anew w e (suc a) n (omega (arith, y .0)) (omega arith) (λ j r s. t j (omega arith) (omega arith)))
         ∙ by-flag (λ xs. xs ++ hold d w (helds (suc a) n) ≡ insert below x (keep (other d) (xs ++ helds (suc a) n))) a (F a) (W a)
         (λ z. refl)
         (λ z. rw (y .1, lt-ltb a d (omega (arith, y .0))) refl)
@@ -204,33 +217,36 @@ flags m = λ d. word m (held-place d)
 abbrev pub inside : List ℕ → ℕ → ℕ
 inside m = λ d. word m (held-place d + 1)
 
-module _ (m : List ℕ) (d : ℕ) (h : d < devices) (room : 176 ≤ length m) (good : all (λ h. ltb (h .device) devices) (rows-of m .held) ≡ true) where
-  gentle : Gentle (flags m) (inside m) 0 devices
-  unfolding rows-of
-  gentle = told-gentle (flags m) (inside m) good
+module _ (m : List ℕ) (d : ℕ) (h : d < devices) (room : 176 ≤ length m) (good : all (λ h. ltb (h .device) devices) (rows-of m .held) ≡ true)
+  where
+    gentle : Gentle (flags m) (inside m) 0 devices
+    unfolding rows-of
+    gentle = told-gentle (flags m) (inside m) good
 
-  pub hold-put : (w : ℕ) → rows-of (set (set m (held-place d) 1) (held-place d + 1) w) ≡ put-held (hold d w (rows-of m .held)) (rows-of m)
-  unfolding rows-of held-in
-  hold-put w =
-      let at : ℕ = held-place d in
-      let m₁ : List ℕ = set m at 1 in
-      let m₂ : List ℕ = set m₁ (at + 1) w in
-      let l : length m₁ ≡ length m = length-set m at 1 in
-      let E : Elsewhere at 2 m m₂ = twice (widen at 2 (stored m at 1) (omega arith) (omega arith)) (widen at 2 (stored m₁ (at + 1) w) (omega arith) (omega arith)) in
-      held-put m m₂ _ (widen 16 96 E (omega arith) (omega arith))
-      (held-anew (flags m) (inside m) (held-of m₂) d (λ j n. held-stays E (omega arith) j (λ k x p q. n (omega arith))) w
-      (ap₂ (held-in d) (getD-set-other m₁ (at + 1) at w 0 (λ z. omega arith) ∙ getD-set-same m at 1 0 (omega arith)) (getD-set-same m₁ (at + 1) w 0 (omega arith)))
-      0 devices (omega arith) (omega arith) gentle)
+    pub hold-put : (w : ℕ) → rows-of (set (set m (held-place d) 1) (held-place d + 1) w) ≡ put-held (hold d w (rows-of m .held)) (rows-of m)
+    unfolding rows-of held-in
+    hold-put w =
+        let at : ℕ = held-place d in
+        let m₁ : List ℕ = set m at 1 in
+        let m₂ : List ℕ = set m₁ (at + 1) w in
+        let l : length m₁ ≡ length m = length-set m at 1 in
+        let E : Elsewhere at 2 m m₂ =
+        twice (widen at 2 (stored m at 1) (omega arith) (omega arith)) (widen at 2 (stored m₁ (at + 1) w) (omega arith) (omega arith)) in
+        held-put m m₂ _ (widen 16 96 E (omega arith) (omega arith))
+        (held-anew (flags m) (inside m) (held-of m₂) d (λ j n. held-stays E (omega arith) j (λ k x p q. n (omega arith))) w
+        (ap₂ (held-in d) (getD-set-other m₁ (at + 1) at w 0 (λ z. omega arith) ∙ getD-set-same m at 1 0 (omega arith))
+        (getD-set-same m₁ (at + 1) w 0 (omega arith)))
+        0 devices (omega arith) (omega arith) gentle)
 
-  pub clear-put : rows-of (set m (held-place d) 0) ≡ put-held (keep (λ h. not (held-for d h)) (rows-of m .held)) (rows-of m)
-  unfolding rows-of held-in
-  clear-put =
-      let at : ℕ = held-place d in
-      let E : Elsewhere at 2 m (set m at 0) = widen at 2 (stored m at 0) (omega arith) (omega arith) in
-      held-put m (set m at 0) _ (widen 16 96 E (omega arith) (omega arith))
-      (cleared (flags m) (inside m) (held-of (set m at 0)) d (λ j n. held-stays E (omega arith) j (λ k x p q. n (omega arith)))
-      (ap (λ (f : ℕ). held-in d f (word (set m at 0) (at + 1))) (getD-set-same m at 0 0 (omega arith)))
-      0 devices (omega arith) (omega arith) gentle)
+    pub clear-put : rows-of (set m (held-place d) 0) ≡ put-held (keep (λ h. not (held-for d h)) (rows-of m .held)) (rows-of m)
+    unfolding rows-of held-in
+    clear-put =
+        let at : ℕ = held-place d in
+        let E : Elsewhere at 2 m (set m at 0) = widen at 2 (stored m at 0) (omega arith) (omega arith) in
+        held-put m (set m at 0) _ (widen 16 96 E (omega arith) (omega arith))
+        (cleared (flags m) (inside m) (held-of (set m at 0)) d (λ j n. held-stays E (omega arith) j (λ k x p q. n (omega arith)))
+        (ap (λ (f : ℕ). held-in d f (word (set m at 0) (at + 1))) (getD-set-same m at 0 0 (omega arith)))
+        0 devices (omega arith) (omega arith) gentle)
 
 -- the devices before d hold nothing, and all but the held words stands
 pub record Emptied (d : ℕ) (m m′ : List ℕ) : Type 0 where

@@ -34,7 +34,8 @@ module _ {A : Type 0} where
   row-same f g i zero h = refl
   row-same f g i (suc n) h = ap₂ _∷_ (h i (omega arith)) (row-same f g (suc i) n (λ k l. h k (omega arith)))
 
-  row-put : (f g : ℕ → A) (i n k at : ℕ) (v : A) → k < n → at ≡ i + k → g at ≡ v → ((j : ℕ) → i ≤ j → j < i + n → j ≢ at → g j ≡ f j) → row g i n ≡ set (row f i n) k v
+  row-put : (f g : ℕ → A) (i n k at : ℕ) (v : A) → k < n → at ≡ i + k → g at ≡ v → ((j : ℕ) → i ≤ j → j < i + n → j ≢ at → g j ≡ f j) →
+      row g i n ≡ set (row f i n) k v
   unfolding row
   row-put f g i zero k at v h e x o = absurd (omega arith)
   row-put f g i (suc n) zero at v h e x o =
@@ -44,12 +45,14 @@ module _ {A : Type 0} where
       go i zero q = refl
       go i (suc n) q = ap₂ _∷_ (q i (omega arith) (omega arith)) (go (suc i) n (λ j a b. q j (omega arith) (omega arith)))
   row-put f g i (suc n) (suc k) at v h e x o =
-      ap₂ _∷_ (o i (omega arith) (omega arith) (λ z. omega arith)) (row-put f g (suc i) n k at v (omega arith) (omega arith) x (λ j a b c. o j (omega arith) (omega arith) c))
+      ap₂ _∷_ (o i (omega arith) (omega arith) (λ z. omega arith))
+      (row-put f g (suc i) n k at v (omega arith) (omega arith) x (λ j a b c. o j (omega arith) (omega arith) c))
 
   pub row-set : (f g : ℕ → A) (n k : ℕ) (v : A) → k < n → g k ≡ v → ((j : ℕ) → j < n → j ≢ k → g j ≡ f j) → row g 0 n ≡ set (row f 0 n) k v
   row-set f g n k v h x o = row-put f g 0 n k k v h (omega arith) x (λ j a b c. o j (omega arith) c)
 
-pub each-same : {A : Type 0} (f g : ℕ → List A) (a n : ℕ) → ((k : ℕ) → a ≤ k → k < a + n → f k ≡ g k) → each f (from-on a n) ≡ each g (from-on a n)
+pub each-same : {A : Type 0} (f g : ℕ → List A) (a n : ℕ) → ((k : ℕ) → a ≤ k → k < a + n → f k ≡ g k) →
+    each f (from-on a n) ≡ each g (from-on a n)
 unfolding each from-on
 each-same f g a zero h = refl
 each-same f g a (suc n) h = ap₂ _++_ (h a (omega arith) (omega arith)) (each-same f g (suc a) n (λ k p q. h k (omega arith) (omega arith)))
@@ -62,7 +65,8 @@ pub record Elsewhere (a n : ℕ) (m m′ : List ℕ) : Type 0 where
 pub part-word : (m : List ℕ) (a n k : ℕ) → k < n → word (part m a n) k ≡ word m (a + k)
 part-word m a n k h = getD-take n (drop a m) k 0 h ∙ getD-drop a m k 0
 
-pub part-same : (m m′ : List ℕ) (a n : ℕ) → length m′ ≡ length m → ((k : ℕ) → k < n → word m′ (a + k) ≡ word m (a + k)) → part m′ a n ≡ part m a n
+pub part-same : (m m′ : List ℕ) (a n : ℕ) → length m′ ≡ length m → ((k : ℕ) → k < n → word m′ (a + k) ≡ word m (a + k)) →
+    part m′ a n ≡ part m a n
 part-same m m′ a n l h =
     let e : length (part m′ a n) ≡ length (part m a n) = simp (length-take, length-drop, l) in
     ext-getD 0 (part m′ a n) (part m a n) e (λ k i.

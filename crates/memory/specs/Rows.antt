@@ -32,7 +32,17 @@ pub record Rows : Type 0 where
   pub ended : List ℕ
 
 abbrev pub view : Rows → Tables
-view r = record { last = r .last; runner = r .runner; since = r .since; beats = r .beats; threads = take (r .count) (r .threads); ready = take (r .readies) (r .ready); clock = take (r .clocks) (r .clock); messages = take (r .letters) (r .messages); held = r .held }
+view r = record {
+  last = r .last;
+  runner = r .runner;
+  since = r .since;
+  beats = r .beats;
+  threads = take (r .count) (r .threads);
+  ready = take (r .readies) (r .ready);
+  clock = take (r .clocks) (r .clock);
+  messages = take (r .letters) (r .messages);
+  held = r .held;
+}
 
 -- who an ending has found so far, in the order found
 abbrev pub members : Rows → List ℕ
@@ -83,49 +93,319 @@ place p (x ∷ xs) = if p x then 0 else suc (place p xs)
 -- ---- one part changed
 
 abbrev pub put-last : ℕ → Rows → Rows
-put-last x r = record { room = r .room; limits = r .limits; last = x; runner = r .runner; since = r .since; beats = r .beats; count = r .count; readies = r .readies; clocks = r .clocks; letters = r .letters; ends = r .ends; threads = r .threads; ready = r .ready; clock = r .clock; messages = r .messages; held = r .held; ended = r .ended }
+put-last x r = record {
+  room = r .room;
+  limits = r .limits;
+  last = x;
+  runner = r .runner;
+  since = r .since;
+  beats = r .beats;
+  count = r .count;
+  readies = r .readies;
+  clocks = r .clocks;
+  letters = r .letters;
+  ends = r .ends;
+  threads = r .threads;
+  ready = r .ready;
+  clock = r .clock;
+  messages = r .messages;
+  held = r .held;
+  ended = r .ended;
+}
 
 abbrev pub put-runner : Runner → Rows → Rows
-put-runner x r = record { room = r .room; limits = r .limits; last = r .last; runner = x; since = r .since; beats = r .beats; count = r .count; readies = r .readies; clocks = r .clocks; letters = r .letters; ends = r .ends; threads = r .threads; ready = r .ready; clock = r .clock; messages = r .messages; held = r .held; ended = r .ended }
+put-runner x r = record {
+  room = r .room;
+  limits = r .limits;
+  last = r .last;
+  runner = x;
+  since = r .since;
+  beats = r .beats;
+  count = r .count;
+  readies = r .readies;
+  clocks = r .clocks;
+  letters = r .letters;
+  ends = r .ends;
+  threads = r .threads;
+  ready = r .ready;
+  clock = r .clock;
+  messages = r .messages;
+  held = r .held;
+  ended = r .ended;
+}
 
 abbrev pub put-since : ℕ → Rows → Rows
-put-since x r = record { room = r .room; limits = r .limits; last = r .last; runner = r .runner; since = x; beats = r .beats; count = r .count; readies = r .readies; clocks = r .clocks; letters = r .letters; ends = r .ends; threads = r .threads; ready = r .ready; clock = r .clock; messages = r .messages; held = r .held; ended = r .ended }
+put-since x r = record {
+  room = r .room;
+  limits = r .limits;
+  last = r .last;
+  runner = r .runner;
+  since = x;
+  beats = r .beats;
+  count = r .count;
+  readies = r .readies;
+  clocks = r .clocks;
+  letters = r .letters;
+  ends = r .ends;
+  threads = r .threads;
+  ready = r .ready;
+  clock = r .clock;
+  messages = r .messages;
+  held = r .held;
+  ended = r .ended;
+}
 
 abbrev pub put-beats : ℕ → Rows → Rows
-put-beats x r = record { room = r .room; limits = r .limits; last = r .last; runner = r .runner; since = r .since; beats = x; count = r .count; readies = r .readies; clocks = r .clocks; letters = r .letters; ends = r .ends; threads = r .threads; ready = r .ready; clock = r .clock; messages = r .messages; held = r .held; ended = r .ended }
+put-beats x r = record {
+  room = r .room;
+  limits = r .limits;
+  last = r .last;
+  runner = r .runner;
+  since = r .since;
+  beats = x;
+  count = r .count;
+  readies = r .readies;
+  clocks = r .clocks;
+  letters = r .letters;
+  ends = r .ends;
+  threads = r .threads;
+  ready = r .ready;
+  clock = r .clock;
+  messages = r .messages;
+  held = r .held;
+  ended = r .ended;
+}
 
 abbrev pub put-count : ℕ → Rows → Rows
-put-count x r = record { room = r .room; limits = r .limits; last = r .last; runner = r .runner; since = r .since; beats = r .beats; count = x; readies = r .readies; clocks = r .clocks; letters = r .letters; ends = r .ends; threads = r .threads; ready = r .ready; clock = r .clock; messages = r .messages; held = r .held; ended = r .ended }
+put-count x r = record {
+  room = r .room;
+  limits = r .limits;
+  last = r .last;
+  runner = r .runner;
+  since = r .since;
+  beats = r .beats;
+  count = x;
+  readies = r .readies;
+  clocks = r .clocks;
+  letters = r .letters;
+  ends = r .ends;
+  threads = r .threads;
+  ready = r .ready;
+  clock = r .clock;
+  messages = r .messages;
+  held = r .held;
+  ended = r .ended;
+}
 
 abbrev pub put-readies : ℕ → Rows → Rows
-put-readies x r = record { room = r .room; limits = r .limits; last = r .last; runner = r .runner; since = r .since; beats = r .beats; count = r .count; readies = x; clocks = r .clocks; letters = r .letters; ends = r .ends; threads = r .threads; ready = r .ready; clock = r .clock; messages = r .messages; held = r .held; ended = r .ended }
+put-readies x r = record {
+  room = r .room;
+  limits = r .limits;
+  last = r .last;
+  runner = r .runner;
+  since = r .since;
+  beats = r .beats;
+  count = r .count;
+  readies = x;
+  clocks = r .clocks;
+  letters = r .letters;
+  ends = r .ends;
+  threads = r .threads;
+  ready = r .ready;
+  clock = r .clock;
+  messages = r .messages;
+  held = r .held;
+  ended = r .ended;
+}
 
 abbrev pub put-clocks : ℕ → Rows → Rows
-put-clocks x r = record { room = r .room; limits = r .limits; last = r .last; runner = r .runner; since = r .since; beats = r .beats; count = r .count; readies = r .readies; clocks = x; letters = r .letters; ends = r .ends; threads = r .threads; ready = r .ready; clock = r .clock; messages = r .messages; held = r .held; ended = r .ended }
+put-clocks x r = record {
+  room = r .room;
+  limits = r .limits;
+  last = r .last;
+  runner = r .runner;
+  since = r .since;
+  beats = r .beats;
+  count = r .count;
+  readies = r .readies;
+  clocks = x;
+  letters = r .letters;
+  ends = r .ends;
+  threads = r .threads;
+  ready = r .ready;
+  clock = r .clock;
+  messages = r .messages;
+  held = r .held;
+  ended = r .ended;
+}
 
 abbrev pub put-letters : ℕ → Rows → Rows
-put-letters x r = record { room = r .room; limits = r .limits; last = r .last; runner = r .runner; since = r .since; beats = r .beats; count = r .count; readies = r .readies; clocks = r .clocks; letters = x; ends = r .ends; threads = r .threads; ready = r .ready; clock = r .clock; messages = r .messages; held = r .held; ended = r .ended }
+put-letters x r = record {
+  room = r .room;
+  limits = r .limits;
+  last = r .last;
+  runner = r .runner;
+  since = r .since;
+  beats = r .beats;
+  count = r .count;
+  readies = r .readies;
+  clocks = r .clocks;
+  letters = x;
+  ends = r .ends;
+  threads = r .threads;
+  ready = r .ready;
+  clock = r .clock;
+  messages = r .messages;
+  held = r .held;
+  ended = r .ended;
+}
 
 abbrev pub put-ends : ℕ → Rows → Rows
-put-ends x r = record { room = r .room; limits = r .limits; last = r .last; runner = r .runner; since = r .since; beats = r .beats; count = r .count; readies = r .readies; clocks = r .clocks; letters = r .letters; ends = x; threads = r .threads; ready = r .ready; clock = r .clock; messages = r .messages; held = r .held; ended = r .ended }
+put-ends x r = record {
+  room = r .room;
+  limits = r .limits;
+  last = r .last;
+  runner = r .runner;
+  since = r .since;
+  beats = r .beats;
+  count = r .count;
+  readies = r .readies;
+  clocks = r .clocks;
+  letters = r .letters;
+  ends = x;
+  threads = r .threads;
+  ready = r .ready;
+  clock = r .clock;
+  messages = r .messages;
+  held = r .held;
+  ended = r .ended;
+}
 
 abbrev pub put-threads : List Thread → Rows → Rows
-put-threads x r = record { room = r .room; limits = r .limits; last = r .last; runner = r .runner; since = r .since; beats = r .beats; count = r .count; readies = r .readies; clocks = r .clocks; letters = r .letters; ends = r .ends; threads = x; ready = r .ready; clock = r .clock; messages = r .messages; held = r .held; ended = r .ended }
+put-threads x r = record {
+  room = r .room;
+  limits = r .limits;
+  last = r .last;
+  runner = r .runner;
+  since = r .since;
+  beats = r .beats;
+  count = r .count;
+  readies = r .readies;
+  clocks = r .clocks;
+  letters = r .letters;
+  ends = r .ends;
+  threads = x;
+  ready = r .ready;
+  clock = r .clock;
+  messages = r .messages;
+  held = r .held;
+  ended = r .ended;
+}
 
 abbrev pub put-ready : List ℕ → Rows → Rows
-put-ready x r = record { room = r .room; limits = r .limits; last = r .last; runner = r .runner; since = r .since; beats = r .beats; count = r .count; readies = r .readies; clocks = r .clocks; letters = r .letters; ends = r .ends; threads = r .threads; ready = x; clock = r .clock; messages = r .messages; held = r .held; ended = r .ended }
+put-ready x r = record {
+  room = r .room;
+  limits = r .limits;
+  last = r .last;
+  runner = r .runner;
+  since = r .since;
+  beats = r .beats;
+  count = r .count;
+  readies = r .readies;
+  clocks = r .clocks;
+  letters = r .letters;
+  ends = r .ends;
+  threads = r .threads;
+  ready = x;
+  clock = r .clock;
+  messages = r .messages;
+  held = r .held;
+  ended = r .ended;
+}
 
 abbrev pub put-clock : List ℕ → Rows → Rows
-put-clock x r = record { room = r .room; limits = r .limits; last = r .last; runner = r .runner; since = r .since; beats = r .beats; count = r .count; readies = r .readies; clocks = r .clocks; letters = r .letters; ends = r .ends; threads = r .threads; ready = r .ready; clock = x; messages = r .messages; held = r .held; ended = r .ended }
+put-clock x r = record {
+  room = r .room;
+  limits = r .limits;
+  last = r .last;
+  runner = r .runner;
+  since = r .since;
+  beats = r .beats;
+  count = r .count;
+  readies = r .readies;
+  clocks = r .clocks;
+  letters = r .letters;
+  ends = r .ends;
+  threads = r .threads;
+  ready = r .ready;
+  clock = x;
+  messages = r .messages;
+  held = r .held;
+  ended = r .ended;
+}
 
 abbrev pub put-messages : List Message → Rows → Rows
-put-messages x r = record { room = r .room; limits = r .limits; last = r .last; runner = r .runner; since = r .since; beats = r .beats; count = r .count; readies = r .readies; clocks = r .clocks; letters = r .letters; ends = r .ends; threads = r .threads; ready = r .ready; clock = r .clock; messages = x; held = r .held; ended = r .ended }
+put-messages x r = record {
+  room = r .room;
+  limits = r .limits;
+  last = r .last;
+  runner = r .runner;
+  since = r .since;
+  beats = r .beats;
+  count = r .count;
+  readies = r .readies;
+  clocks = r .clocks;
+  letters = r .letters;
+  ends = r .ends;
+  threads = r .threads;
+  ready = r .ready;
+  clock = r .clock;
+  messages = x;
+  held = r .held;
+  ended = r .ended;
+}
 
 abbrev pub put-held : List Held → Rows → Rows
-put-held x r = record { room = r .room; limits = r .limits; last = r .last; runner = r .runner; since = r .since; beats = r .beats; count = r .count; readies = r .readies; clocks = r .clocks; letters = r .letters; ends = r .ends; threads = r .threads; ready = r .ready; clock = r .clock; messages = r .messages; held = x; ended = r .ended }
+put-held x r = record {
+  room = r .room;
+  limits = r .limits;
+  last = r .last;
+  runner = r .runner;
+  since = r .since;
+  beats = r .beats;
+  count = r .count;
+  readies = r .readies;
+  clocks = r .clocks;
+  letters = r .letters;
+  ends = r .ends;
+  threads = r .threads;
+  ready = r .ready;
+  clock = r .clock;
+  messages = r .messages;
+  held = x;
+  ended = r .ended;
+}
 
 abbrev pub put-ended : List ℕ → Rows → Rows
-put-ended x r = record { room = r .room; limits = r .limits; last = r .last; runner = r .runner; since = r .since; beats = r .beats; count = r .count; readies = r .readies; clocks = r .clocks; letters = r .letters; ends = r .ends; threads = r .threads; ready = r .ready; clock = r .clock; messages = r .messages; held = r .held; ended = x }
+put-ended x r = record {
+  room = r .room;
+  limits = r .limits;
+  last = r .last;
+  runner = r .runner;
+  since = r .since;
+  beats = r .beats;
+  count = r .count;
+  readies = r .readies;
+  clocks = r .clocks;
+  letters = r .letters;
+  ends = r .ends;
+  threads = r .threads;
+  ready = r .ready;
+  clock = r .clock;
+  messages = r .messages;
+  held = r .held;
+  ended = x;
+}
 
 -- ---- one row changed: it stands for these entries now, and all else is as it was
 

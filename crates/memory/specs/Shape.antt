@@ -14,4 +14,5 @@ unfoldable pub shaped : Limits → List ℕ → Bool
 shaped L m =
     all (λ b. b)
     (leb (size L) (length m) ∷ (word m 0 == L .threads) ∷ (word m 1 == L .blocks)
-    ∷ leb (word m 7) (L .threads) ∷ leb (word m 8) (L .threads) ∷ leb (word m 9) (L .threads) ∷ leb (word m 10) (L .threads + L .blocks) ∷ [])
+    ∷ leb (word m 7) (L .threads) ∷ leb (word m 8) (L .threads) ∷ leb (word m 9) (L .threads) ∷ leb (word m 10) (L .threads + L .blocks)
+    ∷ [])

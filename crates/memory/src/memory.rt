@@ -25,11 +25,13 @@ ghost use Rattle.rules.specs.Interrupt.{held-for, hold as hold-of};
 ghost use Rattle.words.specs.Saying.{thread-in};
 ghost use Rattle.memory.specs.Layout.{most-blocks, manager-place};
 ghost use Rattle.memory.specs.Shape.{shaped as shaped-of};
-ghost use Rattle.memory.specs.Rows.{Room, Roomy, view, nothing, word-for, no-thread, no-message, put-last, put-runner, put-since, put-beats, put-count, put-readies, put-clocks, put-letters, put-ends, put-threads, put-ready, put-clock, put-messages, put-held, put-ended};
+ghost use Rattle.memory.specs.Rows.{Room, Roomy, view, nothing, word-for, no-thread, no-message, put-last, put-runner, put-since};
+ghost use Rattle.memory.specs.Rows.{put-beats, put-count, put-readies, put-clocks, put-letters, put-ends, put-threads, put-ready};
+ghost use Rattle.memory.specs.Rows.{put-clock, put-messages, put-held, put-ended};
 ghost use Rattle.memory.specs.Memory.{part, rows-of};
 
-// Words of the head: limit of threads, limit of blocks, name given last, runner, slice, ticks since the beat, beats; counts of threads, ready,
-// clock, messages and an ending's set; a hint.
+// Words of the head: limit of threads, limit of blocks, name given last, runner, slice, ticks since the beat, beats; counts of threads,
+// ready, clock, messages and an ending's set; a hint.
 const LIMIT: usize = 0;
 
 const BLOCKS: usize = 1;
@@ -377,14 +379,19 @@ pub fn trapped_on_at(m: &[u32], i: usize, n: u8) -> bool
 
 pub fn set_ticks(m: &mut [u32], i: usize, n: u32)
     requires { ⌜ Roomy (rows-of (now m)) × (i < rows-of (now m) .limits .threads) ⌝ }
-    ensures { λ _. ⌜ rows-of (now (m .exit)) ≡ put-threads (set (rows-of (now (m .entry)) .threads) i (with-ticks n (getD (rows-of (now (m .entry)) .threads) i no-thread))) (rows-of (now (m .entry))) ⌝ }
+    ensures { λ _. ⌜ rows-of (now (m .exit)) ≡ put-threads
+        (set (rows-of (now (m .entry)) .threads) i (with-ticks n (getD (rows-of (now (m .entry)) .threads) i no-thread)))
+        (rows-of (now (m .entry))) ⌝ }
 {
     m[THREADS + i * RECORD + 7] = n;
 }
 
 pub fn set_manager(m: &mut [u32], i: usize, k: TrapKind, g: Manager)
     requires { ⌜ Roomy (rows-of (now m)) × (i < rows-of (now m) .limits .threads) ⌝ }
-    ensures { λ _. ⌜ rows-of (now (m .exit)) ≡ put-threads (set (rows-of (now (m .entry)) .threads) i (with-managers (set-entry k g (getD (rows-of (now (m .entry)) .threads) i no-thread .managers)) (getD (rows-of (now (m .entry)) .threads) i no-thread))) (rows-of (now (m .entry))) ⌝ }
+    ensures { λ _. ⌜ rows-of (now (m .exit)) ≡ put-threads
+        (set (rows-of (now (m .entry)) .threads) i
+        (with-managers (set-entry k g (getD (rows-of (now (m .entry)) .threads) i no-thread .managers))
+        (getD (rows-of (now (m .entry)) .threads) i no-thread))) (rows-of (now (m .entry))) ⌝ }
 {
     let at = THREADS + i * RECORD + manager_word(k);
     m[at] = saying::manager_word(g);
@@ -393,7 +400,9 @@ pub fn set_manager(m: &mut [u32], i: usize, k: TrapKind, g: Manager)
 // The thread at a place in another state, with another answer.
 pub fn turn(m: &mut [u32], i: usize, s: State, a: Answer)
     requires { ⌜ Roomy (rows-of (now m)) × (i < rows-of (now m) .limits .threads) ⌝ }
-    ensures { λ _. ⌜ rows-of (now (m .exit)) ≡ put-threads (set (rows-of (now (m .entry)) .threads) i (in-state s a (getD (rows-of (now (m .entry)) .threads) i no-thread))) (rows-of (now (m .entry))) ⌝ }
+    ensures { λ _. ⌜ rows-of (now (m .exit)) ≡ put-threads
+        (set (rows-of (now (m .entry)) .threads) i (in-state s a (getD (rows-of (now (m .entry)) .threads) i no-thread)))
+        (rows-of (now (m .entry))) ⌝ }
 {
     let at = THREADS + i * RECORD;
     saying::turn_thread(&mut m[at..at + 11], s, a);
@@ -420,7 +429,9 @@ fn copy_four(m: &mut [u32], from: usize, to: usize)
 // The thread at one place is written at another.
 pub fn move_thread(m: &mut [u32], from: usize, to: usize)
     requires { ⌜ Roomy (rows-of (now m)) × (from < rows-of (now m) .limits .threads) × (to < rows-of (now m) .limits .threads) ⌝ }
-    ensures { λ _. ⌜ rows-of (now (m .exit)) ≡ put-threads (set (rows-of (now (m .entry)) .threads) to (getD (rows-of (now (m .entry)) .threads) from no-thread)) (rows-of (now (m .entry))) ⌝ }
+    ensures { λ _. ⌜ rows-of (now (m .exit)) ≡ put-threads
+        (set (rows-of (now (m .entry)) .threads) to (getD (rows-of (now (m .entry)) .threads) from no-thread))
+        (rows-of (now (m .entry))) ⌝ }
 {
     let a = THREADS + from * RECORD;
     let b = THREADS + to * RECORD;
@@ -450,7 +461,8 @@ pub fn put_ready(m: &mut [u32], i: usize, name: u8)
 // The name at one place of the ready queue is written at another, as the word stands.
 pub fn move_ready(m: &mut [u32], from: usize, to: usize)
     requires { ⌜ Roomy (rows-of (now m)) × (from < rows-of (now m) .limits .threads) × (to < rows-of (now m) .limits .threads) ⌝ }
-    ensures { λ _. ⌜ rows-of (now (m .exit)) ≡ put-ready (set (rows-of (now (m .entry)) .ready) to (getD (rows-of (now (m .entry)) .ready) from 0)) (rows-of (now (m .entry))) ⌝ }
+    ensures { λ _. ⌜ rows-of (now (m .exit)) ≡ put-ready
+        (set (rows-of (now (m .entry)) .ready) to (getD (rows-of (now (m .entry)) .ready) from 0)) (rows-of (now (m .entry))) ⌝ }
 {
     m[THREADS + to * RECORD + READY] = m[THREADS + from * RECORD + READY];
 }
@@ -520,8 +532,11 @@ pub fn put_message(m: &mut [u32], i: usize, x: Message)
 
 // The message at one place is written at another.
 pub fn move_message(m: &mut [u32], from: usize, to: usize)
-    requires { ⌜ Roomy (rows-of (now m)) × (from < rows-of (now m) .limits .threads + rows-of (now m) .limits .blocks) × (to < rows-of (now m) .limits .threads + rows-of (now m) .limits .blocks) ⌝ }
-    ensures { λ _. ⌜ rows-of (now (m .exit)) ≡ put-messages (set (rows-of (now (m .entry)) .messages) to (getD (rows-of (now (m .entry)) .messages) from no-message)) (rows-of (now (m .entry))) ⌝ }
+    requires { ⌜ Roomy (rows-of (now m)) × (from < rows-of (now m) .limits .threads + rows-of (now m) .limits .blocks)
+        × (to < rows-of (now m) .limits .threads + rows-of (now m) .limits .blocks) ⌝ }
+    ensures { λ _. ⌜ rows-of (now (m .exit)) ≡ put-messages
+        (set (rows-of (now (m .entry)) .messages) to (getD (rows-of (now (m .entry)) .messages) from no-message))
+        (rows-of (now (m .entry))) ⌝ }
 {
     let base = THREADS + (m[LIMIT] as usize) * RECORD;
     copy_four(m, base + from * MESSAGE, base + to * MESSAGE);
@@ -560,7 +575,8 @@ pub fn hold(m: &mut [u32], d: u8, word: u32)
 
 pub fn clear_held(m: &mut [u32], d: u8)
     requires { ⌜ Roomy (rows-of (now m)) × (d < devices) × (all (λ h. ltb (h .device) devices) (rows-of (now m) .held) ≡ true) ⌝ }
-    ensures { λ _. ⌜ rows-of (now (m .exit)) ≡ put-held (keep (λ h. not (held-for d h)) (rows-of (now (m .entry)) .held)) (rows-of (now (m .entry))) ⌝ }
+    ensures { λ _. ⌜ rows-of (now (m .exit)) ≡ put-held (keep (λ h. not (held-for d h)) (rows-of (now (m .entry)) .held))
+        (rows-of (now (m .entry))) ⌝ }
 {
     m[HELD + (d as usize) * 2] = 0;
 }
@@ -596,7 +612,9 @@ fn clear_all_held(m: &mut [u32])
 // Whatever stood there, the memory has these limits and holds nothing.
 pub fn clear(m: &mut [u32], threads: u32, blocks: u32)
     requires { ⌜ Room (record { threads = threads; blocks = blocks }) (length (now m)) ⌝ }
-    ensures { λ _. ⌜ (view (rows-of (now (m .exit))) ≡ nothing) × (rows-of (now (m .exit)) .limits ≡ record { threads = threads; blocks = blocks }) × (rows-of (now (m .exit)) .count ≡ 0) × (rows-of (now (m .exit)) .readies ≡ 0) × (rows-of (now (m .exit)) .clocks ≡ 0) × (rows-of (now (m .exit)) .letters ≡ 0) ⌝ }
+    ensures { λ _. ⌜ (view (rows-of (now (m .exit))) ≡ nothing)
+        × (rows-of (now (m .exit)) .limits ≡ record { threads = threads; blocks = blocks }) × (rows-of (now (m .exit)) .count ≡ 0)
+        × (rows-of (now (m .exit)) .readies ≡ 0) × (rows-of (now (m .exit)) .clocks ≡ 0) × (rows-of (now (m .exit)) .letters ≡ 0) ⌝ }
 {
     m[LIMIT] = threads;
     m[BLOCKS] = blocks;

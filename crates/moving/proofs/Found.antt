@@ -61,28 +61,36 @@ module _ {A : Type 0} (p : A → Bool) where
   passes-at d [] h = absurd (omega arith)
   passes-at d (x ∷ xs) h = go (passes-at d xs) (p x) refl h
     where
-      go : (place p xs < length xs → p (getD xs (place p xs) d) ≡ true) → (b : Bool) → p x ≡ b → head-or b xs < suc (length xs) → p (getD (x ∷ xs) (head-or b xs) d) ≡ true
+      go : (place p xs < length xs → p (getD xs (place p xs) d) ≡ true) → (b : Bool) → p x ≡ b → head-or b xs < suc (length xs) →
+          p (getD (x ∷ xs) (head-or b xs) d) ≡ true
       go r true e h = e
       go r false e h = r (omega arith)
 
-  pull-suc : (d : A) (l : List A) → place p l < length l → pull p l ≡ pulled (getD l (place p l) d) (take (place p l) l ++ drop (suc (place p l)) l)
+  pull-suc : (d : A) (l : List A) → place p l < length l →
+      pull p l ≡ pulled (getD l (place p l) d) (take (place p l) l ++ drop (suc (place p l)) l)
   unfolding place pull behind
   pull-suc d [] h = absurd (omega arith)
   pull-suc d (x ∷ xs) h = go (pull-suc d xs) (p x) h
     where
-      go : (place p xs < length xs → pull p xs ≡ pulled (getD xs (place p xs) d) (take (place p xs) xs ++ drop (suc (place p xs)) xs)) → (b : Bool) → head-or b xs < suc (length xs) → (if b then pulled x xs else behind x (pull p xs)) ≡ pulled (getD (x ∷ xs) (head-or b xs) d) (take (head-or b xs) (x ∷ xs) ++ drop (suc (head-or b xs)) (x ∷ xs))
+      go : (place p xs < length xs → pull p xs ≡ pulled (getD xs (place p xs) d) (take (place p xs) xs ++ drop (suc (place p xs)) xs)) →
+          (b : Bool) → head-or b xs < suc (length xs) →
+          (if b then pulled x xs else behind x (pull p xs)) ≡ pulled (getD (x ∷ xs) (head-or b xs) d) (take (head-or b xs) (x ∷ xs)
+          ++ drop (suc (head-or b xs)) (x ∷ xs))
       go r true h = refl
       go r false h = ap (behind x) (r (omega arith))
 
-  pub pull-at : (d : A) (l : List A) → place p l < length l → pull p l ≡ pulled (getD l (place p l) d) (take (place p l) l ++ drop (place p l + 1) l)
-  pull-at d l h = pull-suc d l h ∙ ap (λ (k : ℕ). pulled (getD l (place p l) d) (take (place p l) l ++ drop k l)) (sym (add-one (place p l)))
+  pub pull-at : (d : A) (l : List A) → place p l < length l →
+      pull p l ≡ pulled (getD l (place p l) d) (take (place p l) l ++ drop (place p l + 1) l)
+  pull-at d l h =
+      pull-suc d l h ∙ ap (λ (k : ℕ). pulled (getD l (place p l) d) (take (place p l) l ++ drop k l)) (sym (add-one (place p l)))
 
   pub pull-none : (l : List A) → length l ≤ place p l → pull p l ≡ missing
   unfolding place pull behind
   pull-none [] h = refl
   pull-none (x ∷ xs) h = go (pull-none xs) (p x) h
     where
-      go : (length xs ≤ place p xs → pull p xs ≡ missing) → (b : Bool) → suc (length xs) ≤ head-or b xs → (if b then pulled x xs else behind x (pull p xs)) ≡ missing
+      go : (length xs ≤ place p xs → pull p xs ≡ missing) → (b : Bool) → suc (length xs) ≤ head-or b xs →
+          (if b then pulled x xs else behind x (pull p xs)) ≡ missing
       go r true h = absurd (omega arith)
       go r false h = ap (behind x) (r (omega arith))
 
@@ -93,7 +101,8 @@ module _ {A : Type 0} (p : A → Bool) where
   keep-all [] e = refl
   keep-all (x ∷ xs) e = go (keep-all xs) (p x) e
     where
-      go : (any p xs ≡ false → keep (λ (y : A). not (p y)) xs ≡ xs) → (b : Bool) → (b || any p xs) ≡ false → (if not b then x ∷ keep (λ (y : A). not (p y)) xs else keep (λ (y : A). not (p y)) xs) ≡ x ∷ xs
+      go : (any p xs ≡ false → keep (λ (y : A). not (p y)) xs ≡ xs) → (b : Bool) → (b || any p xs) ≡ false →
+          (if not b then x ∷ keep (λ (y : A). not (p y)) xs else keep (λ (y : A). not (p y)) xs) ≡ x ∷ xs
       go r true e = absurd (true≢false e)
       go r false e = ap (λ (l : List A). x ∷ l) (r e)
 
@@ -126,16 +135,21 @@ module _ {A : Type 0} (p : A → Bool) where
   one-place d (x ∷ xs) zero c h e = sym (ap (λ (b : Bool). head-or b xs) e)
   one-place d (x ∷ xs) (suc i) c h e = go (λ q. one-place d xs i q (omega arith) e) (λ q. none-here d xs i q (omega arith)) (p x) c
     where
-      go : (count p xs ≤ 1 → i ≡ place p xs) → (any p xs ≡ false → p (getD xs i d) ≡ false) → (b : Bool) → one-if b + count p xs ≤ 1 → suc i ≡ head-or b xs
+      go : (count p xs ≤ 1 → i ≡ place p xs) → (any p xs ≡ false → p (getD xs i d) ≡ false) → (b : Bool) → one-if b + count p xs ≤ 1 →
+          suc i ≡ head-or b xs
       go r z true c = absurd (true≢false (sym e ∙ z (zero-any p xs (omega arith))))
       go r z false c = ap suc (r (omega arith))
 
-  pub map-one : (f : A → A) (d : A) (l : List A) → count p l ≤ 1 → place p l < length l → map (λ (x : A). if p x then f x else x) l ≡ set l (place p l) (f (getD l (place p l) d))
+  pub map-one : (f : A → A) (d : A) (l : List A) → count p l ≤ 1 → place p l < length l →
+      map (λ (x : A). if p x then f x else x) l ≡ set l (place p l) (f (getD l (place p l) d))
   unfolding place count
   map-one f d [] c h = absurd (omega arith)
   map-one f d (x ∷ xs) c h = go (map-one f d xs) (p x) c h
     where
-      go : (count p xs ≤ 1 → place p xs < length xs → map (λ (y : A). if p y then f y else y) xs ≡ set xs (place p xs) (f (getD xs (place p xs) d))) → (b : Bool) → one-if b + count p xs ≤ 1 → head-or b xs < suc (length xs) → (if b then f x else x) ∷ map (λ (y : A). if p y then f y else y) xs ≡ set (x ∷ xs) (head-or b xs) (f (getD (x ∷ xs) (head-or b xs) d))
+      go : (count p xs ≤ 1 → place p xs < length xs →
+          map (λ (y : A). if p y then f y else y) xs ≡ set xs (place p xs) (f (getD xs (place p xs) d))) → (b : Bool) →
+          one-if b + count p xs ≤ 1 → head-or b xs < suc (length xs) → (if b then f x else x)
+          ∷ map (λ (y : A). if p y then f y else y) xs ≡ set (x ∷ xs) (head-or b xs) (f (getD (x ∷ xs) (head-or b xs) d))
       go r true c h = ap (λ (l : List A). f x ∷ l) (map-none p f xs (zero-any p xs (omega arith)))
       go r false c h = ap (λ (l : List A). x ∷ l) (r (omega arith) (omega arith))
 
@@ -144,7 +158,8 @@ module _ {A : Type 0} (p : A → Bool) where
   keep-one d [] c h = absurd (omega arith)
   keep-one d (x ∷ xs) c h = go (keep-one d xs) (p x) c h
     where
-      go : (count p xs ≤ 1 → place p xs < length xs → keep p xs ≡ getD xs (place p xs) d ∷ []) → (b : Bool) → one-if b + count p xs ≤ 1 → head-or b xs < suc (length xs) → (if b then x ∷ keep p xs else keep p xs) ≡ getD (x ∷ xs) (head-or b xs) d ∷ []
+      go : (count p xs ≤ 1 → place p xs < length xs → keep p xs ≡ getD xs (place p xs) d ∷ []) → (b : Bool) → one-if b + count p xs ≤ 1 →
+          head-or b xs < suc (length xs) → (if b then x ∷ keep p xs else keep p xs) ≡ getD (x ∷ xs) (head-or b xs) d ∷ []
       go r true c h = ap (λ (l : List A). x ∷ l) (keep-none p xs (omega arith))
       go r false c h = r (omega arith) (omega arith)
 
@@ -155,19 +170,24 @@ module _ {A : Type 0} (p q : A → Bool) (flip : (x : A) → q x ≡ not (p x)) 
   insert-at a [] = refl
   insert-at a (x ∷ xs) = go (insert-at a xs) (p x) (q x) (flip x)
     where
-      go : (insert p a xs ≡ take (place q xs) xs ++ a ∷ drop (place q xs) xs) → (b c : Bool) → c ≡ not b → (if b then x ∷ insert p a xs else a ∷ x ∷ xs) ≡ take (if c then 0 else suc (place q xs)) (x ∷ xs) ++ a ∷ drop (if c then 0 else suc (place q xs)) (x ∷ xs)
+      go : (insert p a xs ≡ take (place q xs) xs ++ a ∷ drop (place q xs) xs) → (b c : Bool) → c ≡ not b →
+          (if b then x ∷ insert p a xs else a ∷ x ∷ xs) ≡ take (if c then 0 else suc (place q xs)) (x ∷ xs) ++ a
+          ∷ drop (if c then 0 else suc (place q xs)) (x ∷ xs)
       go r true c e = rw e (ap (λ (l : List A). x ∷ l) r)
       go r false c e = rw e
 
 -- ---- a thread's own
 
 module _ {B : Type 0} (other : B) (f : Thread → B) (n : ℕ) where
-  pub thread-at : (d : Thread) (ts : List Thread) → place (named n) ts < length ts → of-thread other f n ts ≡ f (getD ts (place (named n) ts) d)
+  pub thread-at : (d : Thread) (ts : List Thread) → place (named n) ts < length ts →
+      of-thread other f n ts ≡ f (getD ts (place (named n) ts) d)
   unfolding place of-thread
   thread-at d [] h = absurd (omega arith)
   thread-at d (t ∷ ts) h = go (thread-at d ts) (named n t) h
     where
-      go : (place (named n) ts < length ts → of-thread other f n ts ≡ f (getD ts (place (named n) ts) d)) → (b : Bool) → head-or (named n) b ts < suc (length ts) → (if b then f t else of-thread other f n ts) ≡ f (getD (t ∷ ts) (head-or (named n) b ts) d)
+      go : (place (named n) ts < length ts → of-thread other f n ts ≡ f (getD ts (place (named n) ts) d)) → (b : Bool) →
+          head-or (named n) b ts < suc (length ts) →
+          (if b then f t else of-thread other f n ts) ≡ f (getD (t ∷ ts) (head-or (named n) b ts) d)
       go r true h = refl
       go r false h = r (omega arith)
 
@@ -176,7 +196,8 @@ module _ {B : Type 0} (other : B) (f : Thread → B) (n : ℕ) where
   thread-none [] h = refl
   thread-none (t ∷ ts) h = go (thread-none ts) (named n t) h
     where
-      go : (length ts ≤ place (named n) ts → of-thread other f n ts ≡ other) → (b : Bool) → suc (length ts) ≤ head-or (named n) b ts → (if b then f t else of-thread other f n ts) ≡ other
+      go : (length ts ≤ place (named n) ts → of-thread other f n ts ≡ other) → (b : Bool) → suc (length ts) ≤ head-or (named n) b ts →
+          (if b then f t else of-thread other f n ts) ≡ other
       go r true h = absurd (omega arith)
       go r false h = r (omega arith)
 
@@ -218,7 +239,8 @@ module _ {A : Type 0} (p : A → Bool) (n : ℕ) (r : List A) (i : ℕ) (whole :
   pub no-pull : n ≤ i → pull p (take n r) ≡ missing
   no-pull h = pull-none p (take n r) (nowhere h)
 
-  pub found-map : (f : A → A) (d : A) → count p (take n r) ≤ 1 → i < n → map (λ (x : A). if p x then f x else x) (take n r) ≡ take n (set r i (f (getD r i d)))
+  pub found-map : (f : A → A) (d : A) → count p (take n r) ≤ 1 → i < n →
+      map (λ (x : A). if p x then f x else x) (take n r) ≡ take n (set r i (f (getD r i d)))
   found-map f d c h =
       map-one p f d (take n r) c (here h)
       ∙ (ap (λ (x : A). set (take n r) (place p (take n r)) (f x)) (there d h)
@@ -237,7 +259,8 @@ module _ {A : Type 0} (p : A → Bool) (n : ℕ) (r : List A) (i : ℕ) (whole :
   all-kept h = keep-all p (take n r) (no-any h)
 
 -- where a hint names a place, and one that passes stands there
-module _ {A : Type 0} (p : A → Bool) (n : ℕ) (r : List A) (i : ℕ) (d : A) (whole : n ≤ length r) (low : i < n) (passes : p (getD r i d) ≡ true) where
+module _ {A : Type 0} (p : A → Bool) (n : ℕ) (r : List A) (i : ℕ) (d : A) (whole : n ≤ length r) (low : i < n)
+    (passes : p (getD r i d) ≡ true) where
   in-range : i < length (take n r)
   in-range = omega (arith, length-take-le n r whole)
 
@@ -250,11 +273,13 @@ module _ {A : Type 0} (p : A → Bool) (n : ℕ) (r : List A) (i : ℕ) (d : A) 
   pub hint-any : any p (take n r) ≡ true
   hint-any = some-here p d (take n r) i in-range is-there
 
-module _ {A : Type 0} (p q : A → Bool) (flip : (x : A) → q x ≡ not (p x)) (n : ℕ) (r : List A) (i : ℕ) (found : i ≡ place q (take n r)) where
-  pub found-insert : (a : A) → insert p a (take n r) ≡ take i (take n r) ++ a ∷ drop i (take n r)
-  found-insert a = insert-at p q flip a (take n r) ∙ ap (λ (k : ℕ). take k (take n r) ++ a ∷ drop k (take n r)) (sym found)
+module _ {A : Type 0} (p q : A → Bool) (flip : (x : A) → q x ≡ not (p x)) (n : ℕ) (r : List A) (i : ℕ) (found : i ≡ place q (take n r))
+  where
+    pub found-insert : (a : A) → insert p a (take n r) ≡ take i (take n r) ++ a ∷ drop i (take n r)
+    found-insert a = insert-at p q flip a (take n r) ∙ ap (λ (k : ℕ). take k (take n r) ++ a ∷ drop k (take n r)) (sym found)
 
-module _ {B : Type 0} (other : B) (f : Thread → B) (k n : ℕ) (r : List Thread) (i : ℕ) (whole : n ≤ length r) (found : i ≡ place (named k) (take n r)) where
+module _ {B : Type 0} (other : B) (f : Thread → B) (k n : ℕ) (r : List Thread) (i : ℕ) (whole : n ≤ length r)
+    (found : i ≡ place (named k) (take n r)) where
   pub found-thread : (d : Thread) → i < n → of-thread other f k (take n r) ≡ f (getD r i d)
   found-thread d h = thread-at other f k d (take n r) (here (named k) n r i whole found h) ∙ ap f (there (named k) n r i whole found d h)
 

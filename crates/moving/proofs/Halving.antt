@@ -50,7 +50,11 @@ module _ (name : ℕ) where
       pub within : high ≤ n
 
     pub anywhere : n ≤ length row → (high : ℕ) → high ≡ n → Between 0 high
-    anywhere whole high e = record { from = omega arith; to = omega (arith, place-within not-below (take n row), length-take-le n row whole); within = omega arith }
+    anywhere whole high e = record {
+      from = omega arith;
+      to = omega (arith, place-within not-below (take n row), length-take-le n row whole);
+      within = omega arith;
+    }
 
     module _ (whole : n ≤ length row) (low high i : ℕ) (d : Thread) (b : Between low high) (h : i < high) where
       here : getD (take n row) i d .name ≡ getD row i d .name
@@ -60,10 +64,12 @@ module _ (name : ℕ) where
       inside = omega (arith, b .within, length-take-le n row whole)
 
       pub above : Rising (take n row) → getD row i d .name < name → Between (i + 1) high
-      above r l = record { from = omega (arith, below-before (take n row) i d r inside (omega (arith, here))); to = b .to; within = b .within }
+      above r l =
+          record { from = omega (arith, below-before (take n row) i d r inside (omega (arith, here))); to = b .to; within = b .within }
 
       pub not-above : name ≤ getD row i d .name → Between low i
-      not-above l = record { from = b .from; to = others-behind (take n row) i d inside (omega (arith, here)); within = omega (arith, b .within) }
+      not-above l =
+          record { from = b .from; to = others-behind (take n row) i d inside (omega (arith, here)); within = omega (arith, b .within) }
 
     pub only-place : (low high : ℕ) → Between low high → high ≤ low → low ≡ place not-below (take n row)
     only-place low high b h = omega (arith, b .from, b .to)

@@ -7,7 +7,8 @@ use mathlib.Core.List.{List, [], _∷_, _++_, map, map-id, append-nil}
 use native.Mathlib.Numerals.{add-one}
 use native.Mathlib.Omega.{arith}
 use lib.ListN.{length, take, drop, getD, set, length-set, drop-of-length-le}
-use lib.Seq.{drop-cons, getD-take, getD-drop, getD-set-same, take-suc-set, take-set-le, take-set-lt, drop-set-lt, length-take-le, append-snoc, take-take, drop-drop, set-getD, set-split}
+use lib.Seq.{drop-cons, getD-take, getD-drop, getD-set-same, take-suc-set, take-set-le, take-set-lt, drop-set-lt, length-take-le}
+use lib.Seq.{append-snoc, take-take, drop-drop, set-getD, set-split}
 use Rattle.rules.specs.Lists.{if_then_else_, keep, count, any, one-if, all}
 use Rattle.memory.specs.Rows.{place}
 
@@ -17,7 +18,9 @@ module _ {A : Type 0} where
   pub cut-cons : (r : List A) (n i : ℕ) (d : A) → n ≤ length r → i < n → drop i (take n r) ≡ getD r i d ∷ drop (i + 1) (take n r)
   cut-cons r n i d l h =
       let e : length (take n r) ≡ n = length-take-le n r l in
-      drop-cons (take n r) i d (omega arith) ∙ (ap (λ (k : ℕ). getD (take n r) i d ∷ drop k (take n r)) (sym (add-one i)) ∙ ap (λ (x : A). x ∷ drop (i + 1) (take n r)) (getD-take n r i d h))
+      drop-cons (take n r) i d (omega arith)
+      ∙ (ap (λ (k : ℕ). getD (take n r) i d ∷ drop k (take n r)) (sym (add-one i))
+      ∙ ap (λ (x : A). x ∷ drop (i + 1) (take n r)) (getD-take n r i d h))
 
   pub cut-end : (r : List A) (n i : ℕ) → n ≤ length r → n ≤ i → drop i (take n r) ≡ []
   cut-end r n i l h =
@@ -56,9 +59,16 @@ module _ {A : Type 0} where
 
   -- an entry passed over
   pub passes-by : (n : ℕ) (r₀ r : List A) (i : ℕ) → Left n r₀ r i → i < n → Left n r₀ r (i + 1)
-  passes-by n r₀ r i L h = record { whole = L .whole; within = omega arith; long = L .long; rest = sym (drop-drop 1 i r) ∙ (ap (drop 1) (L .rest) ∙ drop-drop 1 i r₀) }
+  passes-by n r₀ r i L h = record {
+    whole = L .whole;
+    within = omega arith;
+    long = L .long;
+    rest = sym (drop-drop 1 i r)
+        ∙ (ap (drop 1) (L .rest) ∙ drop-drop 1 i r₀);
+  }
 
-  pub left-cons : (n : ℕ) (r₀ r : List A) (i : ℕ) (d : A) → Left n r₀ r i → i < n → drop i (take n r₀) ≡ getD r i d ∷ drop (i + 1) (take n r₀)
+  pub left-cons : (n : ℕ) (r₀ r : List A) (i : ℕ) (d : A) → Left n r₀ r i → i < n → drop i (take n r₀) ≡ getD r i d
+      ∷ drop (i + 1) (take n r₀)
   left-cons n r₀ r i d L h = cut-cons r₀ n i d (L .whole) h ∙ ap (λ (x : A). x ∷ drop (i + 1) (take n r₀)) (sym (same-here n r₀ r i d L))
 
   -- ---- every entry changed
@@ -100,13 +110,15 @@ module _ {A : Type 0} where
     pub seek-next : (i : ℕ) (d : A) → Sought i → i < n → p (getD r i d) ≡ false → Sought (i + 1)
     unfolding place
     seek-next i d S h e =
-        let q : place p (drop i (take n r)) ≡ suc (place p (drop (i + 1) (take n r))) = ap (place p) (cut-cons r n i d (S .whole) h) ∙ ap (λ (b : Bool). if b then 0 else suc (place p (drop (i + 1) (take n r)))) e in
+        let q : place p (drop i (take n r)) ≡ suc (place p (drop (i + 1) (take n r))) =
+        ap (place p) (cut-cons r n i d (S .whole) h) ∙ ap (λ (b : Bool). if b then 0 else suc (place p (drop (i + 1) (take n r)))) e in
         record { whole = S .whole; within = omega arith; so = S .so ∙ (ap (λ (k : ℕ). i + k) q ∙ omega arith) }
 
     pub seek-finds : (i : ℕ) (d : A) → Sought i → i < n → p (getD r i d) ≡ true → i ≡ place p (take n r)
     unfolding place
     seek-finds i d S h e =
-        let q : place p (drop i (take n r)) ≡ 0 = ap (place p) (cut-cons r n i d (S .whole) h) ∙ ap (λ (b : Bool). if b then 0 else suc (place p (drop (i + 1) (take n r)))) e in
+        let q : place p (drop i (take n r)) ≡ 0 =
+        ap (place p) (cut-cons r n i d (S .whole) h) ∙ ap (λ (b : Bool). if b then 0 else suc (place p (drop (i + 1) (take n r)))) e in
         omega (arith, S .so)
 
     pub seek-ends : (i : ℕ) → Sought i → n ≤ i → i ≡ place p (take n r)
@@ -136,7 +148,8 @@ module _ {A : Type 0} where
               ∙ (ap (λ (l : List A). take k r ++ map g (keep p l)) (sym (left-cons n r₀ r i d (S .left) h)) ∙ S .so);
         }
 
-    pub sift-holds : (r : List A) (k i : ℕ) (x d : A) → Sifted r k i → i < n → p (getD r i d) ≡ true → x ≡ g (getD r i d) → Sifted (set r k x) (k + 1) (i + 1)
+    pub sift-holds : (r : List A) (k i : ℕ) (x d : A) → Sifted r k i → i < n → p (getD r i d) ≡ true → x ≡ g (getD r i d) →
+        Sifted (set r k x) (k + 1) (i + 1)
     unfolding keep
     sift-holds r k i x d S h e q =
         let rest : List A = drop (i + 1) (take n r₀) in
@@ -153,10 +166,12 @@ module _ {A : Type 0} where
 
     pub sift-ends : (r : List A) (k i : ℕ) → Sifted r k i → n ≤ i → take k r ≡ map g (keep p (take n r₀))
     unfolding keep
-    sift-ends r k i S h = sym (append-nil (take k r)) ∙ (ap (λ (l : List A). take k r ++ map g (keep p l)) (sym (cut-end r₀ n i (S .left .whole) h)) ∙ S .so)
+    sift-ends r k i S h =
+        sym (append-nil (take k r)) ∙ (ap (λ (l : List A). take k r ++ map g (keep p l)) (sym (cut-end r₀ n i (S .left .whole) h)) ∙ S .so)
 
   -- and not changed
-  pub keep-ends : (p : A → Bool) (n : ℕ) (r₀ r : List A) (k i : ℕ) → Sifted p (λ (x : A). x) n r₀ r k i → n ≤ i → take k r ≡ keep p (take n r₀)
+  pub keep-ends : (p : A → Bool) (n : ℕ) (r₀ r : List A) (k i : ℕ) → Sifted p (λ (x : A). x) n r₀ r k i → n ≤ i →
+      take k r ≡ keep p (take n r₀)
   keep-ends p n r₀ r k i S h = sift-ends p (λ (x : A). x) n r₀ r k i S h ∙ map-id (keep p (take n r₀))
 
   -- ---- without the entry at a place
@@ -167,7 +182,11 @@ module _ {A : Type 0} where
       pub so : take i r ++ drop (i + 1) (take n r₀) ≡ take at (take n r₀) ++ drop (at + 1) (take n r₀)
 
     pub close-starts : n ≤ length r₀ → at < n → Closing r₀ at
-    close-starts l h = record { left = starts n r₀ at l (omega arith); below = h; so = ap (λ (z : List A). z ++ drop (at + 1) (take n r₀)) (sym (take-take at n r₀ (omega arith))) }
+    close-starts l h = record {
+      left = starts n r₀ at l (omega arith);
+      below = h;
+      so = ap (λ (z : List A). z ++ drop (at + 1) (take n r₀)) (sym (take-take at n r₀ (omega arith)));
+    }
 
     pub close-next : (r : List A) (i : ℕ) (x d : A) → Closing r i → i < n - 1 → x ≡ getD r (i + 1) d → Closing (set r i x) (i + 1)
     close-next r i x d C h e =
@@ -185,7 +204,8 @@ module _ {A : Type 0} where
     close-ends r i C h =
         let e : i ≡ n - 1 = omega (arith, C .below) in
         ap (λ (k : ℕ). take k r) (sym e)
-        ∙ (sym (append-nil (take i r)) ∙ (ap (λ (l : List A). take i r ++ l) (sym (cut-end r₀ n (i + 1) (C .left .whole) (omega arith))) ∙ C .so))
+        ∙ (sym (append-nil (take i r)) ∙ (ap (λ (l : List A). take i r ++ l) (sym (cut-end r₀ n (i + 1) (C .left .whole) (omega arith)))
+        ∙ C .so))
 
   -- ---- one more entry at a place: each from i on stands one further, and those before i as they were
   module _ (n : ℕ) (l₀ : List A) where
@@ -203,14 +223,16 @@ module _ {A : Type 0} where
           room = h;
           within = omega arith;
           front = refl;
-          back = drop-of-length-le (take (n + 1) l₀) {i = n + 1} (omega (arith, length-take-le (n + 1) l₀ (omega arith))) ∙ sym (drop-of-length-le (take n l₀) {i = n} (omega (arith, length-take-le n l₀ (omega arith))));
+          back = drop-of-length-le (take (n + 1) l₀) {i = n + 1} (omega (arith, length-take-le (n + 1) l₀ (omega arith)))
+              ∙ sym (drop-of-length-le (take n l₀) {i = n} (omega (arith, length-take-le n l₀ (omega arith))));
         }
 
     shift-down : (l : List A) (i : ℕ) (d : A) → Shifted l (i + 1) → Shifted (set l (i + 1) (getD l i d)) i
     shift-down l i d S =
         let x : A = getD l₀ i d in
         let low : i < n = omega (arith, S .within) in
-        let same : getD l i d ≡ x = sym (getD-take (i + 1) l i d (omega arith)) ∙ (ap (λ (k : List A). getD k i d) (S .front) ∙ getD-take (i + 1) l₀ i d (omega arith)) in
+        let same : getD l i d ≡ x = sym (getD-take (i + 1) l i d (omega arith))
+        ∙ (ap (λ (k : List A). getD k i d) (S .front) ∙ getD-take (i + 1) l₀ i d (omega arith)) in
         let in-l : i + 1 < length l = omega (arith, S .long, S .room) in
         let l′ : List A = set l (i + 1) x in
         let long′ : length l′ ≡ length l₀ = length-set l (i + 1) x ∙ S .long in
@@ -218,10 +240,12 @@ module _ {A : Type 0} where
           long = long′;
           room = S .room;
           within = omega arith;
-          front = take-set-le i l (i + 1) x (omega arith) ∙ (sym (take-take i (i + 1) l (omega arith)) ∙ (ap (take i) (S .front) ∙ take-take i (i + 1) l₀ (omega arith)));
+          front = take-set-le i l (i + 1) x (omega arith)
+              ∙ (sym (take-take i (i + 1) l (omega arith)) ∙ (ap (take i) (S .front) ∙ take-take i (i + 1) l₀ (omega arith)));
           back = cut-cons l′ (n + 1) (i + 1) d (omega (arith, long′, S .room)) (omega arith)
               ∙ (ap₂ _∷_ (getD-set-same l (i + 1) x d in-l)
-              (ap (drop (i + 1 + 1)) (take-set-lt (n + 1) l (i + 1) x (omega arith)) ∙ (drop-set-lt (i + 1 + 1) (take (n + 1) l) (i + 1) x (omega arith) ∙ S .back))
+              (ap (drop (i + 1 + 1)) (take-set-lt (n + 1) l (i + 1) x (omega arith))
+              ∙ (drop-set-lt (i + 1 + 1) (take (n + 1) l) (i + 1) x (omega arith) ∙ S .back))
               ∙ sym (cut-cons l₀ n i d (omega (arith, S .room)) low));
         })
 
@@ -231,7 +255,8 @@ module _ {A : Type 0} where
         go : (j : ℕ) → i ≡ j + 1 → Shifted l i → Shifted (set l i (getD l j d)) j
         go j z S = rw z (shift-down l j d (rw z at S))
 
-    pub shift-ends : (l : List A) (at : ℕ) (x : A) → Shifted l at → take (n + 1) (set l at x) ≡ take at (take n l₀) ++ x ∷ drop at (take n l₀)
+    pub shift-ends : (l : List A) (at : ℕ) (x : A) → Shifted l at → take (n + 1) (set l at x) ≡ take at (take n l₀) ++ x
+        ∷ drop at (take n l₀)
     shift-ends l at x S =
         take-set-lt (n + 1) l at x (omega (arith, S .within))
         ∙ (set-split (take (n + 1) l) at x (omega (arith, length-take-le (n + 1) l (omega (arith, S .long, S .room)), S .within))
@@ -256,20 +281,26 @@ module _ {A : Type 0} where
         record {
           whole = G .whole;
           within = omega arith;
-          room = omega arith ∙ (ap (λ (b : Bool). k + (one-if b + count p (drop (i + 1) (take n r)))) (sym e) ∙ (ap (λ (l : List A). k + count p l) (sym (cut-cons r n i d (G .whole) h)) ∙ G .room));
-          so = ap (λ (b : Bool). o ++ map g (if b then getD r i d ∷ keep p (drop (i + 1) (take n r)) else keep p (drop (i + 1) (take n r)))) (sym e)
+          room = omega arith ∙ (ap (λ (b : Bool). k + (one-if b + count p (drop (i + 1) (take n r)))) (sym e)
+              ∙ (ap (λ (l : List A). k + count p l) (sym (cut-cons r n i d (G .whole) h)) ∙ G .room));
+          so = ap (λ (b : Bool). o ++ map g (if b then getD r i d ∷ keep p (drop (i + 1) (take n r)) else keep p (drop (i + 1) (take n r))))
+              (sym e)
               ∙ (ap (λ (l : List A). o ++ map g (keep p l)) (sym (cut-cons r n i d (G .whole) h)) ∙ G .so);
         }
 
-    pub gather-joins : (o o′ : List B) (k k′ i : ℕ) (d : A) → Gathered o k i → i < n → p (getD r i d) ≡ true → o′ ≡ o ++ (g (getD r i d) ∷ []) → k′ ≡ k + 1 → Gathered o′ k′ (i + 1)
+    pub gather-joins : (o o′ : List B) (k k′ i : ℕ) (d : A) → Gathered o k i → i < n → p (getD r i d) ≡ true →
+        o′ ≡ o ++ (g (getD r i d) ∷ []) → k′ ≡ k + 1 → Gathered o′ k′ (i + 1)
     unfolding keep count
     gather-joins o o′ k k′ i d G h e a b =
         record {
           whole = G .whole;
           within = omega arith;
-          room = omega (arith, b) ∙ (ap (λ (b : Bool). k + (one-if b + count p (drop (i + 1) (take n r)))) (sym e) ∙ (ap (λ (l : List A). k + count p l) (sym (cut-cons r n i d (G .whole) h)) ∙ G .room));
-          so = ap (λ (l : List B). l ++ map g (keep p (drop (i + 1) (take n r)))) a ∙ (append-snoc o (g (getD r i d)) (map g (keep p (drop (i + 1) (take n r))))
-              ∙ (ap (λ (b : Bool). o ++ map g (if b then getD r i d ∷ keep p (drop (i + 1) (take n r)) else keep p (drop (i + 1) (take n r)))) (sym e)
+          room = omega (arith, b) ∙ (ap (λ (b : Bool). k + (one-if b + count p (drop (i + 1) (take n r)))) (sym e)
+              ∙ (ap (λ (l : List A). k + count p l) (sym (cut-cons r n i d (G .whole) h)) ∙ G .room));
+          so = ap (λ (l : List B). l ++ map g (keep p (drop (i + 1) (take n r)))) a
+              ∙ (append-snoc o (g (getD r i d)) (map g (keep p (drop (i + 1) (take n r))))
+              ∙ (ap (λ (b : Bool). o ++ map g (if b then getD r i d
+              ∷ keep p (drop (i + 1) (take n r)) else keep p (drop (i + 1) (take n r)))) (sym e)
               ∙ (ap (λ (l : List A). o ++ map g (keep p l)) (sym (cut-cons r n i d (G .whole) h)) ∙ G .so)));
         }
 
@@ -277,7 +308,8 @@ module _ {A : Type 0} where
     pub gather-room : (o : List B) (k i : ℕ) (d : A) → Gathered o k i → i < n → p (getD r i d) ≡ true → k + 1 ≤ m + count p (take n r)
     unfolding count
     gather-room o k i d G h e =
-        let q : count p (drop i (take n r)) ≡ 1 + count p (drop (i + 1) (take n r)) = ap (count p) (cut-cons r n i d (G .whole) h) ∙ ap (λ (b : Bool). one-if b + count p (drop (i + 1) (take n r))) e in
+        let q : count p (drop i (take n r)) ≡ 1 + count p (drop (i + 1) (take n r)) =
+        ap (count p) (cut-cons r n i d (G .whole) h) ∙ ap (λ (b : Bool). one-if b + count p (drop (i + 1) (take n r))) e in
         omega (arith, G .room)
 
     pub gather-ends : (o : List B) (k i : ℕ) → Gathered o k i → n ≤ i → (o ≡ q ++ map g (keep p (take n r))) × (k ≡ m + count p (take n r))
@@ -298,13 +330,15 @@ module _ {A : Type 0} where
     pub append-starts : n ≤ length r → Appended q m 0
     append-starts h = record { whole = h; within = omega arith; room = omega arith; so = refl }
 
-    pub append-next : (o o′ : List A) (k k′ i : ℕ) (d : A) → Appended o k i → i < n → o′ ≡ o ++ (getD r i d ∷ []) → k′ ≡ k + 1 → Appended o′ k′ (i + 1)
+    pub append-next : (o o′ : List A) (k k′ i : ℕ) (d : A) → Appended o k i → i < n → o′ ≡ o ++ (getD r i d ∷ []) → k′ ≡ k + 1 →
+        Appended o′ k′ (i + 1)
     append-next o o′ k k′ i d P h a b =
         record {
           whole = P .whole;
           within = omega arith;
           room = omega (arith, P .room, b);
-          so = ap (λ (l : List A). l ++ drop (i + 1) (take n r)) a ∙ append-snoc o (getD r i d) (drop (i + 1) (take n r)) ∙ (ap (λ (l : List A). o ++ l) (sym (cut-cons r n i d (P .whole) h)) ∙ P .so);
+          so = ap (λ (l : List A). l ++ drop (i + 1) (take n r)) a ∙ append-snoc o (getD r i d) (drop (i + 1) (take n r))
+              ∙ (ap (λ (l : List A). o ++ l) (sym (cut-cons r n i d (P .whole) h)) ∙ P .so);
         }
 
     pub append-ends : (o : List A) (k i : ℕ) → Appended o k i → n ≤ i → o ≡ q ++ take n r
@@ -325,7 +359,8 @@ module _ {A : Type 0} where
     all-cons i d P h = P .so ∙ ap (all p) (cut-cons r n i d (P .whole) h)
 
     pub all-next : (i : ℕ) (d : A) → Passed i → i < n → p (getD r i d) ≡ true → Passed (i + 1)
-    all-next i d P h e = record { whole = P .whole; within = omega arith; so = all-cons i d P h ∙ ap (λ (b : Bool). b && all p (drop (i + 1) (take n r))) e }
+    all-next i d P h e =
+        record { whole = P .whole; within = omega arith; so = all-cons i d P h ∙ ap (λ (b : Bool). b && all p (drop (i + 1) (take n r))) e }
 
     pub all-fails : (i : ℕ) (d : A) → Passed i → i < n → p (getD r i d) ≡ false → false ≡ all p (take n r)
     all-fails i d P h e = sym (all-cons i d P h ∙ ap (λ (b : Bool). b && all p (drop (i + 1) (take n r))) e)
@@ -345,15 +380,28 @@ module _ {A : Type 0} where
     pub count-starts : n ≤ length r → Counted 0 0
     count-starts h = record { whole = h; within = omega arith; low = omega arith; so = omega arith }
 
-    count-cons : (k i : ℕ) (d : A) → Counted k i → i < n → count p (take n r) ≡ k + (one-if (p (getD r i d)) + count p (drop (i + 1) (take n r)))
+    count-cons : (k i : ℕ) (d : A) → Counted k i → i < n →
+        count p (take n r) ≡ k + (one-if (p (getD r i d)) + count p (drop (i + 1) (take n r)))
     unfolding count
     count-cons k i d C h = C .so ∙ ap (λ (l : List A). k + count p l) (cut-cons r n i d (C .whole) h)
 
     pub count-more : (k i : ℕ) (d : A) → Counted k i → i < n → p (getD r i d) ≡ true → Counted (k + 1) (i + 1)
-    count-more k i d C h e = record { whole = C .whole; within = omega arith; low = omega (arith, C .low); so = count-cons k i d C h ∙ ap (λ (b : Bool). k + (one-if b + count p (drop (i + 1) (take n r)))) e ∙ omega arith }
+    count-more k i d C h e = record {
+      whole = C .whole;
+      within = omega arith;
+      low = omega (arith, C .low);
+      so = count-cons k i d C h
+          ∙ ap (λ (b : Bool). k + (one-if b + count p (drop (i + 1) (take n r)))) e ∙ omega arith;
+    }
 
     pub count-skips : (k i : ℕ) (d : A) → Counted k i → i < n → p (getD r i d) ≡ false → Counted k (i + 1)
-    count-skips k i d C h e = record { whole = C .whole; within = omega arith; low = omega (arith, C .low); so = count-cons k i d C h ∙ ap (λ (b : Bool). k + (one-if b + count p (drop (i + 1) (take n r)))) e ∙ omega arith }
+    count-skips k i d C h e = record {
+      whole = C .whole;
+      within = omega arith;
+      low = omega (arith, C .low);
+      so = count-cons k i d C h
+          ∙ ap (λ (b : Bool). k + (one-if b + count p (drop (i + 1) (take n r)))) e ∙ omega arith;
+    }
 
     pub count-ends : (k i : ℕ) → Counted k i → n ≤ i → k ≡ count p (take n r)
     unfolding count
@@ -374,7 +422,8 @@ module _ {A : Type 0} where
     any-cons i d M h = M .so ∙ ap (any p) (cut-cons r n i d (M .whole) h)
 
     pub any-next : (i : ℕ) (d : A) → Missed i → i < n → p (getD r i d) ≡ false → Missed (i + 1)
-    any-next i d M h e = record { whole = M .whole; within = omega arith; so = any-cons i d M h ∙ ap (λ (b : Bool). b || any p (drop (i + 1) (take n r))) e }
+    any-next i d M h e =
+        record { whole = M .whole; within = omega arith; so = any-cons i d M h ∙ ap (λ (b : Bool). b || any p (drop (i + 1) (take n r))) e }
 
     pub any-finds : (i : ℕ) (d : A) → Missed i → i < n → p (getD r i d) ≡ true → true ≡ any p (take n r)
     any-finds i d M h e = sym (any-cons i d M h ∙ ap (λ (b : Bool). b || any p (drop (i + 1) (take n r))) e)
@@ -394,13 +443,17 @@ module _ {A : Type 0} where
     pub turn-starts : n ≤ length r₀ → Turned r₀ 0
     turn-starts h = record { mapped = map-starts turned n r₀ h }
 
-    pub turn-next : (r : List A) (i : ℕ) (x d : A) → Turned r i → i < n → p (getD r i d) ≡ true → x ≡ g (getD r i d) → Turned (set r i x) (i + 1)
-    turn-next r i x d T h e q = record { mapped = map-next turned n r₀ r i x d (T .mapped) h (q ∙ ap (λ (b : Bool). if b then g (getD r i d) else getD r i d) (sym e)) }
+    pub turn-next : (r : List A) (i : ℕ) (x d : A) → Turned r i → i < n → p (getD r i d) ≡ true → x ≡ g (getD r i d) →
+        Turned (set r i x) (i + 1)
+    turn-next r i x d T h e q = record {
+      mapped = map-next turned n r₀ r i x d (T .mapped) h (q ∙ ap (λ (b : Bool). if b then g (getD r i d) else getD r i d) (sym e));
+    }
 
     pub turn-by : (r : List A) (i : ℕ) (d : A) → Turned r i → i < n → p (getD r i d) ≡ false → Turned r (i + 1)
     turn-by r i d T h e =
         let x : A = getD r i d in
-        let s : Mapped turned n r₀ (set r i x) (i + 1) = map-next turned n r₀ r i x d (T .mapped) h (ap (λ (b : Bool). if b then g x else x) (sym e)) in
+        let s : Mapped turned n r₀ (set r i x) (i + 1) =
+        map-next turned n r₀ r i x d (T .mapped) h (ap (λ (b : Bool). if b then g x else x) (sym e)) in
         record { mapped = subst (λ (l : List A). Mapped turned n r₀ l (i + 1)) (set-getD r i d) s }
 
     pub turn-ends : (r : List A) (i : ℕ) → Turned r i → n ≤ i → take n r ≡ map (λ (t : A). if p t then g t else t) (take n r₀)

@@ -16,7 +16,8 @@ pub no-marks : Marks [] (replicate 256 255)
 unfolding any
 no-marks = record {
   size = length-replicate {A = ℕ} 256 255;
-  told = λ k n h b. ap (λ (x : ℕ). ltb x n) (getD-replicate {A = ℕ} 256 k 255 0 h) ∙ (le-ltb 255 n b ∙ sym (ap (has k) (take-nil {A = ℕ} n)));
+  told = λ k n h b. ap (λ (x : ℕ). ltb x n) (getD-replicate {A = ℕ} 256 k 255 0 h)
+      ∙ (le-ltb 255 n b ∙ sym (ap (has k) (take-nil {A = ℕ} n)));
 }
 
 or-no : (b : Bool) → (b || false) ≡ b
@@ -34,7 +35,8 @@ module _ (xs ms : List ℕ) (x : ℕ) (low : length xs < 255) (named : x < 256) 
 
   whole : (k n : ℕ) → length xs < n → has k (take n (xs ++ (x ∷ []))) ≡ (has k xs || (k == x))
   unfolding any
-  whole k n h = ap (has k) (take-all n (xs ++ (x ∷ [])) (omega (arith, length-append xs (x ∷ [])))) ∙ (any-append (λ j. k == j) xs (x ∷ []) ∙ ap (λ (b : Bool). has k xs || b) (or-no (k == x)))
+  whole k n h = ap (has k) (take-all n (xs ++ (x ∷ [])) (omega (arith, length-append xs (x ∷ []))))
+      ∙ (any-append (λ j. k == j) xs (x ∷ []) ∙ ap (λ (b : Bool). has k xs || b) (or-no (k == x)))
 
   -- of another name nothing changes
   other : (k n : ℕ) → eqb k x ≡ false → n ≤ 255 → has k (take n xs) ≡ has k (take n (xs ++ (x ∷ [])))
@@ -42,7 +44,8 @@ module _ (xs ms : List ℕ) (x : ℕ) (low : length xs < 255) (named : x < 256) 
     where
       go : (q : Bool) → ltb (length xs) n ≡ q → has k (take n xs) ≡ has k (take n (xs ++ (x ∷ [])))
       go false f = sym (front k n (ltb-false (length xs) n f))
-      go true f = ap (has k) (take-all n xs (omega (arith, ltb-true (length xs) n f))) ∙ sym (whole k n (ltb-true (length xs) n f) ∙ (ap (λ (c : Bool). has k xs || c) e ∙ or-no (has k xs)))
+      go true f = ap (has k) (take-all n xs (omega (arith, ltb-true (length xs) n f)))
+          ∙ sym (whole k n (ltb-true (length xs) n f) ∙ (ap (λ (c : Bool). has k xs || c) e ∙ or-no (has k xs)))
 
   -- is it marked already?
   pub marked : (b : Bool) → b ≡ has x (take 255 xs) → has x xs ≡ b
@@ -60,7 +63,8 @@ module _ (xs ms : List ℕ) (x : ℕ) (low : length xs < 255) (named : x < 256) 
 
           go : (q : Bool) → ltb (length xs) n ≡ q → has k (take n xs) ≡ has k (take n (xs ++ (x ∷ [])))
           go false g = sym (front k n (ltb-false (length xs) n g))
-          go true g = ap (has k) (take-all n xs (omega (arith, ltb-true (length xs) n g))) ∙ (yes ∙ sym (whole k n (ltb-true (length xs) n g) ∙ ap (λ (c : Bool). c || (k == x)) yes))
+          go true g = ap (has k) (take-all n xs (omega (arith, ltb-true (length xs) n g)))
+              ∙ (yes ∙ sym (whole k n (ltb-true (length xs) n g) ∙ ap (λ (c : Bool). c || (k == x)) yes))
 
   marked-now : has x xs ≡ false → Marks (xs ++ (x ∷ [])) (set ms x (length xs))
   marked-now e = record { size = length-set ms x (length xs) ∙ M .size; told = λ k n h b. tells k n h b (eqb k x) refl }
@@ -72,11 +76,15 @@ module _ (xs ms : List ℕ) (x : ℕ) (low : length xs < 255) (named : x < 256) 
       here = getD-set-same ms x (length xs) 0 (omega (arith, M .size))
 
       own : (n : ℕ) → n ≤ 255 → (q : Bool) → ltb (length xs) n ≡ q → q ≡ has x (take n (xs ++ (x ∷ [])))
-      own n b false f = sym (front x n (ltb-false (length xs) n f) ∙ (sym (M .told x n named b) ∙ le-ltb (getD ms x 0) n (omega (arith, far))))
-      own n b true f = sym (whole x n (ltb-true (length xs) n f) ∙ (ap (λ (c : Bool). has x xs || c) (eq-eqb x x refl) ∙ or-true (has x xs)))
+      own n b false f =
+          sym (front x n (ltb-false (length xs) n f) ∙ (sym (M .told x n named b) ∙ le-ltb (getD ms x 0) n (omega (arith, far))))
+      own n b true f =
+          sym (whole x n (ltb-true (length xs) n f) ∙ (ap (λ (c : Bool). has x xs || c) (eq-eqb x x refl) ∙ or-true (has x xs)))
 
-      tells : (k n : ℕ) → k < 256 → n ≤ 255 → (q : Bool) → eqb k x ≡ q → ltb (getD (set ms x (length xs)) k 0) n ≡ has k (take n (xs ++ (x ∷ [])))
-      tells k n h b false f = ap (λ (y : ℕ). ltb y n) (getD-set-other ms x k (length xs) 0 (eqb-false k x f)) ∙ (M .told k n h b ∙ other k n f b)
+      tells : (k n : ℕ) → k < 256 → n ≤ 255 → (q : Bool) → eqb k x ≡ q →
+          ltb (getD (set ms x (length xs)) k 0) n ≡ has k (take n (xs ++ (x ∷ [])))
+      tells k n h b false f = ap (λ (y : ℕ). ltb y n) (getD-set-other ms x k (length xs) 0 (eqb-false k x f))
+          ∙ (M .told k n h b ∙ other k n f b)
       tells k n h b true f = rw (eqb-true k x f) (ap (λ (y : ℕ). ltb y n) here ∙ own n b (ltb (length xs) n) refl)
 
   -- n: its place

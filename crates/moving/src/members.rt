@@ -1,5 +1,5 @@
-// The ended set: who an ending has found, in the order found. It stands in the threads' records and lasts for one ending. Beside it are marks: at each
-// name its first place in the set, or 255, so that a name is looked up in one look.
+// The ended set: who an ending has found, in the order found. It stands in the threads' records and lasts for one ending. Beside it are
+// marks: at each name its first place in the set, or 255, so that a name is looked up in one look.
 use memory::memory as rows;
 use rules::Manager;
 use rules::Parent;
@@ -15,8 +15,10 @@ ghost use Rattle.rules.specs.Lists.{any, has as has-in, count as count-of};
 ghost use Rattle.rules.specs.Words.{by-parent, by-manager};
 ghost use Rattle.rules.specs.Tables.{manager, with-managers, set-entry};
 ghost use Rattle.rules.specs.States.{awaits};
-ghost use Rattle.rules.specs.Ending.{depends as depends-of, grow as grow-of, gone-if, without-managers as without-managers-of, misses as misses-of};
-ghost use Rattle.memory.specs.Rows.{view, Roomy, members as members-of, MembersAre, put-ends, put-ended, put-threads, no-thread, no-message};
+ghost use Rattle.rules.specs.Ending.{depends as depends-of, grow as grow-of, gone-if, without-managers as without-managers-of};
+ghost use Rattle.rules.specs.Ending.{misses as misses-of};
+ghost use Rattle.memory.specs.Rows.{view, Roomy, members as members-of, MembersAre, put-ends, put-ended, put-threads, no-thread};
+ghost use Rattle.memory.specs.Rows.{no-message};
 ghost use Rattle.memory.specs.Memory.{rows-of};
 ghost use Rattle.moving.specs.Marks.{Marks};
 
@@ -37,7 +39,8 @@ fn has(marks: &[u8; 256], n: usize, name: u8) -> bool
 
 // Is the name in the set?
 pub fn is_member(m: &[u32], marks: &[u8; 256], name: u8) -> bool
-    requires { ⌜ Roomy (rows-of (now m)) × (rows-of (now m) .ends ≤ rows-of (now m) .limits .threads) × Marks (members-of (rows-of (now m))) (now marks) ⌝ }
+    requires { ⌜ Roomy (rows-of (now m)) × (rows-of (now m) .ends ≤ rows-of (now m) .limits .threads)
+        × Marks (members-of (rows-of (now m))) (now marks) ⌝ }
     ensures { λ r. ⌜ r ≡ has-in name (members-of (rows-of (now (m .entry)))) ⌝ }
 {
     let n = rows::ends(m);
@@ -67,8 +70,11 @@ pub fn begin(m: &mut [u32], marks: &mut [u8; 256], name: u8)
 
 // A name joins the set.
 fn add(m: &mut [u32], marks: &mut [u8; 256], name: u8)
-    requires { ⌜ Roomy (rows-of (now m)) × (rows-of (now m) .ends < rows-of (now m) .limits .threads) × Marks (members-of (rows-of (now m))) (now marks) ⌝ }
-    ensures { λ _. ⌜ (rows-of (now (m .exit)) ≡ put-ends (rows-of (now (m .entry)) .ends + 1) (put-ended (set (rows-of (now (m .entry)) .ended) (rows-of (now (m .entry)) .ends) name) (rows-of (now (m .entry))))) × Marks (members-of (rows-of (now (m .exit)))) (now (marks .exit)) ⌝ }
+    requires { ⌜ Roomy (rows-of (now m)) × (rows-of (now m) .ends < rows-of (now m) .limits .threads)
+        × Marks (members-of (rows-of (now m))) (now marks) ⌝ }
+    ensures { λ _. ⌜ (rows-of (now (m .exit)) ≡ put-ends (rows-of (now (m .entry)) .ends + 1)
+        (put-ended (set (rows-of (now (m .entry)) .ended) (rows-of (now (m .entry)) .ends) name) (rows-of (now (m .entry)))))
+        × Marks (members-of (rows-of (now (m .exit)))) (now (marks .exit)) ⌝ }
 {
     let n = rows::ends(m);
     mark(marks, n, name);
@@ -100,8 +106,10 @@ fn is_managed(marks: &[u8; 256], n: usize, g: Manager) -> bool
 
 // Is the thread at a place trapped on one of the first n?
 fn is_trapped_on(m: &[u32], marks: &[u8; 256], n: usize, i: usize) -> bool
-    requires { ⌜ Roomy (rows-of (now m)) × (n ≤ 255) × (i < rows-of (now m) .limits .threads) × Marks (members-of (rows-of (now m))) (now marks) ⌝ }
-    ensures { λ r. ⌜ r ≡ any (λ k. awaits k (getD (rows-of (now (m .entry)) .threads) i no-thread)) (take n (members-of (rows-of (now (m .entry))))) ⌝ }
+    requires { ⌜ Roomy (rows-of (now m)) × (n ≤ 255) × (i < rows-of (now m) .limits .threads)
+        × Marks (members-of (rows-of (now m))) (now marks) ⌝ }
+    ensures { λ r. ⌜ r ≡ any (λ k. awaits k (getD (rows-of (now (m .entry)) .threads) i no-thread))
+        (take n (members-of (rows-of (now (m .entry))))) ⌝ }
 {
     let s = rows::state_at(m, i);
     match s {
@@ -119,8 +127,10 @@ fn is_trapped_on(m: &[u32], marks: &[u8; 256], n: usize, i: usize) -> bool
 
 // Does the thread at a place depend on one of the first n, without being one of them?
 fn joins(m: &[u32], marks: &[u8; 256], n: usize, i: usize) -> bool
-    requires { ⌜ Roomy (rows-of (now m)) × (n ≤ 255) × (i < rows-of (now m) .limits .threads) × Marks (members-of (rows-of (now m))) (now marks) ⌝ }
-    ensures { λ r. ⌜ r ≡ (depends-of (take n (members-of (rows-of (now (m .entry))))) (getD (rows-of (now (m .entry)) .threads) i no-thread) && not (has-in (getD (rows-of (now (m .entry)) .threads) i no-thread .name) (take n (members-of (rows-of (now (m .entry))))))) ⌝ }
+    requires { ⌜ Roomy (rows-of (now m)) × (n ≤ 255) × (i < rows-of (now m) .limits .threads)
+        × Marks (members-of (rows-of (now m))) (now marks) ⌝ }
+    ensures { λ r. ⌜ r ≡ (depends-of (take n (members-of (rows-of (now (m .entry))))) (getD (rows-of (now (m .entry)) .threads) i no-thread)
+        && not (has-in (getD (rows-of (now (m .entry)) .threads) i no-thread .name) (take n (members-of (rows-of (now (m .entry))))))) ⌝ }
 {
     if has(marks, n, rows::name_at(m, i)) {
         return false;
@@ -134,8 +144,13 @@ fn joins(m: &[u32], marks: &[u8; 256], n: usize, i: usize) -> bool
 
 // A round: those join that depend on who was in the set when it began.
 pub fn grow(m: &mut [u32], marks: &mut [u8; 256])
-    requires { ⌜ Roomy (rows-of (now m)) × (rows-of (now m) .count ≤ rows-of (now m) .limits .threads) × (rows-of (now m) .ends + count-of (λ t. depends-of (members-of (rows-of (now m))) t && not (has-in (t .name) (members-of (rows-of (now m))))) (view (rows-of (now m)) .threads) ≤ rows-of (now m) .limits .threads) × Marks (members-of (rows-of (now m))) (now marks) ⌝ }
-    ensures { λ _. ⌜ MembersAre (rows-of (now (m .entry))) (rows-of (now (m .exit))) (grow-of (view (rows-of (now (m .entry))) .threads) (members-of (rows-of (now (m .entry))))) × Marks (members-of (rows-of (now (m .exit)))) (now (marks .exit)) ⌝ }
+    requires { ⌜ Roomy (rows-of (now m)) × (rows-of (now m) .count ≤ rows-of (now m) .limits .threads)
+        × (rows-of (now m) .ends + count-of (λ t. depends-of (members-of (rows-of (now m))) t
+        && not (has-in (t .name) (members-of (rows-of (now m))))) (view (rows-of (now m)) .threads) ≤ rows-of (now m) .limits .threads)
+        × Marks (members-of (rows-of (now m))) (now marks) ⌝ }
+    ensures { λ _. ⌜ MembersAre (rows-of (now (m .entry))) (rows-of (now (m .exit)))
+        (grow-of (view (rows-of (now (m .entry))) .threads) (members-of (rows-of (now (m .entry)))))
+        × Marks (members-of (rows-of (now (m .exit)))) (now (marks .exit)) ⌝ }
 {
     let n = rows::count(m);
     let e = rows::ends(m);
@@ -155,8 +170,15 @@ pub fn grow(m: &mut [u32], marks: &mut [u8; 256])
 
 // The manager entry of a kind is gone if it names a member.
 fn lose(m: &mut [u32], marks: &[u8; 256], i: usize, k: TrapKind)
-    requires { ⌜ Roomy (rows-of (now m)) × (rows-of (now m) .ends ≤ rows-of (now m) .limits .threads) × (i < rows-of (now m) .limits .threads) × Marks (members-of (rows-of (now m))) (now marks) ⌝ }
-    ensures { λ _. ⌜ rows-of (now (m .exit)) ≡ put-threads (set (rows-of (now (m .entry)) .threads) i (with-managers (set-entry k (gone-if (members-of (rows-of (now (m .entry)))) (manager k (getD (rows-of (now (m .entry)) .threads) i no-thread .managers))) (getD (rows-of (now (m .entry)) .threads) i no-thread .managers)) (getD (rows-of (now (m .entry)) .threads) i no-thread))) (rows-of (now (m .entry))) ⌝ }
+    requires { ⌜ Roomy (rows-of (now m)) × (rows-of (now m) .ends ≤ rows-of (now m) .limits .threads)
+        × (i < rows-of (now m) .limits .threads) × Marks (members-of (rows-of (now m))) (now marks) ⌝ }
+    ensures { λ _. ⌜ rows-of (now (m .exit)) ≡ put-threads
+        (set (rows-of (now (m .entry)) .threads) i
+        (with-managers
+        (set-entry k (gone-if (members-of (rows-of (now (m .entry))))
+        (manager k (getD (rows-of (now (m .entry)) .threads) i no-thread .managers)))
+        (getD (rows-of (now (m .entry)) .threads) i no-thread .managers)) (getD (rows-of (now (m .entry)) .threads) i no-thread)))
+        (rows-of (now (m .entry))) ⌝ }
 {
     let n = rows::ends(m);
     let g = rows::manager_at(m, i, k);
@@ -167,8 +189,12 @@ fn lose(m: &mut [u32], marks: &[u8; 256], i: usize, k: TrapKind)
 
 // The manager entries of the thread at a place that name a member are gone.
 pub fn lose_managers(m: &mut [u32], marks: &[u8; 256], i: usize)
-    requires { ⌜ Roomy (rows-of (now m)) × (rows-of (now m) .ends ≤ rows-of (now m) .limits .threads) × (i < rows-of (now m) .limits .threads) × Marks (members-of (rows-of (now m))) (now marks) ⌝ }
-    ensures { λ _. ⌜ rows-of (now (m .exit)) ≡ put-threads (set (rows-of (now (m .entry)) .threads) i (without-managers-of (members-of (rows-of (now (m .entry)))) (getD (rows-of (now (m .entry)) .threads) i no-thread))) (rows-of (now (m .entry))) ⌝ }
+    requires { ⌜ Roomy (rows-of (now m)) × (rows-of (now m) .ends ≤ rows-of (now m) .limits .threads)
+        × (i < rows-of (now m) .limits .threads) × Marks (members-of (rows-of (now m))) (now marks) ⌝ }
+    ensures { λ _. ⌜ rows-of (now (m .exit)) ≡ put-threads
+        (set (rows-of (now (m .entry)) .threads) i
+        (without-managers-of (members-of (rows-of (now (m .entry)))) (getD (rows-of (now (m .entry)) .threads) i no-thread)))
+        (rows-of (now (m .entry))) ⌝ }
 {
     lose(m, marks, i, TrapKind::Program);
     lose(m, marks, i, TrapKind::Tlb);
@@ -177,8 +203,10 @@ pub fn lose_managers(m: &mut [u32], marks: &[u8; 256], i: usize)
 
 // Is the message at a place to a member, or from one?
 pub fn names_member(m: &[u32], marks: &[u8; 256], i: usize) -> bool
-    requires { ⌜ Roomy (rows-of (now m)) × (rows-of (now m) .ends ≤ rows-of (now m) .limits .threads) × (i < rows-of (now m) .limits .threads + rows-of (now m) .limits .blocks) × Marks (members-of (rows-of (now m))) (now marks) ⌝ }
-    ensures { λ r. ⌜ r ≡ (has-in (getD (rows-of (now (m .entry)) .messages) i no-message .to) (members-of (rows-of (now (m .entry)))) || has-in (getD (rows-of (now (m .entry)) .messages) i no-message .from) (members-of (rows-of (now (m .entry))))) ⌝ }
+    requires { ⌜ Roomy (rows-of (now m)) × (rows-of (now m) .ends ≤ rows-of (now m) .limits .threads)
+        × (i < rows-of (now m) .limits .threads + rows-of (now m) .limits .blocks) × Marks (members-of (rows-of (now m))) (now marks) ⌝ }
+    ensures { λ r. ⌜ r ≡ (has-in (getD (rows-of (now (m .entry)) .messages) i no-message .to) (members-of (rows-of (now (m .entry))))
+        || has-in (getD (rows-of (now (m .entry)) .messages) i no-message .from) (members-of (rows-of (now (m .entry))))) ⌝ }
 {
     if is_member(m, marks, rows::receiver_at(m, i)) {
         return true;
@@ -188,7 +216,8 @@ pub fn names_member(m: &[u32], marks: &[u8; 256], i: usize) -> bool
 
 // Does it receive from a member alone?
 pub fn misses(m: &[u32], marks: &[u8; 256], s: State) -> bool
-    requires { ⌜ Roomy (rows-of (now m)) × (rows-of (now m) .ends ≤ rows-of (now m) .limits .threads) × Marks (members-of (rows-of (now m))) (now marks) ⌝ }
+    requires { ⌜ Roomy (rows-of (now m)) × (rows-of (now m) .ends ≤ rows-of (now m) .limits .threads)
+        × Marks (members-of (rows-of (now m))) (now marks) ⌝ }
     ensures { λ r. ⌜ r ≡ misses-of (members-of (rows-of (now (m .entry)))) s ⌝ }
 {
     match s {

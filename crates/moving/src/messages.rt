@@ -28,7 +28,8 @@ fn is_wanted(m: &[u32], i: usize, me: u8, w: Wanted) -> bool
 
 // Where the oldest message stands that a receiver wants, or how many there are.
 pub fn seek_wanted(m: &[u32], me: u8, w: Wanted) -> usize
-    requires { ⌜ Roomy (rows-of (now m)) × (rows-of (now m) .letters ≤ rows-of (now m) .limits .threads + rows-of (now m) .limits .blocks) ⌝ }
+    requires { ⌜ Roomy (rows-of (now m))
+        × (rows-of (now m) .letters ≤ rows-of (now m) .limits .threads + rows-of (now m) .limits .blocks) ⌝ }
     ensures { λ r. ⌜ r ≡ place (wanted-by me w) (view (rows-of (now (m .entry))) .messages) ⌝ }
 {
     let n = rows::letters(m);
@@ -44,7 +45,8 @@ pub fn seek_wanted(m: &[u32], me: u8, w: Wanted) -> usize
 
 // Where the first message to a later receiver stands: the end of the receiver's inbox.
 pub fn seek_end(m: &[u32], to: u8) -> usize
-    requires { ⌜ Roomy (rows-of (now m)) × (rows-of (now m) .letters ≤ rows-of (now m) .limits .threads + rows-of (now m) .limits .blocks) ⌝ }
+    requires { ⌜ Roomy (rows-of (now m))
+        × (rows-of (now m) .letters ≤ rows-of (now m) .limits .threads + rows-of (now m) .limits .blocks) ⌝ }
     ensures { λ r. ⌜ r ≡ place (λ x. not (leb (x .to) to)) (view (rows-of (now (m .entry))) .messages) ⌝ }
 {
     let n = rows::letters(m);
@@ -60,8 +62,10 @@ pub fn seek_end(m: &[u32], to: u8) -> usize
 
 // A message comes in at a place: each from there on goes one further.
 pub fn open_gap(m: &mut [u32], at: usize, x: Message)
-    requires { ⌜ Roomy (rows-of (now m)) × (at ≤ rows-of (now m) .letters) × (rows-of (now m) .letters < rows-of (now m) .limits .threads + rows-of (now m) .limits .blocks) ⌝ }
-    ensures { λ _. ⌜ MessagesAre (rows-of (now (m .entry))) (rows-of (now (m .exit))) (take at (view (rows-of (now (m .entry))) .messages) ++ x ∷ drop at (view (rows-of (now (m .entry))) .messages)) ⌝ }
+    requires { ⌜ Roomy (rows-of (now m)) × (at ≤ rows-of (now m) .letters)
+        × (rows-of (now m) .letters < rows-of (now m) .limits .threads + rows-of (now m) .limits .blocks) ⌝ }
+    ensures { λ _. ⌜ MessagesAre (rows-of (now (m .entry))) (rows-of (now (m .exit))) (take at (view (rows-of (now (m .entry))) .messages)
+        ++ x ∷ drop at (view (rows-of (now (m .entry))) .messages)) ⌝ }
 {
     let n = rows::letters(m);
     let mut i = n;
@@ -75,8 +79,10 @@ pub fn open_gap(m: &mut [u32], at: usize, x: Message)
 
 // The message at a place goes.
 pub fn close_gap(m: &mut [u32], at: usize)
-    requires { ⌜ Roomy (rows-of (now m)) × (at < rows-of (now m) .letters) × (rows-of (now m) .letters ≤ rows-of (now m) .limits .threads + rows-of (now m) .limits .blocks) ⌝ }
-    ensures { λ _. ⌜ MessagesAre (rows-of (now (m .entry))) (rows-of (now (m .exit))) (take at (view (rows-of (now (m .entry))) .messages) ++ drop (at + 1) (view (rows-of (now (m .entry))) .messages)) ⌝ }
+    requires { ⌜ Roomy (rows-of (now m)) × (at < rows-of (now m) .letters)
+        × (rows-of (now m) .letters ≤ rows-of (now m) .limits .threads + rows-of (now m) .limits .blocks) ⌝ }
+    ensures { λ _. ⌜ MessagesAre (rows-of (now (m .entry))) (rows-of (now (m .exit))) (take at (view (rows-of (now (m .entry))) .messages)
+        ++ drop (at + 1) (view (rows-of (now (m .entry))) .messages)) ⌝ }
 {
     let last = rows::letters(m) - 1;
     let mut i = at;
@@ -101,8 +107,10 @@ fn is_notice_of(m: &[u32], i: usize, name: u8) -> bool
 
 // The notice of a thread goes.
 pub fn drop_notice(m: &mut [u32], name: u8)
-    requires { ⌜ Roomy (rows-of (now m)) × (rows-of (now m) .letters ≤ rows-of (now m) .limits .threads + rows-of (now m) .limits .blocks) ⌝ }
-    ensures { λ _. ⌜ MessagesAre (rows-of (now (m .entry))) (rows-of (now (m .exit))) (keep (λ x. not (notice-of name x)) (view (rows-of (now (m .entry))) .messages)) ⌝ }
+    requires { ⌜ Roomy (rows-of (now m))
+        × (rows-of (now m) .letters ≤ rows-of (now m) .limits .threads + rows-of (now m) .limits .blocks) ⌝ }
+    ensures { λ _. ⌜ MessagesAre (rows-of (now (m .entry))) (rows-of (now (m .exit)))
+        (keep (λ x. not (notice-of name x)) (view (rows-of (now (m .entry))) .messages)) ⌝ }
 {
     let n = rows::letters(m);
     let mut k = 0;
@@ -121,7 +129,8 @@ pub fn drop_notice(m: &mut [u32], name: u8)
 
 // How many ordinary messages there are: the blocks in use.
 pub fn blocks_used(m: &[u32]) -> usize
-    requires { ⌜ Roomy (rows-of (now m)) × (rows-of (now m) .letters ≤ rows-of (now m) .limits .threads + rows-of (now m) .limits .blocks) ⌝ }
+    requires { ⌜ Roomy (rows-of (now m))
+        × (rows-of (now m) .letters ≤ rows-of (now m) .limits .threads + rows-of (now m) .limits .blocks) ⌝ }
     ensures { λ k. ⌜ k ≡ count-of (λ x. is-ordinary-of (x .kind)) (view (rows-of (now (m .entry))) .messages) ⌝ }
 {
     let n = rows::letters(m);

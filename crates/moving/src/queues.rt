@@ -9,7 +9,8 @@ ghost use Rattle.memory.specs.Memory.{rows-of};
 // A name joins the tail of the ready queue.
 pub fn join(m: &mut [u32], name: u8)
     requires { ⌜ Roomy (rows-of (now m)) × (rows-of (now m) .readies < rows-of (now m) .limits .threads) ⌝ }
-    ensures { λ _. ⌜ ReadyIs (rows-of (now (m .entry))) (rows-of (now (m .exit))) (view (rows-of (now (m .entry))) .ready ++ (name ∷ [])) ⌝ }
+    ensures { λ _. ⌜ ReadyIs (rows-of (now (m .entry))) (rows-of (now (m .exit))) (view (rows-of (now (m .entry))) .ready
+        ++ (name ∷ [])) ⌝ }
 {
     let n = rows::readies(m);
     rows::put_ready(m, n, name);
@@ -18,7 +19,8 @@ pub fn join(m: &mut [u32], name: u8)
 
 // The front of the ready queue goes.
 pub fn drop_front(m: &mut [u32])
-    requires { ⌜ Roomy (rows-of (now m)) × (0 < rows-of (now m) .readies) × (rows-of (now m) .readies ≤ rows-of (now m) .limits .threads) ⌝ }
+    requires { ⌜ Roomy (rows-of (now m)) × (0 < rows-of (now m) .readies)
+        × (rows-of (now m) .readies ≤ rows-of (now m) .limits .threads) ⌝ }
     ensures { λ _. ⌜ ReadyIs (rows-of (now (m .entry))) (rows-of (now (m .exit))) (drop 1 (view (rows-of (now (m .entry))) .ready)) ⌝ }
 {
     let last = rows::readies(m) - 1;
@@ -33,7 +35,8 @@ pub fn drop_front(m: &mut [u32])
 // All who wait for the clock join, in order of waiting.
 pub fn join_clock(m: &mut [u32])
     requires { ⌜ Roomy (rows-of (now m)) × (rows-of (now m) .readies + rows-of (now m) .clocks ≤ rows-of (now m) .limits .threads) ⌝ }
-    ensures { λ _. ⌜ ReadyIs (rows-of (now (m .entry))) (rows-of (now (m .exit))) (view (rows-of (now (m .entry))) .ready ++ view (rows-of (now (m .entry))) .clock) ⌝ }
+    ensures { λ _. ⌜ ReadyIs (rows-of (now (m .entry))) (rows-of (now (m .exit))) (view (rows-of (now (m .entry))) .ready
+        ++ view (rows-of (now (m .entry))) .clock) ⌝ }
 {
     let n = rows::clocks(m);
     let mut i = 0;
@@ -47,7 +50,8 @@ pub fn join_clock(m: &mut [u32])
 // A name joins those who wait for the clock.
 pub fn join_waiters(m: &mut [u32], name: u8)
     requires { ⌜ Roomy (rows-of (now m)) × (rows-of (now m) .clocks < rows-of (now m) .limits .threads) ⌝ }
-    ensures { λ _. ⌜ ClockIs (rows-of (now (m .entry))) (rows-of (now (m .exit))) (view (rows-of (now (m .entry))) .clock ++ (name ∷ [])) ⌝ }
+    ensures { λ _. ⌜ ClockIs (rows-of (now (m .entry))) (rows-of (now (m .exit))) (view (rows-of (now (m .entry))) .clock
+        ++ (name ∷ [])) ⌝ }
 {
     let n = rows::clocks(m);
     rows::put_clock(m, n, name);

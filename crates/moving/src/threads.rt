@@ -21,7 +21,8 @@ ghost use Rattle.memory.specs.Memory.{rows-of};
 // Does the thread of this name stand at a place?
 fn is_at(m: &[u32], i: usize, name: u8) -> bool
     requires { ⌜ Roomy (rows-of (now m)) × (rows-of (now m) .count ≤ rows-of (now m) .limits .threads) ⌝ }
-    ensures { λ r. ⌜ (r ≡ true → (i < rows-of (now (m .entry)) .count) × (name ≡ getD (rows-of (now (m .entry)) .threads) i no-thread .name)) ⌝ }
+    ensures { λ r. ⌜ (r ≡ true → (i < rows-of (now (m .entry)) .count)
+        × (name ≡ getD (rows-of (now (m .entry)) .threads) i no-thread .name)) ⌝ }
 {
     if i < rows::count(m) {
         name == rows::name_at(m, i)
@@ -32,7 +33,8 @@ fn is_at(m: &[u32], i: usize, name: u8) -> bool
 
 // Where the thread of a name stands, or how many there are. It is looked for first where the hint says.
 pub fn find(m: &[u32], name: u8) -> usize
-    requires { ⌜ Roomy (rows-of (now m)) × (rows-of (now m) .count ≤ rows-of (now m) .limits .threads) × (count-of (named name) (view (rows-of (now m)) .threads) ≤ 1) ⌝ }
+    requires { ⌜ Roomy (rows-of (now m)) × (rows-of (now m) .count ≤ rows-of (now m) .limits .threads)
+        × (count-of (named name) (view (rows-of (now m)) .threads) ≤ 1) ⌝ }
     ensures { λ r. ⌜ r ≡ place (named name) (view (rows-of (now (m .entry))) .threads) ⌝ }
 {
     let hint = rows::place_hint(m, name);
@@ -61,7 +63,9 @@ fn walk(m: &[u32], name: u8) -> usize
 // The clock waiters become ready with the number of the beat.
 pub fn wake_clock(m: &mut [u32], beats: u32)
     requires { ⌜ Roomy (rows-of (now m)) × (rows-of (now m) .count ≤ rows-of (now m) .limits .threads) ⌝ }
-    ensures { λ _. ⌜ ThreadsAre (rows-of (now (m .entry))) (rows-of (now (m .exit))) (map (λ t. if on-clock (t .state) then in-state ReadyState (ResultIs beats) t else t) (view (rows-of (now (m .entry))) .threads)) ⌝ }
+    ensures { λ _. ⌜ ThreadsAre (rows-of (now (m .entry))) (rows-of (now (m .exit)))
+        (map (λ t. if on-clock (t .state) then in-state ReadyState (ResultIs beats) t else t)
+        (view (rows-of (now (m .entry))) .threads)) ⌝ }
 {
     let n = rows::count(m);
     let mut i = 0;
@@ -123,7 +127,8 @@ fn walk_wakes(m: &[u32]) -> bool
 
 // The place of a name: where the first thread stands whose name is not below it. The names rise, so each look halves what is left.
 pub fn find_place(m: &[u32], name: u8) -> usize
-    requires { ⌜ Roomy (rows-of (now m)) × (rows-of (now m) .count ≤ rows-of (now m) .limits .threads) × Rising (view (rows-of (now m)) .threads) ⌝ }
+    requires { ⌜ Roomy (rows-of (now m)) × (rows-of (now m) .count ≤ rows-of (now m) .limits .threads)
+        × Rising (view (rows-of (now m)) .threads) ⌝ }
     ensures { λ r. ⌜ r ≡ place (λ t. not (ltb (t .name) name)) (view (rows-of (now (m .entry))) .threads) ⌝ }
 {
     let mut low = 0;
@@ -142,7 +147,8 @@ pub fn find_place(m: &[u32], name: u8) -> usize
 // A thread comes in at a place: each from there on goes one further.
 pub fn open_gap(m: &mut [u32], at: usize, t: Thread)
     requires { ⌜ Roomy (rows-of (now m)) × (at ≤ rows-of (now m) .count) × (rows-of (now m) .count < rows-of (now m) .limits .threads) ⌝ }
-    ensures { λ _. ⌜ ThreadsLeft (rows-of (now (m .entry))) (rows-of (now (m .exit))) (take at (view (rows-of (now (m .entry))) .threads) ++ t ∷ drop at (view (rows-of (now (m .entry))) .threads)) ⌝ }
+    ensures { λ _. ⌜ ThreadsLeft (rows-of (now (m .entry))) (rows-of (now (m .exit))) (take at (view (rows-of (now (m .entry))) .threads)
+        ++ t ∷ drop at (view (rows-of (now (m .entry))) .threads)) ⌝ }
 {
     let n = rows::count(m);
     let mut i = n;

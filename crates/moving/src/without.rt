@@ -17,10 +17,14 @@ ghost use Rattle.memory.specs.Rows.{view, Roomy, members as members-of, Threads
 ghost use Rattle.memory.specs.Memory.{rows-of};
 ghost use Rattle.moving.specs.Marks.{Marks};
 
-// Threads: the members go, and no manager entry names one. A record is changed before it is moved: what is read behind a move waits for its stores.
+// Threads: the members go, and no manager entry names one. A record is changed before it is moved: what is read behind a move waits for
+// its stores.
 pub fn threads(m: &mut [u32], marks: &[u8; 256])
-    requires { ⌜ Roomy (rows-of (now m)) × (rows-of (now m) .ends ≤ rows-of (now m) .limits .threads) × (rows-of (now m) .count ≤ rows-of (now m) .limits .threads) × Marks (members-of (rows-of (now m))) (now marks) ⌝ }
-    ensures { λ _. ⌜ ThreadsLeft (rows-of (now (m .entry))) (rows-of (now (m .exit))) (map (without-managers (members-of (rows-of (now (m .entry))))) (keep (λ t. not (has-in (t .name) (members-of (rows-of (now (m .entry)))))) (view (rows-of (now (m .entry))) .threads))) ⌝ }
+    requires { ⌜ Roomy (rows-of (now m)) × (rows-of (now m) .ends ≤ rows-of (now m) .limits .threads)
+        × (rows-of (now m) .count ≤ rows-of (now m) .limits .threads) × Marks (members-of (rows-of (now m))) (now marks) ⌝ }
+    ensures { λ _. ⌜ ThreadsLeft (rows-of (now (m .entry))) (rows-of (now (m .exit)))
+        (map (without-managers (members-of (rows-of (now (m .entry)))))
+        (keep (λ t. not (has-in (t .name) (members-of (rows-of (now (m .entry)))))) (view (rows-of (now (m .entry))) .threads))) ⌝ }
 {
     let n = rows::count(m);
     let mut k = 0;
@@ -40,8 +44,10 @@ pub fn threads(m: &mut [u32], marks: &[u8; 256])
 
 // The ready queue.
 pub fn ready(m: &mut [u32], marks: &[u8; 256])
-    requires { ⌜ Roomy (rows-of (now m)) × (rows-of (now m) .ends ≤ rows-of (now m) .limits .threads) × (rows-of (now m) .readies ≤ rows-of (now m) .limits .threads) × Marks (members-of (rows-of (now m))) (now marks) ⌝ }
-    ensures { λ _. ⌜ ReadyIs (rows-of (now (m .entry))) (rows-of (now (m .exit))) (keep (λ x. not (has-in x (members-of (rows-of (now (m .entry)))))) (view (rows-of (now (m .entry))) .ready)) ⌝ }
+    requires { ⌜ Roomy (rows-of (now m)) × (rows-of (now m) .ends ≤ rows-of (now m) .limits .threads)
+        × (rows-of (now m) .readies ≤ rows-of (now m) .limits .threads) × Marks (members-of (rows-of (now m))) (now marks) ⌝ }
+    ensures { λ _. ⌜ ReadyIs (rows-of (now (m .entry))) (rows-of (now (m .exit)))
+        (keep (λ x. not (has-in x (members-of (rows-of (now (m .entry)))))) (view (rows-of (now (m .entry))) .ready)) ⌝ }
 {
     let n = rows::readies(m);
     let mut k = 0;
@@ -61,8 +67,10 @@ pub fn ready(m: &mut [u32], marks: &[u8; 256])
 
 // The clock queue.
 pub fn clock(m: &mut [u32], marks: &[u8; 256])
-    requires { ⌜ Roomy (rows-of (now m)) × (rows-of (now m) .ends ≤ rows-of (now m) .limits .threads) × (rows-of (now m) .clocks ≤ rows-of (now m) .limits .threads) × Marks (members-of (rows-of (now m))) (now marks) ⌝ }
-    ensures { λ _. ⌜ ClockIs (rows-of (now (m .entry))) (rows-of (now (m .exit))) (keep (λ x. not (has-in x (members-of (rows-of (now (m .entry)))))) (view (rows-of (now (m .entry))) .clock)) ⌝ }
+    requires { ⌜ Roomy (rows-of (now m)) × (rows-of (now m) .ends ≤ rows-of (now m) .limits .threads)
+        × (rows-of (now m) .clocks ≤ rows-of (now m) .limits .threads) × Marks (members-of (rows-of (now m))) (now marks) ⌝ }
+    ensures { λ _. ⌜ ClockIs (rows-of (now (m .entry))) (rows-of (now (m .exit)))
+        (keep (λ x. not (has-in x (members-of (rows-of (now (m .entry)))))) (view (rows-of (now (m .entry))) .clock)) ⌝ }
 {
     let n = rows::clocks(m);
     let mut k = 0;
@@ -82,8 +90,12 @@ pub fn clock(m: &mut [u32], marks: &[u8; 256])
 
 // Messages and notices to or from members.
 pub fn messages(m: &mut [u32], marks: &[u8; 256])
-    requires { ⌜ Roomy (rows-of (now m)) × (rows-of (now m) .ends ≤ rows-of (now m) .limits .threads) × (rows-of (now m) .letters ≤ rows-of (now m) .limits .threads + rows-of (now m) .limits .blocks) × Marks (members-of (rows-of (now m))) (now marks) ⌝ }
-    ensures { λ _. ⌜ MessagesAre (rows-of (now (m .entry))) (rows-of (now (m .exit))) (keep (λ x. not (has-in (x .to) (members-of (rows-of (now (m .entry)))) || has-in (x .from) (members-of (rows-of (now (m .entry)))))) (view (rows-of (now (m .entry))) .messages)) ⌝ }
+    requires { ⌜ Roomy (rows-of (now m)) × (rows-of (now m) .ends ≤ rows-of (now m) .limits .threads)
+        × (rows-of (now m) .letters ≤ rows-of (now m) .limits .threads + rows-of (now m) .limits .blocks)
+        × Marks (members-of (rows-of (now m))) (now marks) ⌝ }
+    ensures { λ _. ⌜ MessagesAre (rows-of (now (m .entry))) (rows-of (now (m .exit)))
+        (keep (λ x. not (has-in (x .to) (members-of (rows-of (now (m .entry))))
+        || has-in (x .from) (members-of (rows-of (now (m .entry)))))) (view (rows-of (now (m .entry))) .messages)) ⌝ }
 {
     let n = rows::letters(m);
     let mut k = 0;
@@ -118,8 +130,15 @@ fn told_gone(s: State) -> Answer
 
 // Those that receive from a member become ready, by rising name, told that the sender is gone.
 pub fn receivers(m: &mut [u32], marks: &[u8; 256])
-    requires { ⌜ Roomy (rows-of (now m)) × (rows-of (now m) .ends ≤ rows-of (now m) .limits .threads) × (rows-of (now m) .count ≤ rows-of (now m) .limits .threads) × (rows-of (now m) .readies + count-of (λ t. misses-of (members-of (rows-of (now m))) (t .state)) (view (rows-of (now m)) .threads) ≤ rows-of (now m) .limits .threads) × Marks (members-of (rows-of (now m))) (now marks) ⌝ }
-    ensures { λ _. ⌜ Woken (rows-of (now (m .entry))) (rows-of (now (m .exit))) (map (λ t. if misses-of (members-of (rows-of (now (m .entry)))) (t .state) then in-state ReadyState (told-gone-of (t .state)) t else t) (view (rows-of (now (m .entry))) .threads)) (view (rows-of (now (m .entry))) .ready ++ map (λ t. t .name) (keep (λ t. misses-of (members-of (rows-of (now (m .entry)))) (t .state)) (view (rows-of (now (m .entry))) .threads))) ⌝ }
+    requires { ⌜ Roomy (rows-of (now m)) × (rows-of (now m) .ends ≤ rows-of (now m) .limits .threads)
+        × (rows-of (now m) .count ≤ rows-of (now m) .limits .threads)
+        × (rows-of (now m) .readies + count-of (λ t. misses-of (members-of (rows-of (now m))) (t .state)) (view (rows-of (now m)) .threads)
+        ≤ rows-of (now m) .limits .threads) × Marks (members-of (rows-of (now m))) (now marks) ⌝ }
+    ensures { λ _. ⌜ Woken (rows-of (now (m .entry))) (rows-of (now (m .exit)))
+        (map (λ t. if misses-of (members-of (rows-of (now (m .entry)))) (t .state) then in-state ReadyState (told-gone-of (t .state)) t
+        else t) (view (rows-of (now (m .entry))) .threads)) (view (rows-of (now (m .entry))) .ready
+        ++ map (λ t. t .name) (keep (λ t. misses-of (members-of (rows-of (now (m .entry)))) (t .state))
+        (view (rows-of (now (m .entry))) .threads))) ⌝ }
 {
     let n = rows::count(m);
     let mut i = 0;

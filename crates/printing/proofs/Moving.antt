@@ -97,7 +97,8 @@ tests-failure got fits = ap (λ (z : ℤ). ltZ z (pos 0)) (toZ-ofZ fits) ∙ bel
     below (negsuc n) = refl
 
 pub heard-so : (left n : ℕ) (got : ℤ) → SFits w64 got
-    → _≡_ {A = Span} (record { at = 0; held = left + n; ended = eqb (ofZ w64 got) 0; failed = ltZ (toZ w64 (ofZ w64 got)) (pos 0) }) (heard left n got)
+    → _≡_ {A = Span} (record { at = 0; held = left + n; ended = eqb (ofZ w64 got) 0; failed = ltZ (toZ w64 (ofZ w64 got)) (pos 0) })
+    (heard left n got)
 heard-so left n got fits =
     ap₂ (λ (e f : Bool). span e f) (tests-end got fits) (tests-failure got fits)
   where
@@ -105,7 +106,8 @@ heard-so left n got fits =
     span e f = record { at = 0; held = left + n; ended = e; failed = f }
 
 -- k bytes stand at the front, the read answered `got`, and the buffer behind them comes back as ys
-module _ (w : Span) {before mid : List ℕ} (ys : List ℕ) {k n : ℕ} (got : ℤ) {v : Span} (inside : w .held ≤ length before) (s : Settled w before mid k)
+module _ (w : Span) {before mid : List ℕ} (ys : List ℕ) {k n : ℕ} (got : ℤ) {v : Span} (inside : w .held ≤ length before)
+    (s : Settled w before mid k)
     (kept : length ys ≡ length (rest k mid)) (fits : SFits w64 got) (answers : MayAnswer (length (rest k mid)) got)
     (counts : n ≡ clamped (toZ w64 (ofZ w64 got)) (length ys)) (says : v ≡ heard k n (toZ w64 (ofZ w64 got))) where
   room : length (rest k mid) ≡ length before - (w .held - w .at)

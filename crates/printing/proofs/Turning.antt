@@ -61,7 +61,8 @@ full before t = ltb (length before) (t .filled + 160)
 abbrev cut : List ℕ → Bool → Turned → Bool
 cut input ended t = not ended && not (whole (left input t))
 
--- What stands whenever the loop's test is reached: what a turn promises, but for where it stops. m is the memory at the entry, m₁ as it is now.
+-- What stands whenever the loop's test is reached: what a turn promises, but for where it stops. m is the memory at the entry, m₁ as it
+-- is now.
 pub record Going (m : List ℕ) (k : ℕ) (input : List ℕ) (ended : Bool) (before after : List ℕ) (t : Turned) (m₁ : List ℕ) : Type 0 where
   pub standing : Standing m₁
   pub words : length m₁ ≡ length m
@@ -159,7 +160,8 @@ module _ {m : List ℕ} {k : ℕ} {input : List ℕ} {ended : Bool} {before afte
           says = told;
           served = g .served ++ (event ∷ []);
           first = split;
-          leaves = sym stepped ∙ (ap (λ (U : Tables). step small U event .tables) (g .leaves) ∙ sym (run-last small (tables m) (g .served) event));
+          leaves = sym stepped ∙ (ap (λ (U : Tables). step small U event .tables) (g .leaves)
+              ∙ sym (run-last small (tables m) (g .served) event));
         }
       where
         own : limits m₁ ≡ small

@@ -62,4 +62,5 @@ pub record Turns (m : List ℕ) (k : ℕ) (input : List ℕ) (ended : Bool) (bef
   pub leaves : tables m′ ≡ run small (tables m) served
   pub stays : drop (t .filled) after ≡ drop (t .filled) before
   -- it stops where all is served, no room for a line is left, or the next field is not all there yet
-  pub stops : (eqb (t .used) (length input) || ltb (length before) (t .filled + 160) || (not ended && not (whole (drop (t .used) input)))) ≡ true
+  pub stops : (eqb (t .used) (length input) || ltb (length before) (t .filled + 160) || (not ended && not (whole (drop (t .used) input))))
+      ≡ true

@@ -33,13 +33,17 @@ record Under (ts : List Thread) (p : Parent) (k : ℕ) : Type 0 where
   lives : place (named parent) ts < length ts
   at : k ≡ place (named parent) ts
 
-well-placed : (ts : List Thread) (i name : ℕ) (p : Parent) → above ts i name p ≢ i → ((name ≡ 0) × (p ≡ NoParent)) ⊎ ((name ≢ 0) × Under ts p (above ts i name p))
-well-placed ts i name NoParent u = ⊎-elim (λ e. inl (e .0, refl)) (λ e. absurd (u (above-none ts i name NoParent (e .0) refl))) (same? name 0)
+well-placed : (ts : List Thread) (i name : ℕ) (p : Parent) → above ts i name p ≢ i → ((name ≡ 0) × (p ≡ NoParent))
+    ⊎ ((name ≢ 0) × Under ts p (above ts i name p))
+well-placed ts i name NoParent u =
+    ⊎-elim (λ e. inl (e .0, refl)) (λ e. absurd (u (above-none ts i name NoParent (e .0) refl))) (same? name 0)
 well-placed ts i name (ParentIs m) u =
-    ⊎-elim (λ e. absurd (u (above-zero ts i name (ParentIs m) m (e .0) refl))) (λ e. inr (e .0, go (e .0) (ltb (place (named m) ts) (length ts)) refl)) (same? name 0)
+    ⊎-elim (λ e. absurd (u (above-zero ts i name (ParentIs m) m (e .0) refl)))
+    (λ e. inr (e .0, go (e .0) (ltb (place (named m) ts) (length ts)) refl)) (same? name 0)
   where
     go : name ≢ 0 → (b : Bool) → ltb (place (named m) ts) (length ts) ≡ b → Under ts (ParentIs m) (above ts i name (ParentIs m))
-    go e true t = let k : place (named m) ts < length ts = ltb-true _ _ t in record { parent = m; is = refl; lives = k; at = above-live ts i name (ParentIs m) m e refl k }
+    go e true t = let k : place (named m) ts < length ts =
+        ltb-true _ _ t in record { parent = m; is = refl; lives = k; at = above-live ts i name (ParentIs m) m e refl k }
     go e false t = absurd (u (above-gone ts i name (ParentIs m) m e refl (ltb-false _ _ t)))
 
 -- how many of k steps are taken from i
@@ -60,11 +64,13 @@ far-less up n k i h w =
     omega (arith, far-enough up n k i w)
 
 -- the only one of a name stands where a search finds it
-place-only : (m : ℕ) (ts : List Thread) (i : ℕ) (d : Thread) → count (named m) ts ≤ 1 → i < length ts → named m (getD ts i d) ≡ true → place (named m) ts ≡ i
+place-only : (m : ℕ) (ts : List Thread) (i : ℕ) (d : Thread) → count (named m) ts ≤ 1 → i < length ts → named m (getD ts i d) ≡ true →
+    place (named m) ts ≡ i
 unfolding place
 place-only m [] i d c h e = absurd (omega arith)
 place-only m (t ∷ ts) zero d c h e = rw e
-place-only m (t ∷ ts) (suc i) d c h e = rw (first-fails (named m) t ts i d c (omega arith) e) (ap suc (place-only m ts i d (rest-once (named m) t ts c) (omega arith) e))
+place-only m (t ∷ ts) (suc i) d c h e =
+    rw (first-fails (named m) t ts i d c (omega arith) e) (ap suc (place-only m ts i d (rest-once (named m) t ts c) (omega arith) e))
 
 module _ (ts : List Thread) (once : (m : ℕ) → count (named m) ts ≤ 1) (up : List ℕ) (U : Upward ts up) where
   step-from : (i : ℕ) (d : Thread) → i < length ts → next up (length ts) i ≡ above ts i (getD ts i d .name) (getD ts i d .parent)
@@ -74,7 +80,8 @@ module _ (ts : List Thread) (once : (m : ℕ) → count (named m) ts ≤ 1) (up 
   own-place i d h = place-only (getD ts i d .name) ts i d (once _) h (eq-eqb (getD ts i d .name) (getD ts i d .name) refl)
 
   -- one from which going up comes above all does not stand above itself
-  moves-on : (k i : ℕ) (d : Thread) → i < length ts → length ts ≤ after up (length ts) k i → above ts i (getD ts i d .name) (getD ts i d .parent) ≢ i
+  moves-on : (k i : ℕ) (d : Thread) → i < length ts → length ts ≤ after up (length ts) k i →
+      above ts i (getD ts i d .name) (getD ts i d .parent) ≢ i
   unfolding after
   moves-on k i d h w e = absurd (omega (arith, turns k, w))
     where
@@ -86,19 +93,27 @@ module _ (ts : List Thread) (once : (m : ℕ) → count (named m) ts ≤ 1) (up 
     depth : ℕ → ℕ
     depth m = far up (length ts) k (place (named m) ts)
 
-    placed : (i : ℕ) (d : Thread) → i < length ts → ((getD ts i d .name ≡ 0) × (getD ts i d .parent ≡ NoParent)) ⊎ ((getD ts i d .name ≢ 0) × Under ts (getD ts i d .parent) (above ts i (getD ts i d .name) (getD ts i d .parent)))
+    placed : (i : ℕ) (d : Thread) → i < length ts → ((getD ts i d .name ≡ 0) × (getD ts i d .parent ≡ NoParent))
+        ⊎ ((getD ts i d .name ≢ 0) × Under ts (getD ts i d .parent) (above ts i (getD ts i d .name) (getD ts i d .parent)))
     placed i d h = well-placed ts i (getD ts i d .name) (getD ts i d .parent) (moves-on k i d h (out i h))
 
-    under-at : (i : ℕ) (d : Thread) → i < length ts → getD ts i d .name ≢ 0 → (p : ℕ) × (getD ts i d .parent ≡ ParentIs p) × (any (named p) ts ≡ true) × (depth p < depth (getD ts i d .name))
+    under-at : (i : ℕ) (d : Thread) → i < length ts → getD ts i d .name ≢ 0 → (p : ℕ) × (getD ts i d .parent ≡ ParentIs p)
+        × (any (named p) ts ≡ true) × (depth p < depth (getD ts i d .name))
     unfolding depth
     under-at i d h u = ⊎-elim (λ e. absurd (u (e .0))) (λ e. go (e .1)) (placed i d h)
       where
-        go : Under ts (getD ts i d .parent) (above ts i (getD ts i d .name) (getD ts i d .parent)) → (p : ℕ) × (getD ts i d .parent ≡ ParentIs p) × (any (named p) ts ≡ true) × (depth p < depth (getD ts i d .name))
+        go : Under ts (getD ts i d .parent) (above ts i (getD ts i d .name) (getD ts i d .parent)) →
+            (p : ℕ) × (getD ts i d .parent ≡ ParentIs p) × (any (named p) ts ≡ true) × (depth p < depth (getD ts i d .name))
         go B = (
           B .parent,
           B .is,
           any-yes (named (B .parent)) ts (B .lives),
-          omega (arith, far-less up (length ts) k i h (out i h), ap (far up (length ts) k) (step-from i d h ∙ B .at), ap (far up (length ts) k) (own-place i d h)),
+          omega (
+            arith,
+            far-less up (length ts) k i h (out i h),
+            ap (far up (length ts) k) (step-from i d h ∙ B .at),
+            ap (far up (length ts) k) (own-place i d h),
+          ),
         )
 
     root-at : (i : ℕ) (d : Thread) → i < length ts → getD ts i d .name ≡ 0 → getD ts i d .parent ≡ NoParent
@@ -108,8 +123,11 @@ module _ (ts : List Thread) (once : (m : ℕ) → count (named m) ts ≤ 1) (up 
     family =
         record {
           depth = depth;
-          root = λ t m e. let w = member-place ts t t m in ap (λ (x : Thread). x .parent) (sym (w .2)) ∙ root-at (w .0) t (w .1) (ap (λ (x : Thread). x .name) (w .2) ∙ e);
-          under = λ t m u. let w = member-place ts t t m in subst (λ (x : Thread). (p : ℕ) × (x .parent ≡ ParentIs p) × (any (named p) ts ≡ true) × (depth p < depth (x .name))) (w .2) (under-at (w .0) t (w .1) (λ e. u (ap (λ (x : Thread). x .name) (sym (w .2)) ∙ e)));
+          root = λ t m e. let w = member-place ts t t m in
+              ap (λ (x : Thread). x .parent) (sym (w .2)) ∙ root-at (w .0) t (w .1) (ap (λ (x : Thread). x .name) (w .2) ∙ e);
+          under = λ t m u. let w = member-place ts t t m in
+              subst (λ (x : Thread). (p : ℕ) × (x .parent ≡ ParentIs p) × (any (named p) ts ≡ true) × (depth p < depth (x .name))) (w .2)
+              (under-at (w .0) t (w .1) (λ e. u (ap (λ (x : Thread). x .name) (sym (w .2)) ∙ e)));
         }
 
 -- ---- where the rule holds, every place leads above all
@@ -126,51 +144,69 @@ child-named t m f e z = absurd (false≢true (rw (eq-eqb (t .name) 0 z, e) at f)
 
 module _ (ts : List Thread) (once : (m : ℕ) → count (named m) ts ≤ 1) (up : List ℕ) (U : Upward ts up) where
   -- a parent from which one climbs lives, and its own parent is a step nearer
-  parent-climbs : (k m : ℕ) (d : Thread) → climbs (suc k) ts (ParentIs m) ≡ true → (place (named m) ts < length ts) × (climbs k ts (getD ts (place (named m) ts) d .parent) ≡ true)
+  parent-climbs : (k m : ℕ) (d : Thread) → climbs (suc k) ts (ParentIs m) ≡ true → (place (named m) ts < length ts)
+      × (climbs k ts (getD ts (place (named m) ts) d .parent) ≡ true)
   unfolding climbs
   parent-climbs k m d e = go (ltb (place (named m) ts) (length ts)) refl
     where
-      go : (b : Bool) → ltb (place (named m) ts) (length ts) ≡ b → (place (named m) ts < length ts) × (climbs k ts (getD ts (place (named m) ts) d .parent) ≡ true)
+      go : (b : Bool) → ltb (place (named m) ts) (length ts) ≡ b → (place (named m) ts < length ts)
+          × (climbs k ts (getD ts (place (named m) ts) d .parent) ≡ true)
       go true t =
           let h : place (named m) ts < length ts = ltb-true _ _ t in
           (h, sym (any-one (named m) (λ u. climbs k ts (u .parent)) ts (place (named m) ts) d (once m) h (passes-at (named m) d ts h)) ∙ e)
-      go false t = absurd (false≢true (sym (any-neither (named m) (λ u. climbs k ts (u .parent)) ts (any-no (named m) ts (ltb-false _ _ t))) ∙ e))
+      go false t =
+          absurd (false≢true (sym (any-neither (named m) (λ u. climbs k ts (u .parent)) ts (any-no (named m) ts (ltb-false _ _ t))) ∙ e))
 
   module _ (f : (i : ℕ) (d : Thread) → i < length ts → first (getD ts i d) ≡ true) where
     from-top : (k i : ℕ) (d : Thread) → i < length ts → getD ts i d .parent ≡ NoParent → length ts ≤ after up (length ts) (suc k) i
     from-top k i d h q =
-        let w : next up (length ts) i ≡ length ts = step-from ts once up U i d h ∙ above-top ts i _ _ (top-named (getD ts i d) (f i d h) q) q in
+        let w : next up (length ts) i ≡ length ts =
+        step-from ts once up U i d h ∙ above-top ts i _ _ (top-named (getD ts i d) (f i d h) q) q in
         omega (arith, after-one up (length ts) k i, ap (after up (length ts) k) w, stays up (length ts) k (length ts) (omega arith))
 
-    no-steps : (i : ℕ) (d : Thread) → i < length ts → (p : Parent) → getD ts i d .parent ≡ p → climbs 0 ts p ≡ true → length ts ≤ after up (length ts) 1 i
+    no-steps : (i : ℕ) (d : Thread) → i < length ts → (p : Parent) → getD ts i d .parent ≡ p → climbs 0 ts p ≡ true →
+        length ts ≤ after up (length ts) 1 i
     unfolding climbs
     no-steps i d h NoParent q e = from-top 0 i d h q
     no-steps i d h (ParentIs m) q e = absurd (false≢true e)
 
-    one-more : (k i : ℕ) (d : Thread) → i < length ts → ((j : ℕ) → j < length ts → climbs k ts (getD ts j d .parent) ≡ true → length ts ≤ after up (length ts) (suc k) j) → (p : Parent) → getD ts i d .parent ≡ p → climbs (suc k) ts p ≡ true → length ts ≤ after up (length ts) (suc (suc k)) i
+    one-more : (k i : ℕ) (d : Thread) → i < length ts →
+        ((j : ℕ) → j < length ts → climbs k ts (getD ts j d .parent) ≡ true → length ts ≤ after up (length ts) (suc k) j) → (p : Parent) →
+        getD ts i d .parent ≡ p → climbs (suc k) ts p ≡ true → length ts ≤ after up (length ts) (suc (suc k)) i
     one-more k i d h r NoParent q e = from-top (suc k) i d h q
     one-more k i d h r (ParentIs m) q e =
         let a = parent-climbs k m d e in
-        let w : next up (length ts) i ≡ place (named m) ts = step-from ts once up U i d h ∙ above-live ts i _ _ m (child-named (getD ts i d) m (f i d h) q) q (a .0) in
+        let w : next up (length ts) i ≡ place (named m) ts =
+        step-from ts once up U i d h ∙ above-live ts i _ _ m (child-named (getD ts i d) m (f i d h) q) q (a .0) in
         omega (arith, after-one up (length ts) (suc k) i, ap (after up (length ts) (suc k)) w, r (place (named m) ts) (a .0) (a .1))
 
-    leads-out : (k i : ℕ) (d : Thread) → i < length ts → climbs k ts (getD ts i d .parent) ≡ true → length ts ≤ after up (length ts) (suc k) i
+    leads-out : (k i : ℕ) (d : Thread) → i < length ts → climbs k ts (getD ts i d .parent) ≡ true →
+        length ts ≤ after up (length ts) (suc k) i
     leads-out zero i d h e = no-steps i d h _ refl e
     leads-out (suc k) i d h e = one-more k i d h (λ j l w. leads-out k j d l w) _ refl e
 
 -- the rule at a place
-each-at : (T : Tables) → parents-right T ≡ true → (i : ℕ) (d : Thread) → i < length (T .threads) → (first (getD (T .threads) i d) && climbs (length (T .threads)) (T .threads) (getD (T .threads) i d .parent)) ≡ true
+each-at : (T : Tables) → parents-right T ≡ true → (i : ℕ) (d : Thread) → i < length (T .threads) →
+    (first (getD (T .threads) i d) && climbs (length (T .threads)) (T .threads) (getD (T .threads) i d .parent)) ≡ true
 each-at T e i d h = all-at _ (T .threads) e (getD (T .threads) i d) (getD-member (T .threads) i d h)
 
 -- What the loops decide is the rule.
-pub decided : (T : Tables) → ((m : ℕ) → count (named m) (T .threads) ≤ 1) → (up : List ℕ) → Upward (T .threads) up → (n : ℕ) → length (T .threads) ≡ n → (b : Bool) → AllLead up n b → b ≡ parents-right T
+pub decided : (T : Tables) → ((m : ℕ) → count (named m) (T .threads) ≤ 1) → (up : List ℕ) → Upward (T .threads) up → (n : ℕ) →
+    length (T .threads) ≡ n → (b : Bool) → AllLead up n b → b ≡ parents-right T
 decided T once up U n l true A =
     let w = subst (λ (j : ℕ). AllLead up j true) (sym l) A .yes refl in
     sym (family-tested T (family (T .threads) once up U (w .0) (w .1)))
 decided T once up U n l false A = go (subst (λ (j : ℕ). AllLead up j false) (sym l) A .no refl) (parents-right T) refl
   where
-    go : (i : ℕ) × (i < length (T .threads)) × (after up (length (T .threads)) (length (T .threads) + 1) i < length (T .threads)) → (b : Bool) → parents-right T ≡ b → false ≡ b
+    go : (i : ℕ) × (i < length (T .threads)) × (after up (length (T .threads)) (length (T .threads) + 1) i < length (T .threads)) →
+        (b : Bool) → parents-right T ≡ b → false ≡ b
     go w false e = refl
     go w true e =
         let d : Thread = new-thread 0 NoParent Running in
-        absurd (omega (arith, w .2, ap (λ (j : ℕ). after up (length (T .threads)) j (w .0)) (add-one (length (T .threads))), leads-out (T .threads) once up U (λ i d h. and-left (first (getD (T .threads) i d)) _ (each-at T e i d h)) (length (T .threads)) (w .0) d (w .1) (and-right (first (getD (T .threads) (w .0) d)) _ (each-at T e (w .0) d (w .1)))))
+        absurd (omega (
+          arith,
+          w .2,
+          ap (λ (j : ℕ). after up (length (T .threads)) j (w .0)) (add-one (length (T .threads))),
+          leads-out (T .threads) once up U (λ i d h. and-left (first (getD (T .threads) i d)) _ (each-at T e i d h)) (length (T .threads))
+              (w .0) d (w .1) (and-right (first (getD (T .threads) (w .0) d)) _ (each-at T e (w .0) d (w .1))),
+        ))

@@ -39,7 +39,8 @@ module _ (up : List ℕ) (n : ℕ) where
   after-add : (j k i : ℕ) → after up n (j + k) i ≡ after up n k (after up n j i)
   unfolding after
   after-add zero k i = let e : 0 + k ≡ k = omega arith in ap (λ (m : ℕ). after up n m i) e
-  after-add (suc j) k i = let e : suc j + k ≡ suc (j + k) = omega arith in ap (λ (m : ℕ). after up n m i) e ∙ (after-one (j + k) i ∙ after-add j k (next i))
+  after-add (suc j) k i = let e : suc j + k ≡ suc (j + k) =
+      omega arith in ap (λ (m : ℕ). after up n m i) e ∙ (after-one (j + k) i ∙ after-add j k (next i))
 
   pub stays : (k i : ℕ) → n ≤ i → after up n k i ≡ i
   unfolding after
@@ -78,7 +79,11 @@ module _ (up : List ℕ) (n : ℕ) where
     pub go-ends : (x k : ℕ) → Gone x k → n < k → Leads up n i false
     go-ends x k G h =
         let e : k ≡ n + 1 = omega (arith, G .few) in
-        record { yes = λ f. absurd (false≢true f); no = λ _. subst (λ (z : ℕ). z < n) (G .so ∙ ap (λ (j : ℕ). after up n j i) e) (G .below) }
+        record {
+          yes = λ f. absurd (false≢true f);
+          no = λ _. subst (λ (z : ℕ). z < n) (G .so ∙ ap (λ (j : ℕ). after up n j i) e)
+              (G .below);
+        }
 
   -- ---- from each place in turn
 
@@ -100,7 +105,8 @@ module _ (up : List ℕ) (n : ℕ) where
         so = λ j k. go i L (w .0) (w .1) j k (ltb j i) refl;
       }
     where
-      go : (i : ℕ) (L : Led i) (s : ℕ) → (after up n s i < i) ⊎ (n ≤ after up n s i) → (j : ℕ) → j < i + 1 → (b : Bool) → ltb j i ≡ b → n ≤ after up n (L .steps + s) j
+      go : (i : ℕ) (L : Led i) (s : ℕ) → (after up n s i < i) ⊎ (n ≤ after up n s i) → (j : ℕ) → j < i + 1 → (b : Bool) → ltb j i ≡ b →
+          n ≤ after up n (L .steps + s) j
       go i L s w j k true t = stays-above (L .steps) s j (L .so j (ltb-true j i t))
       go i L s w j k false t =
           let e : i ≡ j = omega (arith, ltb-false j i t) in

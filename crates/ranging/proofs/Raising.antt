@@ -40,8 +40,10 @@ module _ (ts : List Thread) (i name : ℕ) (p : Parent) where
 
 -- it is a place or above all
 above-within : (ts : List Thread) (i name : ℕ) (p : Parent) → i ≤ length ts → above ts i name p ≤ length ts
-above-within ts i name NoParent h = ⊎-elim (λ e. omega (arith, above-top ts i name NoParent (e .0) refl)) (λ e. omega (arith, above-none ts i name NoParent (e .0) refl)) (same? name 0)
-above-within ts i name (ParentIs m) h = ⊎-elim (λ e. omega (arith, above-zero ts i name (ParentIs m) m (e .0) refl)) (λ e. go (e .0) (ltb (place (named m) ts) (length ts)) refl) (same? name 0)
+above-within ts i name NoParent h = ⊎-elim (λ e. omega (arith, above-top ts i name NoParent (e .0) refl))
+    (λ e. omega (arith, above-none ts i name NoParent (e .0) refl)) (same? name 0)
+above-within ts i name (ParentIs m) h = ⊎-elim (λ e. omega (arith, above-zero ts i name (ParentIs m) m (e .0) refl))
+    (λ e. go (e .0) (ltb (place (named m) ts) (length ts)) refl) (same? name 0)
   where
     go : name ≢ 0 → (b : Bool) → ltb (place (named m) ts) (length ts) ≡ b → above ts i name (ParentIs m) ≤ length ts
     go e true t = let k : place (named m) ts < length ts = ltb-true _ _ t in omega (arith, above-live ts i name (ParentIs m) m e refl k)
@@ -64,7 +66,8 @@ module _ (n : ℕ) (ts : List Thread) where
   pub raise-starts : (up : List ℕ) → n ≤ length ts → n ≤ length up → Raised up 0
   raise-starts up h l = record { whole = h; within = omega arith; long = l; so = λ j d k. absurd (omega arith) }
 
-  pub raise-next : (up : List ℕ) (i k : ℕ) (d : Thread) → Raised up i → i < n → k ≡ above (take n ts) i (getD ts i d .name) (getD ts i d .parent) → Raised (set up i k) (i + 1)
+  pub raise-next : (up : List ℕ) (i k : ℕ) (d : Thread) → Raised up i → i < n →
+      k ≡ above (take n ts) i (getD ts i d .name) (getD ts i d .parent) → Raised (set up i k) (i + 1)
   raise-next up i k d R h e =
       record {
         whole = R .whole;
@@ -73,17 +76,26 @@ module _ (n : ℕ) (ts : List Thread) where
         so = λ j f l. go up i k d R h e j f l (eqb j i) refl;
       }
     where
-      go : (up : List ℕ) (i k : ℕ) (d : Thread) → Raised up i → i < n → k ≡ above (take n ts) i (getD ts i d .name) (getD ts i d .parent) → (j : ℕ) (f : Thread) → j < i + 1 → (b : Bool) → eqb j i ≡ b → getD (set up i k) j 0 ≡ above (take n ts) j (getD ts j f .name) (getD ts j f .parent)
+      go : (up : List ℕ) (i k : ℕ) (d : Thread) → Raised up i → i < n → k ≡ above (take n ts) i (getD ts i d .name) (getD ts i d .parent) →
+          (j : ℕ) (f : Thread) → j < i + 1 → (b : Bool) → eqb j i ≡ b →
+          getD (set up i k) j 0 ≡ above (take n ts) j (getD ts j f .name) (getD ts j f .parent)
       go up i k d R h e j f l true t =
           let q : i ≡ j = sym (eqb-true j i t) in
           subst (λ (m : ℕ). getD (set up i k) m 0 ≡ above (take n ts) m (getD ts m f .name) (getD ts m f .parent)) q
-          (getD-set-same up i k 0 (omega (arith, R .long)) ∙ (e ∙ ap (λ (x : Thread). above (take n ts) i (x .name) (x .parent)) (any-default ts i d f (omega (arith, R .whole)))))
+          (getD-set-same up i k 0 (omega (arith, R .long))
+          ∙ (e ∙ ap (λ (x : Thread). above (take n ts) i (x .name) (x .parent)) (any-default ts i d f (omega (arith, R .whole)))))
       go up i k d R h e j f l false t =
           let u : j ≢ i = eqb-false j i t in
           getD-set-other up i j k 0 u ∙ R .so j f (omega arith)
 
-  pub raise-low : (up : List ℕ) (i k : ℕ) (d : Thread) → Raised up i → i < n → k ≡ above (take n ts) i (getD ts i d .name) (getD ts i d .parent) → k ≤ n
-  raise-low up i k d R h e = omega (arith, length-take-le n ts (R .whole), above-within (take n ts) i (getD ts i d .name) (getD ts i d .parent) (omega (arith, length-take-le n ts (R .whole))))
+  pub raise-low : (up : List ℕ) (i k : ℕ) (d : Thread) → Raised up i → i < n →
+      k ≡ above (take n ts) i (getD ts i d .name) (getD ts i d .parent) → k ≤ n
+  raise-low up i k d R h e = omega (
+    arith,
+    length-take-le n ts (R .whole),
+    above-within (take n ts) i (getD ts i d .name)
+        (getD ts i d .parent) (omega (arith, length-take-le n ts (R .whole))),
+  )
 
   pub raise-ends : (up : List ℕ) (i : ℕ) → Raised up i → n ≤ i → Upward (take n ts) up
   raise-ends up i R h =

@@ -35,7 +35,8 @@ module _ (F W : ℕ → ℕ) where
   behind x a (suc n) h g =
       by-flag (λ (hs : List Held). chain rise (x ∷ (hs ++ helds F W (suc a) n)) ≡ true) a (F a) (W a) (g a (omega arith) (omega arith))
       (behind x (suc a) n (omega arith) (λ j p q. g j (omega arith) (omega arith)))
-      (lt-ltb (x .device) a h & behind (record { device = a; word = W a }) (suc a) n (omega arith) (λ j p q. g j (omega arith) (omega arith)))
+      (lt-ltb (x .device) a h & behind (record { device = a; word = W a }) (suc a) n (omega arith)
+      (λ j p q. g j (omega arith) (omega arith)))
 
   rising : (a n : ℕ) → Gentle F W a n → chain rise (helds F W a n) ≡ true
   unfolding chain each from-on
@@ -45,6 +46,7 @@ module _ (F W : ℕ → ℕ) where
       (rising (suc a) n (λ j p q. g j (omega arith) (omega arith)))
       (behind (record { device = a; word = W a }) (suc a) n (omega arith) (λ j p q. g j (omega arith) (omega arith)))
 
-pub held-rises : (m : List ℕ) → all (λ h. ltb (h .device) devices) (rows-of m .held) ≡ true → chain (λ h k. ltb (h .device) (k .device)) (rows-of m .held) ≡ true
+pub held-rises : (m : List ℕ) → all (λ h. ltb (h .device) devices) (rows-of m .held) ≡ true →
+    chain (λ h k. ltb (h .device) (k .device)) (rows-of m .held) ≡ true
 unfolding rows-of
 held-rises m e = rising (flags m) (inside m) 0 devices (told-gentle (flags m) (inside m) e)

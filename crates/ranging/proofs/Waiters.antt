@@ -64,7 +64,12 @@ pub record Waited (n : ℕ) (ts : List Thread) (held : ℕ → Bool) (marks : Li
 pub wait-starts : (n : ℕ) (ts : List Thread) (held : ℕ → Bool) → n ≤ length ts → Waited n ts held (replicate 48 0) 0
 unfolding count
 wait-starts n ts held h =
-    record { whole = h; within = omega arith; so = none-marked devices 48 _ (omega arith) (λ k. refl); free = λ d l. omega (arith, few-if (held d)) }
+    record {
+      whole = h;
+      within = omega arith;
+      so = none-marked devices 48 _ (omega arith) (λ k. refl);
+      free = λ d l. omega (arith, few-if (held d));
+    }
 
 module _ (n : ℕ) (ts : List Thread) (held : ℕ → Bool) (marks : List ℕ) where
   -- the thread at i, which waits for e
@@ -87,7 +92,12 @@ module _ (n : ℕ) (ts : List Thread) (held : ℕ → Bool) (marks : List ℕ) w
     pub wait-skips : devices ≤ e → Waited n ts held marks (i + 1)
     wait-skips b =
         let as-before : (d : ℕ) → d < devices → waiting ts (i + 1) d ≡ waiting ts i d = λ d l. other d l (λ q. omega (arith, q)) in
-        record { whole = W .whole; within = omega arith; so = still-marked _ _ _ marks (W .so) as-before; free = λ d l. omega (arith, as-before d l, W .free d l) }
+        record {
+          whole = W .whole;
+          within = omega arith;
+          so = still-marked _ _ _ marks (W .so) as-before;
+          free = λ d l. omega (arith, as-before d l, W .free d l);
+        }
 
     -- it is the first that has it
     pub wait-next : e < devices → held e ≡ false → getD marks e 0 ≡ 0 → Waited n ts held (set marks e 1) (i + 1)
@@ -97,7 +107,8 @@ module _ (n : ℕ) (ts : List Thread) (held : ℕ → Bool) (marks : List ℕ) w
           whole = W .whole;
           within = omega arith;
           so = marked-there _ _ _ marks (W .so) e l one other;
-          free = λ d k. ⊎-elim (λ q. rw (q .0) (omega (arith, one, ap one-if f))) (λ q. omega (arith, other d k (q .0), W .free d k)) (same? d e);
+          free = λ d k. ⊎-elim (λ q. rw (q .0) (omega (arith, one, ap one-if f))) (λ q. omega (arith, other d k (q .0), W .free d k))
+              (same? d e);
         }
 
     -- another has it
@@ -127,7 +138,8 @@ module _ (T : Tables) where
       go true e = any-count (held-for d) (T .held) e
       go false e = omega arith
 
-  any-held : chain (λ h k. ltb (h .device) (k .device)) (T .held) ≡ true → (d : ℕ) → count (held-for d) (T .held) ≤ one-if (any (held-for d) (T .held))
+  any-held : chain (λ h k. ltb (h .device) (k .device)) (T .held) ≡ true → (d : ℕ) →
+      count (held-for d) (T .held) ≤ one-if (any (held-for d) (T .held))
   any-held c d = go (any (held-for d) (T .held)) refl
     where
       turned : count (held-for d) (T .held) ≡ count (λ h. d == h .device) (T .held)

@@ -84,7 +84,8 @@ fn all_lead(up: &[u8; 256], n: usize) -> bool
 }
 
 pub fn parents_right(m: &[u32], at: &[u8; 256]) -> bool
-    requires { ⌜ Shaped (now m) × Indexed (tables (now m) .threads) (now at) × ((k : ℕ) → count (λ t. k == t .name) (tables (now m) .threads) ≤ 1) ⌝ }
+    requires { ⌜ Shaped (now m) × Indexed (tables (now m) .threads) (now at)
+        × ((k : ℕ) → count (λ t. k == t .name) (tables (now m) .threads) ≤ 1) ⌝ }
     ensures { λ b. ⌜ b ≡ parents-right-of (tables (now (m .entry))) ⌝ }
 {
     let n = rows::count(m);

@@ -7,7 +7,8 @@ ghost use mathlib.Core.Bool.{true};
 ghost use lib.Dec.{ltb, leb};
 ghost use Rattle.rules.specs.Lists.{all, chain};
 ghost use Rattle.rules.specs.Numbers.{names};
-ghost use Rattle.rules.specs.TableRules.{state-in-range as state-in-range-of, ranges as ranges-of, names-right as names-right-of, orders-right as orders-right-of};
+ghost use Rattle.rules.specs.TableRules.{state-in-range as state-in-range-of, ranges as ranges-of, names-right as names-right-of};
+ghost use Rattle.rules.specs.TableRules.{orders-right as orders-right-of};
 ghost use Rattle.store.specs.Store.{Shaped, tables, limits};
 
 fn state_in_range(s: State) -> bool

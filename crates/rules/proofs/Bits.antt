@@ -113,7 +113,8 @@ first-of-three w ds es fs = first-both w ds (es ++ fs) ∙ ap (or-else (first-pe
 
 -- Trailing zeros are the first pending device in rising order.
 pub first-trailing : (w : ℕ) → zero < w → w < 2 ^ devices → first-pending w (from-on 0 devices) ≡ taken (trailingZeros pending-bits w)
-first-trailing w p h = let L = trailing-lowest pending-bits w p (omega arith) in first-at w 0 devices _ zero-le (lowest-lt devices w _ h L) L
+first-trailing w p h = let L =
+    trailing-lowest pending-bits w p (omega arith) in first-at w 0 devices _ zero-le (lowest-lt devices w _ h L) L
 
 pub first-zero : first-pending 0 (from-on 0 devices) ≡ no-pick
 first-zero = unfold first-pending from-on in refl

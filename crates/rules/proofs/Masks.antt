@@ -14,7 +14,8 @@ use Rattle.rules.specs.Lists.{if_then_else_, _==_, any, keep, from-on}
 use Rattle.rules.specs.Numbers.{devices, pending-bits}
 use Rattle.rules.specs.Words.{Picked}
 use Rattle.rules.specs.Pick.{pending, lines, transmitters, receivers, no-pick, first-pending, pick}
-use Rattle.rules.proofs.Bits.{clash, no-bit, Lowest, trailing-lowest, lowest-lt, any-at, taken, or-else, first-of-three, first-trailing, first-zero, ordered}
+use Rattle.rules.proofs.Bits.{clash, no-bit, Lowest, trailing-lowest, lowest-lt, any-at, taken, or-else, first-of-three}
+use Rattle.rules.proofs.Bits.{first-trailing, first-zero, ordered}
 
 -- the lowest digit of what `&` gives
 digit : (x a b : ℕ) → a < 2 → b < 2 → ((x * 2 + min a b) % 2 == 1) ≡ ((b == 1) && (a == 1))
@@ -40,7 +41,8 @@ first-kept w m [] = refl
 first-kept w m (d ∷ ds) = go (pending m d) (pending (bitAnd w m) d) (masked w m d) (first-kept w m ds)
   where
     go : (a b : Bool) → b ≡ (a && pending w d) → first-pending w (keep (pending m) ds) ≡ first-pending (bitAnd w m) ds
-        → first-pending w (if a then d ∷ keep (pending m) ds else keep (pending m) ds) ≡ (if b then taken d else first-pending (bitAnd w m) ds)
+        → first-pending w (if a then d ∷ keep (pending m) ds else keep (pending m) ds)
+        ≡ (if b then taken d else first-pending (bitAnd w m) ds)
     go true b e f = rw (e, f)
     go false b e f = rw e f
 
@@ -103,6 +105,7 @@ module _ (w : ℕ) (h : w < 2 ^ devices) where
   of-transmitters l t q e o a b = q ∙ sym (tried ∙ rw (none l a e, some t b o))
 
   -- else those of the receivers.
-  pub of-receivers : {p : Picked} (l t r : ℕ) → p ≡ taken (trailingZeros pending-bits (bitAnd w r)) → bitAnd w l ≡ zero → bitAnd w t ≡ zero → zero < w
+  pub of-receivers : {p : Picked} (l t r : ℕ) → p ≡ taken (trailingZeros pending-bits (bitAnd w r)) → bitAnd w l ≡ zero →
+      bitAnd w t ≡ zero → zero < w
       → Mask l lines → Mask t transmitters → Mask r receivers → Whole l t r → p ≡ pick w
   of-receivers l t r q e f o a b c whole = q ∙ sym (tried ∙ rw (none l a e, none t b f, some r c (third l t r whole o e f)))

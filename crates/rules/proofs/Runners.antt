@@ -48,7 +48,8 @@ unfolding tag-facts facts-in meaning request needs-runner
 means tag v =
     by-if P (tag == 16) (λ a. rw a (call _)) λ a.
     by-if P (tag == 17) (λ b. rw (a, b) (call _)) λ b.
-    by-if P (tag == 18) (λ c. rw (a, b, c) (by-if (Told true) (meets (argument-rule (getD v 0 0)) (number (drop 1 v))) (λ _. asks services _ _) (λ _. rubbish true))) λ c.
+    by-if P (tag == 18) (λ c. rw (a, b, c)
+    (by-if (Told true) (meets (argument-rule (getD v 0 0)) (number (drop 1 v))) (λ _. asks services _ _) (λ _. rubbish true))) λ c.
     by-if P (tag == 19) (λ d. rw (a, b, c, d) (traps _ _)) λ d.
     by-if P (tag == 20) (λ f. rw (a, b, c, d, f) (λ h. refl)) λ f.
     by-if P (tag == 21) (λ g. rw (a, b, c, d, f, g) (picks _ _)) (λ _. rubbish _)
@@ -62,9 +63,12 @@ fields [] = rubbish _
 fields (tag ∷ []) = rubbish _
 fields (tag ∷ high ∷ []) = rubbish _
 fields (tag ∷ high ∷ low ∷ v) =
-    by-if (Told (tag-facts tag .runner)) (tag-facts tag .known && high * 256 + low == tag-facts tag .length && length v == high * 256 + low) (λ _. means tag v) (λ _. rubbish _)
+    by-if (Told (tag-facts tag .runner)) (tag-facts tag .known && high * 256 + low == tag-facts tag .length && length v == high * 256 + low)
+    (λ _. means tag v) (λ _. rubbish _)
 
 -- of a well-formed field the table says whether it needs a runner
-pub the-table-says-who-needs-a-runner : (bytes : List ℕ) → is-malformed (decode bytes) ≡ false → needs-runner (decode bytes) ≡ tag-facts (getD bytes 0 0) .runner
+pub the-table-says-who-needs-a-runner : (bytes : List ℕ) → is-malformed (decode bytes) ≡ false →
+    needs-runner (decode bytes) ≡ tag-facts (getD bytes 0 0) .runner
 unfolding decode
-the-table-says-who-needs-a-runner bytes = by-if (Told (tag-facts (getD bytes 0 0) .runner)) (all is-byte bytes) (λ _. fields bytes) (λ _. rubbish _)
+the-table-says-who-needs-a-runner bytes =
+    by-if (Told (tag-facts (getD bytes 0 0) .runner)) (all is-byte bytes) (λ _. fields bytes) (λ _. rubbish _)

@@ -24,6 +24,8 @@ module _ {A : Type 0} (same : A → A → Bool) (sound : (a b : A) → T (same a
   at first (x ∷ xs) d (suc k) t h = at (suc first) xs d k (both (same x (rule first)) _ t .1) (omega arith) ∙ ap rule (omega arith)
 
   -- numbers that no table holds: the rule says the same of all of them
-  pub throughout : (first many : ℕ) (a : A) → T (says same rule first (replicate many a)) → (n : ℕ) → first ≤ n → n < first + many → a ≡ rule n
+  pub throughout : (first many : ℕ) (a : A) → T (says same rule first (replicate many a)) → (n : ℕ) → first ≤ n → n < first + many →
+      a ≡ rule n
   throughout first many a t n l h =
-      sym (getD-replicate many (n - first) a a (omega arith)) ∙ at first (replicate many a) a (n - first) t (simp length-replicate (omega arith)) ∙ ap rule (omega arith)
+      sym (getD-replicate many (n - first) a a (omega arith))
+      ∙ at first (replicate many a) a (n - first) t (simp length-replicate (omega arith)) ∙ ap rule (omega arith)

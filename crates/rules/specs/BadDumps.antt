@@ -1,5 +1,5 @@
--- Bytes that are no dump, made of the parts of P10's dump, each with its refusal and its offset, as document 02 (CR 4) has them. A wrong rule gives one of
--- them another answer.
+-- Bytes that are no dump, made of the parts of P10's dump, each with its refusal and its offset, as document 02 (CR 4) has them. A wrong
+-- rule gives one of them another answer.
 use Prim.Native.Nat.{ℕ}
 use mathlib.Core.Path.{_≡_, refl}
 use mathlib.Core.List.{List, [], _∷_, _++_, map}
@@ -69,7 +69,8 @@ out-of-place =
     ∷ (none 9 ++ good ++ none 9 gives 16 at 0)
     ∷ []
 
--- "17 value outside its range (slice, detail and answer as runner, state and kind allow)". The last but one has a fault of 16 too, the last one two of 17
+-- "17 value outside its range (slice, detail and answer as runner, state and kind allow)". The last but one has a fault of 16 too, the
+-- last one two of 17
 abbrev pub out-of-its-range : List Judged
 out-of-its-range =
     (head 4 0 5 ++ t ++ none 3 ++ none 4 gives 17 at 0)
@@ -108,7 +109,8 @@ not-live =
     ∷ (h ++ t ++ one 3 1 ++ one 4 1 gives 18 at 32)
     ∷ []
 
--- "19 any other rule, rising order included": a name twice, threads that do not rise, a runner that is ready, another status, the own name as manager
+-- "19 any other rule, rising order included": a name twice, threads that do not rise, a runner that is ready, another status, the own
+-- name as manager
 abbrev pub any-other-rule : List Judged
 any-other-rule =
     (h ++ t ++ t ++ none 3 ++ none 4 gives 19 at 0)

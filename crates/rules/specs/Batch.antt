@@ -20,8 +20,8 @@ pub record Taken : Type 0 where
   pub events : Input
   pub unread : List ℕ
 
--- "14, before all others, when the buffer holds fewer than six numbers per complete field; nothing is run then"; "a refused batch hands back all its
--- bytes". `room` is how many numbers the buffer holds.
+-- "14, before all others, when the buffer holds fewer than six numbers per complete field; nothing is run then"; "a refused batch hands
+-- back all its bytes". `room` is how many numbers the buffer holds.
 unfoldable pub taken : ℕ → List ℕ → Taken
 taken room bytes =
     if ltb room (decision-numbers * length (complete bytes)) then record { refusal = 14; events = []; unread = bytes }

@@ -1,7 +1,9 @@
 -- The document's numbers for statuses, states, managers, kinds and answers.
 use Prim.Native.Nat.{ℕ}
 use Rattle.rules.specs.Numbers.{nobody, service}
-use Rattle.rules.specs.Words.{TrapKind, Program, Tlb, SysBp, State, Running, Ready, Receiving, Clock, Device, Trapped, Answer, Nothing, FromMessage, FromNotice, SenderGone, Result, Manager, Unset, Set, Gone, Parent, MessageKind, Ordinary, Notice, Runner, Status, Working, Idle, Halted, Panicked, by-wanted, by-parent, by-runner}
+use Rattle.rules.specs.Words.{TrapKind, Program, Tlb, SysBp, State, Running, Ready, Receiving, Clock, Device, Trapped, Answer}
+use Rattle.rules.specs.Words.{Nothing, FromMessage, FromNotice, SenderGone, Result, Manager, Unset, Set, Gone, Parent, MessageKind}
+use Rattle.rules.specs.Words.{Ordinary, Notice, Runner, Status, Working, Idle, Halted, Panicked, by-wanted, by-parent, by-runner}
 
 -- "status (0 running, 1 idle, 2 halted, 3 panicked)"
 unfoldable pub status-code : Status → ℕ

@@ -13,7 +13,8 @@ unfoldable pub run-next : List ℕ → Outcome → Outcome
 run-next [] o = o
 run-next (n ∷ ns) o =
     let T = o .tables in
-    with-runner (Runs n full-slice) (with-ready ns (change n (in-state Running Nothing) T)) handing of-thread Nothing (λ t. t .answer) n (T .threads)
+    with-runner (Runs n full-slice) (with-ready ns (change n (in-state Running Nothing) T))
+    handing of-thread Nothing (λ t. t .answer) n (T .threads)
 
 -- "After each event, if nobody runs"
 unfoldable pub dispatch : Outcome → Outcome

@@ -21,7 +21,8 @@ head-value T = status-code (status T) ∷ T .last ∷ me (T .runner) ∷ slice-c
 abbrev pub answer-value : Answer → List ℕ
 answer-value a = let n = answer-numbers a in n .kind ∷ n .sender ∷ four-bytes (n .word)
 
--- "2, per thread by rising name: name, parent or 255, state .., detail .., managers (255 none, 254 gone), count (4), answer waiting ..; length 17."
+-- "2, per thread by rising name: name, parent or 255, state .., detail .., managers (255 none, 254 gone), count (4), answer waiting ..;
+-- length 17."
 unfoldable pub thread-value : Thread → List ℕ
 thread-value t =
     let s = state-numbers (t .state) in

@@ -4,7 +4,8 @@ use mathlib.Core.Bool.{Bool, false, _&&_, _||_, not}
 use mathlib.Core.List.{List, [], _∷_, _++_, map}
 use lib.ListN.{length}
 use Rattle.rules.specs.Lists.{if_then_else_, any, has, keep, times}
-use Rattle.rules.specs.Words.{State, Answer, Nothing, SenderGone, Manager, Unset, Set, Gone, Thread, NoRunner, Runs, by-state, by-wanted, by-parent, by-runner}
+use Rattle.rules.specs.Words.{State, Answer, Nothing, SenderGone, Manager, Unset, Set, Gone, Thread, NoRunner, Runs, by-state}
+use Rattle.rules.specs.Words.{by-wanted, by-parent, by-runner}
 use Rattle.rules.specs.Tables.{Tables, with-managers}
 use Rattle.rules.specs.States.{awaits}
 use Rattle.rules.specs.Waking.{wake-by-name}

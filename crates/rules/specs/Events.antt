@@ -5,8 +5,10 @@ use mathlib.Core.List.{List, [], _∷_}
 use lib.ListN.{length, take, drop, getD}
 use Rattle.rules.specs.Lists.{if_then_else_, _==_, all, is-byte, number}
 use Rattle.rules.specs.Numbers.{nobody}
-use Rattle.rules.specs.Words.{Wanted, Anybody, Only, Program, Tlb, SysBp, Send, Receive, Trap, Event, Malformed, ByRunner, Tick, Interrupt, Picked}
-use Rattle.rules.specs.Tags.{send-tag, receive-tag, request-tag, trap-tag, tick-tag, interrupt-tag, tag-facts, Service, services, argument-rule, meets}
+use Rattle.rules.specs.Words.{Wanted, Anybody, Only, Program, Tlb, SysBp, Send, Receive, Trap, Event, Malformed, ByRunner, Tick}
+use Rattle.rules.specs.Words.{Interrupt, Picked}
+use Rattle.rules.specs.Tags.{send-tag, receive-tag, request-tag, trap-tag, tick-tag, interrupt-tag, tag-facts, Service, services}
+use Rattle.rules.specs.Tags.{argument-rule, meets}
 use Rattle.rules.specs.Pick.{pick}
 
 -- "255 .. anybody" in a receive

@@ -1,5 +1,5 @@
--- Where bytes that are no dump are bad (document 02, CR 4): "Split it by cause and give the offset of the first byte of the field at fault, or the length
--- of the input where a field is missing or cut." A list of offsets for each number, in the order of the bytes.
+-- Where bytes that are no dump are bad (document 02, CR 4): "Split it by cause and give the offset of the first byte of the field at
+-- fault, or the length of the input where a field is missing or cut." A list of offsets for each number, in the order of the bytes.
 use Prim.Native.Nat.{ℕ, _+_}
 use mathlib.Core.Bool.{Bool, true, false, _&&_, _||_, not}
 use mathlib.Core.List.{List, [], _∷_, _++_, map}
@@ -7,13 +7,15 @@ use lib.Dec.{leb, ltb}
 use lib.ListN.{length}
 use Rattle.rules.specs.Lists.{if_then_else_, _==_, all, any, keep, has}
 use Rattle.rules.specs.Numbers.{Limits, names, full-slice, beat-ticks, devices}
-use Rattle.rules.specs.Words.{State, Manager, Managers, Working, Idle, Halted, Panicked, Verdict, by-state, by-wanted, by-manager, by-parent, by-runner}
+use Rattle.rules.specs.Words.{State, Manager, Managers, Working, Idle, Halted, Panicked, Verdict, by-state, by-wanted, by-manager}
+use Rattle.rules.specs.Words.{by-parent, by-runner}
 use Rattle.rules.specs.Tables.{live}
 use Rattle.rules.specs.Tags.{head-tag, thread-tag, ready-tag, clock-tag, message-tag, held-tag, dump-rows, dump-facts}
 use Rattle.rules.specs.Codes.{status-code, slice-code, state-numbers, answer-numbers, message-code}
 use Rattle.rules.specs.TableRules.{state-in-range, answer-in-range, manager-set}
 use Rattle.rules.specs.Fields.{complete, unread}
-use Rattle.rules.specs.Load.{Field, as-field, fields-of, told, at, word-at, runner-from, parent-from, state-from, answer-from, message-kind-from, thread-from, Loaded, no-dump, loaded, load}
+use Rattle.rules.specs.Load.{Field, as-field, fields-of, told, at, word-at, runner-from, parent-from, state-from, answer-from}
+use Rattle.rules.specs.Load.{message-kind-from, thread-from, Loaded, no-dump, loaded, load}
 
 -- ---- fields and their places
 
@@ -25,7 +27,8 @@ pub record Placed : Type 0 where
 
 unfoldable pub placed-from : ℕ → List ℕ → List (List ℕ) → List Placed
 placed-from at before [] = []
-placed-from at before (f ∷ fs) = record { at = at; before = before; field = as-field f } ∷ placed-from (at + length f) (as-field f .tag ∷ before) fs
+placed-from at before (f ∷ fs) =
+    record { at = at; before = before; field = as-field f } ∷ placed-from (at + length f) (as-field f .tag ∷ before) fs
 
 abbrev pub placed : List ℕ → List Placed
 placed bytes = placed-from 0 [] (complete bytes)
@@ -40,7 +43,8 @@ offsets fault fs = map (λ f. f .at) (keep fault fs)
 unfoldable pub wrong-length : Field → Bool
 wrong-length f = let r = dump-facts (f .tag) in r .sized && not (length (f .value) == r .length)
 
--- "the length of the input where a field is missing or cut": bytes are left behind the complete fields, or a field that always stands does not
+-- "the length of the input where a field is missing or cut": bytes are left behind the complete fields, or a field that always stands
+-- does not
 unfoldable pub ends-badly : List ℕ → Bool
 ends-badly bytes = ltb 0 (length (unread bytes)) || any (λ r. r .once && not (has (r .tag) (map (λ f. f .tag) (fields-of bytes)))) dump-rows
 
@@ -62,8 +66,8 @@ misplaced f =
 unfoldable pub faults-16 : List ℕ → List ℕ
 faults-16 bytes = offsets misplaced (placed bytes)
 
--- ---- "17 value outside its range (slice, detail and answer as runner, state and kind allow)". A range is what Codes.antt writes, within the ranges of the
--- table rules. Managers have every byte, counts and words every four.
+-- ---- "17 value outside its range (slice, detail and answer as runner, state and kind allow)"
+-- A range is what Codes.antt writes, within the ranges of the table rules. Managers have every byte, counts and words every four.
 
 abbrev pub is-name : ℕ → Bool
 is-name n = ltb n names
@@ -84,7 +88,8 @@ parent-fits n = by-parent true is-name (parent-from n)
 unfoldable pub state-fits : ℕ → ℕ → Bool
 state-fits n detail =
     let s = state-from n detail in
-    (n == state-numbers s .state) && (detail == state-numbers s .detail) && state-in-range s && by-state true (by-wanted true is-name) (λ d. true) (λ k. true) s
+    (n == state-numbers s .state) && (detail == state-numbers s .detail) && state-in-range s
+    && by-state true (by-wanted true is-name) (λ d. true) (λ k. true) s
 
 -- "answers have the forms above .., kinds 1 to 3 with a sender 0 to 253"
 unfoldable pub answer-fits : ℕ → ℕ → ℕ → Bool
@@ -143,7 +148,8 @@ head-lives lives v = by-runner true (λ n s. lives n) (runner-from (at v 2) (at 
 unfoldable pub thread-lives : (ℕ → Bool) → List ℕ → Bool
 thread-lives lives v =
     let t = thread-from v in
-    by-parent true lives (t .parent) && wanted-lives lives (t .state) && entries-live lives (t .managers) && manager-set (t .managers) (t .state)
+    by-parent true lives (t .parent) && wanted-lives lives (t .state) && entries-live lives (t .managers)
+    && manager-set (t .managers) (t .state)
 
 -- "message senders and receivers are live"
 unfoldable pub message-lives : (ℕ → Bool) → List ℕ → Bool

@@ -1,5 +1,5 @@
--- Fields one behind the other: how long the first one of some bytes is, whether it is all there, and all that are. "A field is a tag byte, a
--- two-byte length, then the value; numbers are big-endian."
+-- Fields one behind the other: how long the first one of some bytes is, whether it is all there, and all that are. "A field is a tag
+-- byte, a two-byte length, then the value; numbers are big-endian."
 use Prim.Native.Nat.{ℕ, zero, suc, _+_, _*_, min}
 use mathlib.Core.Bool.{Bool, false}
 use mathlib.Core.List.{List, [], _∷_}
@@ -21,7 +21,8 @@ whole (tag ∷ []) = false
 whole (tag ∷ high ∷ []) = false
 whole (tag ∷ high ∷ low ∷ rest) = leb (high * 256 + low) (length rest)
 
--- a "complete field" (document 02, CR 2): its head and its declared length are there, whatever it holds. The complete fields of these bytes, at most k
+-- a "complete field" (document 02, CR 2): its head and its declared length are there, whatever it holds. The complete fields of these
+-- bytes, at most k
 unfoldable pub complete-in : ℕ → List ℕ → List (List ℕ)
 complete-in zero bytes = []
 complete-in (suc k) bytes = let n = field-size bytes in if whole bytes then take n bytes ∷ complete-in k (drop n bytes) else []

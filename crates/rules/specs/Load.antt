@@ -5,7 +5,9 @@ use mathlib.Core.List.{List, map}
 use lib.ListN.{take, drop, getD}
 use Rattle.rules.specs.Lists.{if_then_else_, _==_, keep, each, same, number}
 use Rattle.rules.specs.Numbers.{Limits, nobody, service}
-use Rattle.rules.specs.Words.{TrapKind, Program, Tlb, SysBp, State, Running, Ready, Receiving, Clock, Device, Trapped, Answer, Nothing, FromMessage, FromNotice, SenderGone, Result, Manager, Unset, Set, Gone, Parent, NoParent, ParentIs, Thread, MessageKind, Ordinary, Notice, Message, Held, Runner, NoRunner, Runs}
+use Rattle.rules.specs.Words.{TrapKind, Program, Tlb, SysBp, State, Running, Ready, Receiving, Clock, Device, Trapped, Answer}
+use Rattle.rules.specs.Words.{Nothing, FromMessage, FromNotice, SenderGone, Result, Manager, Unset, Set, Gone, Parent, NoParent}
+use Rattle.rules.specs.Words.{ParentIs, Thread, MessageKind, Ordinary, Notice, Message, Held, Runner, NoRunner, Runs}
 use Rattle.rules.specs.Tables.{Tables}
 use Rattle.rules.specs.Tags.{before-value, head-tag, thread-tag, ready-tag, clock-tag, message-tag, held-tag}
 use Rattle.rules.specs.Fields.{complete}
@@ -25,7 +27,8 @@ as-field bytes = record { tag = getD bytes 0 0; value = drop before-value bytes 
 unfoldable pub fields-of : List ℕ → List Field
 fields-of bytes = map as-field (complete bytes)
 
--- ---- numbers back to what they stand for (Codes.antt). A number that stands for nothing becomes something else, and the comparison finds it.
+-- ---- numbers back to what they stand for (Codes.antt)
+-- A number that stands for nothing becomes something else, and the comparison finds it.
 
 abbrev pub runner-from : ℕ → ℕ → Runner
 runner-from n s = if n == nobody then NoRunner else Runs n s

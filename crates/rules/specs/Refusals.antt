@@ -6,7 +6,9 @@ use lib.Dec.{leb, ltb}
 use lib.ListN.{length}
 use Rattle.rules.specs.Lists.{if_then_else_, _==_, any}
 use Rattle.rules.specs.Numbers.{Limits}
-use Rattle.rules.specs.Words.{Wanted, Status, Working, Idle, Halted, Panicked, Target, Oneself, Named, Call, Send, Receive, CreateBrother, CreateSon, Terminate, SetManager, GetCpuTime, WaitForClock, WaitForIo, Trap, Event, Malformed, ByRunner, Tick, Interrupt, by-wanted}
+use Rattle.rules.specs.Words.{Wanted, Status, Working, Idle, Halted, Panicked, Target, Oneself, Named, Call, Send, Receive}
+use Rattle.rules.specs.Words.{CreateBrother, CreateSon, Terminate, SetManager, GetCpuTime, WaitForClock, WaitForIo, Trap, Event}
+use Rattle.rules.specs.Words.{Malformed, ByRunner, Tick, Interrupt, by-wanted}
 use Rattle.rules.specs.Tables.{Tables, live, runs, me}
 use Rattle.rules.specs.States.{waits-for}
 use Rattle.rules.specs.Waking.{blocks-used, accepts}

@@ -6,8 +6,10 @@ use lib.Dec.{ltb}
 use lib.ListN.{length}
 use Rattle.rules.specs.Lists.{Pulled, missing, pulled, pull, insert}
 use Rattle.rules.specs.Numbers.{names}
-use Rattle.rules.specs.Words.{TrapKind, Ready, Clock, Device, Nothing, Result, Manager, Unset, Set, Gone, Parent, NoParent, ParentIs, Held, Target, Oneself, Named}
-use Rattle.rules.specs.Tables.{Tables, with-last, with-threads, with-ready, with-clock, with-held, with-managers, live, of-thread, change, manager, set-entry, new-thread}
+use Rattle.rules.specs.Words.{TrapKind, Ready, Clock, Device, Nothing, Result, Manager, Unset, Set, Gone, Parent, NoParent, ParentIs}
+use Rattle.rules.specs.Words.{Held, Target, Oneself, Named}
+use Rattle.rules.specs.Tables.{Tables, with-last, with-threads, with-ready, with-clock, with-held, with-managers, live, of-thread}
+use Rattle.rules.specs.Tables.{change, manager, set-entry, new-thread}
 use Rattle.rules.specs.Waking.{Outcome, _handing_, stop}
 use Rattle.rules.specs.Interrupt.{held-for}
 use Rattle.rules.specs.Ending.{end}
@@ -27,7 +29,8 @@ next-name T = free-name (length (T .threads)) (T .last) T
 unfoldable pub create : Parent → Tables → Outcome
 create p T =
     let n = next-name T in
-    with-last n (with-ready (T .ready ++ (n ∷ [])) (with-threads (insert (λ t. ltb (t .name) n) (new-thread n p Ready) (T .threads)) T)) handing Result n
+    with-last n (with-ready (T .ready ++ (n ∷ [])) (with-threads (insert (λ t. ltb (t .name) n) (new-thread n p Ready) (T .threads)) T))
+    handing Result n
 
 -- 1: a son of the requester's own parent
 abbrev pub create-brother : ℕ → Tables → Outcome

@@ -22,7 +22,8 @@ decides me to T = any (waits-for-decision me to) (T .threads)
 
 -- "0 continues it (it becomes ready), 1 ends it; an unread notice is discarded"
 unfoldable pub decide : ℕ → ℕ → ℕ → Tables → Tables
-decide me to zero T = wake-by-name (waits-for-decision me to) (λ t. Nothing) (with-messages (keep (λ m. not (notice-of to m)) (T .messages)) T)
+decide me to zero T =
+    wake-by-name (waits-for-decision me to) (λ t. Nothing) (with-messages (keep (λ m. not (notice-of to m)) (T .messages)) T)
 decide me to (suc w) T = end to T
 
 -- "Else the message joins the end of the inbox": see deliver. A decision is no message.

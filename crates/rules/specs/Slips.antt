@@ -5,7 +5,8 @@ use mathlib.Core.Path.{_≡_, refl}
 use mathlib.Core.List.{List, [], _∷_, _++_, map}
 use lib.ListN.{replicate}
 use Rattle.rules.specs.Lists.{each, from-on}
-use Rattle.rules.specs.Benches.{Bench, given, to, from, ask, trapping, ticks, interrupting, on, idle, halted, panicked, refused, made, sons, P9}
+use Rattle.rules.specs.Benches.{Bench, given, to, from, ask, trapping, ticks, interrupting, on, idle, halted, panicked, refused, made}
+use Rattle.rules.specs.Benches.{sons, P9}
 use Rattle.rules.specs.Opened.{opened}
 
 -- "idling in P9": the trapped son does not keep the node up
@@ -147,7 +148,8 @@ notice-read-once = record {
 
 abbrev pub slips : List Bench
 slips =
-    idling-behind-a-trap ∷ notice-in-no-block ∷ slice-not-renewed ∷ waiters-before-the-runner ∷ blocks-freed ∷ late-answer ∷ name-comes-round
+    idling-behind-a-trap ∷ notice-in-no-block ∷ slice-not-renewed ∷ waiters-before-the-runner ∷ blocks-freed ∷ late-answer
+    ∷ name-comes-round
     ∷ down-before-rubbish ∷ rubbish-before-no-runner ∷ first-before-full ∷ dead-before-full
     ∷ word-held-and-taken ∷ waiter-gets-the-word ∷ writes-before-reads ∷ none-or-one-over-47 ∷ brother-outlives
     ∷ gone-is-not-unset ∷ set-again-ends ∷ gone-manager-is-none ∷ oldest-first ∷ notice-read-once ∷ []

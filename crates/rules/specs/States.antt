@@ -2,7 +2,8 @@
 use Prim.Native.Nat.{ℕ}
 use mathlib.Core.Bool.{Bool, true, false, _||_}
 use Rattle.rules.specs.Lists.{_==_}
-use Rattle.rules.specs.Words.{Wanted, State, Running, Ready, Receiving, Clock, Device, Trapped, Managers, Thread, by-state, by-wanted, by-manager}
+use Rattle.rules.specs.Words.{Wanted, State, Running, Ready, Receiving, Clock, Device, Trapped, Managers, Thread, by-state, by-wanted}
+use Rattle.rules.specs.Words.{by-manager}
 use Rattle.rules.specs.Tables.{manager}
 
 -- "A thread is running, ready, receiving (from one name or anybody), waiting for the clock, waiting for a device, or trapped."

@@ -2,7 +2,8 @@
 use Prim.Native.Nat.{ℕ, zero, suc}
 use mathlib.Core.List.{List}
 use Rattle.rules.specs.Numbers.{Limits}
-use Rattle.rules.specs.Words.{Nothing, Call, Send, Receive, CreateBrother, CreateSon, Terminate, SetManager, GetCpuTime, WaitForClock, WaitForIo, Trap, Event, Malformed, ByRunner, Tick, Interrupt, Decision}
+use Rattle.rules.specs.Words.{Nothing, Call, Send, Receive, CreateBrother, CreateSon, Terminate, SetManager, GetCpuTime, WaitForClock}
+use Rattle.rules.specs.Words.{WaitForIo, Trap, Event, Malformed, ByRunner, Tick, Interrupt, Decision}
 use Rattle.rules.specs.Tables.{Tables, me}
 use Rattle.rules.specs.Waking.{Outcome, _handing_}
 use Rattle.rules.specs.Events.{decode}
@@ -43,7 +44,10 @@ pub record Stepped : Type 0 where
 
 -- "A decision has refusal, status .., runner or 255, and the answer now handed over"
 abbrev pub decided : ℕ → Outcome → Stepped
-decided r o = record { tables = o .tables; decision = record { refusal = r; status = status-code (status (o .tables)); runner = me (o .tables .runner); answer = o .answer } }
+decided r o = record {
+  tables = o .tables;
+  decision = record { refusal = r; status = status-code (status (o .tables)); runner = me (o .tables .runner); answer = o .answer };
+}
 
 -- "A refused event returns the number, status and runner as they stand and no answer"
 unfoldable pub settle : ℕ → Tables → Event → Stepped

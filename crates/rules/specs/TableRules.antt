@@ -7,7 +7,8 @@ use lib.Dec.{leb, ltb}
 use lib.ListN.{length}
 use Rattle.rules.specs.Lists.{if_then_else_, _==_, one-if, all, any, count, chain, times-in, from-on}
 use Rattle.rules.specs.Numbers.{Limits, names, full-slice, beat-ticks, devices, wrap}
-use Rattle.rules.specs.Words.{State, Answer, Nothing, FromMessage, FromNotice, SenderGone, Result, Manager, Managers, Parent, Thread, Message, Runner, by-state, by-wanted, by-manager, by-parent, by-runner}
+use Rattle.rules.specs.Words.{State, Answer, Nothing, FromMessage, FromNotice, SenderGone, Result, Manager, Managers, Parent, Thread}
+use Rattle.rules.specs.Words.{Message, Runner, by-state, by-wanted, by-manager, by-parent, by-runner}
 use Rattle.rules.specs.Tables.{Tables, named, live, runs-as, manager}
 use Rattle.rules.specs.States.{is-running, is-ready, on-clock, waits-for, awaits}
 use Rattle.rules.specs.Waking.{is-ordinary, blocks-used, notice-of}
@@ -45,7 +46,8 @@ climbs (suc k) ts p = by-parent true (λ n. any (λ t. let above = climbs k ts (
 
 abbrev pub parents-right : Tables → Bool
 parents-right T =
-    all (λ t. (if t .name == 0 then not (has-parent (t .parent)) else has-parent (t .parent)) && climbs (length (T .threads)) (T .threads) (t .parent)) (T .threads)
+    all (λ t. (if t .name == 0 then not (has-parent (t .parent)) else has-parent (t .parent))
+    && climbs (length (T .threads)) (T .threads) (t .parent)) (T .threads)
 
 -- ---- "state, runner, ready queue and clock queue agree, each name once"
 
@@ -74,7 +76,8 @@ abbrev pub entry-right : Tables → ℕ → Manager → Bool
 entry-right T own m = by-manager true (λ n. live n T && not (n == own)) m
 
 abbrev pub entries-right : Tables → Thread → Bool
-entries-right T t = entry-right T (t .name) (t .managers .program) && entry-right T (t .name) (t .managers .tlb) && entry-right T (t .name) (t .managers .sysbp)
+entries-right T t = entry-right T (t .name) (t .managers .program) && entry-right T (t .name) (t .managers .tlb)
+    && entry-right T (t .name) (t .managers .sysbp)
 
 abbrev pub names-live : Tables → Bool
 names-live T = all (λ t. wanted-live T (t .state) && entries-right T t) (T .threads)

@@ -4,7 +4,8 @@ use mathlib.Core.Bool.{Bool, true, false}
 use mathlib.Core.List.{List, [], _∷_, map}
 use Rattle.rules.specs.Lists.{if_then_else_, _==_, any}
 use Rattle.rules.specs.Numbers.{nobody, full-slice}
-use Rattle.rules.specs.Words.{TrapKind, Program, Tlb, SysBp, State, Running, Answer, Nothing, Manager, Unset, Managers, Parent, NoParent, Thread, Message, Held, Runner, Runs, by-runner}
+use Rattle.rules.specs.Words.{TrapKind, Program, Tlb, SysBp, State, Running, Answer, Nothing, Manager, Unset, Managers, Parent}
+use Rattle.rules.specs.Words.{NoParent, Thread, Message, Held, Runner, Runs, by-runner}
 
 -- threads by rising name; ready and clock names, front first; messages by rising receiver, oldest first; held words by rising device.
 -- `last` is the name given last, `since` the ticks since the beat.
@@ -22,28 +23,108 @@ pub record Tables : Type 0 where
 -- ---- one part changed
 
 abbrev pub with-last : ℕ → Tables → Tables
-with-last n T = record { last = n; runner = T .runner; since = T .since; beats = T .beats; threads = T .threads; ready = T .ready; clock = T .clock; messages = T .messages; held = T .held }
+with-last n T = record {
+  last = n;
+  runner = T .runner;
+  since = T .since;
+  beats = T .beats;
+  threads = T .threads;
+  ready = T .ready;
+  clock = T .clock;
+  messages = T .messages;
+  held = T .held;
+}
 
 abbrev pub with-runner : Runner → Tables → Tables
-with-runner r T = record { last = T .last; runner = r; since = T .since; beats = T .beats; threads = T .threads; ready = T .ready; clock = T .clock; messages = T .messages; held = T .held }
+with-runner r T = record {
+  last = T .last;
+  runner = r;
+  since = T .since;
+  beats = T .beats;
+  threads = T .threads;
+  ready = T .ready;
+  clock = T .clock;
+  messages = T .messages;
+  held = T .held;
+}
 
 abbrev pub with-time : ℕ → ℕ → Tables → Tables
-with-time s b T = record { last = T .last; runner = T .runner; since = s; beats = b; threads = T .threads; ready = T .ready; clock = T .clock; messages = T .messages; held = T .held }
+with-time s b T = record {
+  last = T .last;
+  runner = T .runner;
+  since = s;
+  beats = b;
+  threads = T .threads;
+  ready = T .ready;
+  clock = T .clock;
+  messages = T .messages;
+  held = T .held;
+}
 
 abbrev pub with-threads : List Thread → Tables → Tables
-with-threads ts T = record { last = T .last; runner = T .runner; since = T .since; beats = T .beats; threads = ts; ready = T .ready; clock = T .clock; messages = T .messages; held = T .held }
+with-threads ts T = record {
+  last = T .last;
+  runner = T .runner;
+  since = T .since;
+  beats = T .beats;
+  threads = ts;
+  ready = T .ready;
+  clock = T .clock;
+  messages = T .messages;
+  held = T .held;
+}
 
 abbrev pub with-ready : List ℕ → Tables → Tables
-with-ready q T = record { last = T .last; runner = T .runner; since = T .since; beats = T .beats; threads = T .threads; ready = q; clock = T .clock; messages = T .messages; held = T .held }
+with-ready q T = record {
+  last = T .last;
+  runner = T .runner;
+  since = T .since;
+  beats = T .beats;
+  threads = T .threads;
+  ready = q;
+  clock = T .clock;
+  messages = T .messages;
+  held = T .held;
+}
 
 abbrev pub with-clock : List ℕ → Tables → Tables
-with-clock q T = record { last = T .last; runner = T .runner; since = T .since; beats = T .beats; threads = T .threads; ready = T .ready; clock = q; messages = T .messages; held = T .held }
+with-clock q T = record {
+  last = T .last;
+  runner = T .runner;
+  since = T .since;
+  beats = T .beats;
+  threads = T .threads;
+  ready = T .ready;
+  clock = q;
+  messages = T .messages;
+  held = T .held;
+}
 
 abbrev pub with-messages : List Message → Tables → Tables
-with-messages ms T = record { last = T .last; runner = T .runner; since = T .since; beats = T .beats; threads = T .threads; ready = T .ready; clock = T .clock; messages = ms; held = T .held }
+with-messages ms T = record {
+  last = T .last;
+  runner = T .runner;
+  since = T .since;
+  beats = T .beats;
+  threads = T .threads;
+  ready = T .ready;
+  clock = T .clock;
+  messages = ms;
+  held = T .held;
+}
 
 abbrev pub with-held : List Held → Tables → Tables
-with-held hs T = record { last = T .last; runner = T .runner; since = T .since; beats = T .beats; threads = T .threads; ready = T .ready; clock = T .clock; messages = T .messages; held = hs }
+with-held hs T = record {
+  last = T .last;
+  runner = T .runner;
+  since = T .since;
+  beats = T .beats;
+  threads = T .threads;
+  ready = T .ready;
+  clock = T .clock;
+  messages = T .messages;
+  held = hs;
+}
 
 abbrev pub in-state : State → Answer → Thread → Thread
 in-state s a t = record { name = t .name; parent = t .parent; state = s; managers = t .managers; ticks = t .ticks; answer = a }
@@ -83,7 +164,14 @@ set-entry SysBp m g = record { program = g .program; tlb = g .tlb; sysbp = m }
 
 -- "no managers, count 0"
 abbrev pub new-thread : ℕ → Parent → State → Thread
-new-thread n p s = record { name = n; parent = p; state = s; managers = record { program = Unset; tlb = Unset; sysbp = Unset }; ticks = 0; answer = Nothing }
+new-thread n p s = record {
+  name = n;
+  parent = p;
+  state = s;
+  managers = record { program = Unset; tlb = Unset; sysbp = Unset };
+  ticks = 0;
+  answer = Nothing;
+}
 
 -- ---- the runner
 
@@ -99,4 +187,14 @@ me r = by-runner nobody (λ n s. n) r
 
 -- ---- "the first thread is 0", and P10 shows the rest
 abbrev pub start : Tables
-start = record { last = 0; runner = Runs 0 full-slice; since = 0; beats = 0; threads = new-thread 0 NoParent Running ∷ []; ready = []; clock = []; messages = []; held = [] }
+start = record {
+  last = 0;
+  runner = Runs 0 full-slice;
+  since = 0;
+  beats = 0;
+  threads = new-thread 0 NoParent Running ∷ [];
+  ready = [];
+  clock = [];
+  messages = [];
+  held = [];
+}

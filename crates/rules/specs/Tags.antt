@@ -1,12 +1,13 @@
--- The one table of document 01 that step and program share: "Event tags", and the services with their argument rules. Then the fields of a dump.
--- Every tag and every length of a field stands here once.
+-- The one table of document 01 that step and program share: "Event tags", and the services with their argument rules. Then the fields of
+-- a dump. Every tag and every length of a field stands here once.
 use Prim.Native.Nat.{ℕ, suc}
 use mathlib.Core.Bool.{Bool, true, false}
 use mathlib.Core.List.{List, [], _∷_}
 use lib.Dec.{ltb}
 use Rattle.rules.specs.Lists.{if_then_else_, _==_}
 use Rattle.rules.specs.Numbers.{devices, nobody}
-use Rattle.rules.specs.Words.{Program, Tlb, SysBp, Target, Oneself, Named, Call, CreateBrother, CreateSon, Terminate, SetManager, GetCpuTime, WaitForClock, WaitForIo, TagFacts, DumpFacts, Argument, NoService, Zero, AnyName, ADevice}
+use Rattle.rules.specs.Words.{Program, Tlb, SysBp, Target, Oneself, Named, Call, CreateBrother, CreateSon, Terminate, SetManager}
+use Rattle.rules.specs.Words.{GetCpuTime, WaitForClock, WaitForIo, TagFacts, DumpFacts, Argument, NoService, Zero, AnyName, ADevice}
 
 -- ---- events
 
@@ -49,7 +50,8 @@ rows =
 -- what the table says of a tag: that it is known, its length, its need of a runner
 unfoldable pub facts-in : List Row → ℕ → TagFacts
 facts-in [] n = record { known = false; length = 0; runner = false }
-facts-in (r ∷ rs) n = let later = facts-in rs n in if n == r .tag then record { known = true; length = r .length; runner = r .runner } else later
+facts-in (r ∷ rs) n = let later =
+    facts-in rs n in if n == r .tag then record { known = true; length = r .length; runner = r .runner } else later
 
 -- "These facts stand in one table that step and program share"
 unfoldable pub tag-facts : ℕ → TagFacts

@@ -13,4 +13,5 @@ notice to me cause = record { to = to; from = me; kind = Notice; word = cause }
 -- With none or gone, the thread ends." A manager that is set is live: the table rules say so.
 unfoldable pub trap : ℕ → TrapKind → ℕ → Tables → Tables
 trap me k cause T =
-    by-manager (end me T) (λ n. deliver (notice n me cause) (stop me (Trapped k) T)) (of-thread Unset (λ t. manager k (t .managers)) me (T .threads))
+    by-manager (end me T) (λ n. deliver (notice n me cause) (stop me (Trapped k) T))
+    (of-thread Unset (λ t. manager k (t .managers)) me (T .threads))

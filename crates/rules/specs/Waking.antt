@@ -4,7 +4,8 @@ use mathlib.Core.Bool.{Bool, true, false, _&&_, not}
 use mathlib.Core.List.{List, [], _∷_, _++_, map}
 use lib.Dec.{leb}
 use Rattle.rules.specs.Lists.{if_then_else_, _==_, any, keep, count, insert}
-use Rattle.rules.specs.Words.{State, Ready, Answer, Nothing, FromMessage, FromNotice, Thread, MessageKind, Ordinary, Notice, Message, NoRunner}
+use Rattle.rules.specs.Words.{State, Ready, Answer, Nothing, FromMessage, FromNotice, Thread, MessageKind, Ordinary, Notice, Message}
+use Rattle.rules.specs.Words.{NoRunner}
 use Rattle.rules.specs.Tables.{Tables, with-runner, with-threads, with-ready, with-messages, in-state, named, change}
 use Rattle.rules.specs.States.{receives}
 

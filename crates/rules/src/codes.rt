@@ -10,12 +10,15 @@ use crate::TrapKind;
 use crate::Wanted;
 use crate::numbers;
 ghost use mathlib.Core.Path.{_≡_};
-ghost use Rattle.rules.specs.Codes.{status-code as status-code-of, slice-code as slice-code-of, parent-code as parent-code-of, manager-code as manager-code-of, trap-code as trap-code-of, state-numbers, answer-numbers, message-code as message-code-of};
+ghost use Rattle.rules.specs.Codes.{status-code as status-code-of, slice-code as slice-code-of, parent-code as parent-code-of};
+ghost use Rattle.rules.specs.Codes.{manager-code as manager-code-of, trap-code as trap-code-of, state-numbers, answer-numbers};
+ghost use Rattle.rules.specs.Codes.{message-code as message-code-of};
 ghost use Rattle.rules.specs.Numbers.{nobody};
 ghost use Rattle.rules.specs.Words.{by-wanted};
 ghost use Rattle.rules.specs.Tables.{me as me-of};
 ghost use Rattle.rules.specs.Events.{wanted as wanted-from};
-ghost use Rattle.rules.specs.Load.{parent-from as parent-for, manager-from as manager-for, trap-kind-from as trap-kind-for, state-from as state-for, answer-from as answer-for, message-kind-from as message-kind-for};
+ghost use Rattle.rules.specs.Load.{parent-from as parent-for, manager-from as manager-for, trap-kind-from as trap-kind-for};
+ghost use Rattle.rules.specs.Load.{state-from as state-for, answer-from as answer-for, message-kind-from as message-kind-for};
 
 // ---- numbers to what they stand for
 

@@ -8,11 +8,14 @@ use lib.Dec.{ltb}
 use lib.ListN.{length}
 use Rattle.rules.specs.Lists.{if_then_else_, one-if, missing, pulled, any, keep, count, behind, pull, insert}
 use Rattle.rules.specs.Numbers.{names}
-use Rattle.rules.specs.Tables.{Tables, with-last, with-threads, with-ready, with-clock, with-held, live, of-thread, change, manager, new-thread}
+use Rattle.rules.specs.Tables.{Tables, with-last, with-threads, with-ready, with-clock, with-held, live, of-thread, change, manager}
+use Rattle.rules.specs.Tables.{new-thread}
 use Rattle.rules.specs.Waking.{_handing_, stop}
 use Rattle.rules.specs.Interrupt.{held-for}
-use Rattle.rules.specs.Requests.{next-name, create, create-brother, terminate, set-over, set-manager, wait-for-clock, take-held, wait-for-io}
-use Rattle.laws.specs.Words.{TrapKind, Ready, Clock, Device, Answer, Nothing, Result, Manager, Unset, Parent, NoParent, Thread, Held, Target}
+use Rattle.rules.specs.Requests.{next-name, create, create-brother, terminate, set-over, set-manager, wait-for-clock, take-held}
+use Rattle.rules.specs.Requests.{wait-for-io}
+use Rattle.laws.specs.Words.{TrapKind, Ready, Clock, Device, Answer, Nothing, Result, Manager, Unset, Parent, NoParent, Thread, Held}
+use Rattle.laws.specs.Words.{Target}
 use Rattle.laws.proofs.Single.{rest-once, rest-none}
 use Rattle.laws.proofs.Names.{name-free}
 use Rattle.laws.proofs.Room.{queues-room}
@@ -31,16 +34,21 @@ module _ {m : List ℕ} (p : Parent) (n : ℕ) (x : Thread) (e : n ≡ next-name
       ∙ name-free (limits m) (tables m) l (H .inv .last) (H .inv .few)
 
   pub created : {m₁ m₂ m₃ : List ℕ} → Leaves m m₁ (with-threads (insert (λ t. ltb (t .name) (x .name)) x (tables m .threads)) (tables m)) →
-      Leaves m₁ m₂ (with-ready (tables m₁ .ready ++ (n ∷ [])) (tables m₁)) → Leaves m₂ m₃ (with-last n (tables m₂)) → Hands m m₃ (Result n) (create p (tables m))
+      Leaves m₁ m₂ (with-ready (tables m₁ .ready ++ (n ∷ [])) (tables m₁)) → Leaves m₂ m₃ (with-last n (tables m₂)) →
+      Hands m m₃ (Result n) (create p (tables m))
   unfolding create
   created a b c =
       and-hands
       (and-then (with-last n) (and-then (λ T. with-ready (T .ready ++ (n ∷ [])) T) a b) c)
-      (ap (λ (y : Thread). with-last n (with-ready (tables m .ready ++ (n ∷ [])) (with-threads (insert (λ t. ltb (t .name) (y .name)) y (tables m .threads)) (tables m))) handing Result n) f
-      ∙ ap (λ (k : ℕ). with-last k (with-ready (tables m .ready ++ (k ∷ [])) (with-threads (insert (λ t. ltb (t .name) k) (new-thread k p Ready) (tables m .threads)) (tables m))) handing Result k) e)
+      (ap (λ (y : Thread). with-last n
+      (with-ready (tables m .ready ++ (n ∷ [])) (with-threads (insert (λ t. ltb (t .name) (y .name)) y (tables m .threads)) (tables m)))
+      handing Result n) f
+      ∙ ap (λ (k : ℕ). with-last k (with-ready (tables m .ready ++ (k ∷ []))
+      (with-threads (insert (λ t. ltb (t .name) k) (new-thread k p Ready) (tables m .threads)) (tables m))) handing Result k) e)
 
 -- it has room in the ready queue, since those who are ready are threads
-pub newcomer-room : {m m₁ : List ℕ} {T : Tables} → Holds m → length (tables m .threads) < limits m .threads → Leaves m m₁ T → T .ready ≡ tables m .ready →
+pub newcomer-room : {m m₁ : List ℕ} {T : Tables} → Holds m → length (tables m .threads) < limits m .threads → Leaves m m₁ T →
+    T .ready ≡ tables m .ready →
     length (tables m₁ .ready) < limits m₁ .threads
 newcomer-room {m} H l a e = rw (a .same, a .says, e) (omega (arith, queues-room (limits m) (tables m) (H .inv)))
 
@@ -55,7 +63,8 @@ module _ {m m′ : List ℕ} {T : Tables} {a : Answer} (l : Leaves m m′ T) (me
   pub by-target : {w : Target} (v : Target) → w ≡ v → (T handing a) ≡ terminate me v (tables m) → Hands m m′ a (terminate me w (tables m))
   by-target v e f = and-hands l (f ∙ ap (λ (x : Target). terminate me x (tables m)) (sym e))
 
-  pub by-entry : (k : TrapKind) (n : ℕ) {g : Manager} (v : Manager) → g ≡ of-thread Unset (λ t. manager k (t .managers)) me (tables m .threads) → g ≡ v →
+  pub by-entry : (k : TrapKind) (n : ℕ) {g : Manager} (v : Manager) →
+      g ≡ of-thread Unset (λ t. manager k (t .managers)) me (tables m .threads) → g ≡ v →
       (T handing a) ≡ set-over v me k n (tables m) → Hands m m′ a (set-manager me k n (tables m))
   by-entry k n v d e f = and-hands l (f ∙ ap (λ (x : Manager). set-over x me k n (tables m)) (sym e ∙ d))
 
@@ -66,7 +75,8 @@ module _ {m m₁ : List ℕ} (me : ℕ) (a : Leaves m m₁ (stop me Clock (table
   unfolding stop change
   clock-room l = rw (a .same, a .says) l
 
-  pub clocked : {m₂ : List ℕ} → Leaves m₁ m₂ (with-clock (tables m₁ .clock ++ (me ∷ [])) (tables m₁)) → Hands m m₂ Nothing (wait-for-clock me (tables m))
+  pub clocked : {m₂ : List ℕ} → Leaves m₁ m₂ (with-clock (tables m₁ .clock ++ (me ∷ [])) (tables m₁)) →
+      Hands m m₂ Nothing (wait-for-clock me (tables m))
   unfolding wait-for-clock stop change
   clocked b = and-hands (and-then (λ T. with-clock (T .clock ++ (me ∷ [])) T) a b) refl
 
@@ -110,7 +120,8 @@ module _ (d : ℕ) where
 
 module _ {m m₁ : List ℕ} (me d : ℕ) where
   pub word-taken : (w : ℕ) → AtRest m → any (held-for d) (tables m .held) ≡ true → w ≡ word-for d (tables m .held) →
-      Leaves m m₁ (with-held (keep (λ h. not (held-for d h)) (tables m .held)) (tables m)) → Hands m m₁ (Result w) (wait-for-io me d (tables m))
+      Leaves m m₁ (with-held (keep (λ h. not (held-for d h)) (tables m .held)) (tables m)) →
+      Hands m m₁ (Result w) (wait-for-io me d (tables m))
   unfolding take-held
   word-taken w S h e a =
       let r = one d (tables m .held) (omega (arith, S .ruled .fits .waiters d)) h in
@@ -118,6 +129,7 @@ module _ {m m₁ : List ℕ} (me d : ℕ) where
       (ap (λ (k : ℕ). with-held (keep (λ h. not (held-for d h)) (tables m .held)) (tables m) handing Result k) (e ∙ r .word)
       ∙ ap (take-held me d (tables m)) (sym (r .took)))
 
-  pub word-missing : any (held-for d) (tables m .held) ≡ false → Leaves m m₁ (stop me (Device d) (tables m)) → Hands m m₁ Nothing (wait-for-io me d (tables m))
+  pub word-missing : any (held-for d) (tables m .held) ≡ false → Leaves m m₁ (stop me (Device d) (tables m)) →
+      Hands m m₁ Nothing (wait-for-io me d (tables m))
   unfolding take-held
   word-missing h a = and-hands a (ap (take-held me d (tables m)) (sym (none d (tables m .held) h)))

@@ -59,10 +59,16 @@ module _ {m m₁ : List ℕ} (a : Finds m m₁ (grow (tables m .threads) (found 
   pub last-round : length (found m₁) ≡ length (found m) → Finds m m₁ (closed (tables m) (found m))
   last-round e =
       let d : length (grow ts (found m)) ≡ length (found m) = ap length (sym (a .set)) ∙ e in
-      record { set = a .set ∙ (grow-same ts (found m) d ∙ no-round-more ts (found m) d); says = a .says; same = a .same; finding = a .finding }
+      record {
+        set = a .set ∙ (grow-same ts (found m) d ∙ no-round-more ts (found m) d);
+        says = a .says;
+        same = a .same;
+        finding = a .finding;
+      }
 
   -- The room is kept.
-  pub room-stays : length (found m) + left-out (tables m) (found m) ≤ limits m .threads → length (found m₁) + left-out (tables m₁) (found m₁) ≤ limits m₁ .threads
+  pub room-stays : length (found m) + left-out (tables m) (found m) ≤ limits m .threads →
+      length (found m₁) + left-out (tables m₁) (found m₁) ≤ limits m₁ .threads
   room-stays h = room-now a (room-kept ts (found m) (limits m .threads) h)
 
   module _ (d : length (found m₁) ≢ length (found m)) where
@@ -89,36 +95,45 @@ module _ {m : List ℕ} (n : ℕ) (H : Holds m) (h : live n (tables m) ≡ true)
   pub begun-room : {m₁ : List ℕ} → Finds m m₁ (n ∷ []) → length (found m₁) + left-out (tables m₁) (found m₁) ≤ limits m₁ .threads
   begun-room a = room-now a begin-room
 
-pub begun-closed : {m m₁ m₂ : List ℕ} (n : ℕ) → Finds m m₁ (n ∷ []) → Finds m₁ m₂ (closed (tables m₁) (found m₁)) → Finds m m₂ (ended-set (tables m .threads) n)
+pub begun-closed : {m m₁ m₂ : List ℕ} (n : ℕ) → Finds m m₁ (n ∷ []) → Finds m₁ m₂ (closed (tables m₁) (found m₁)) →
+    Finds m m₂ (ended-set (tables m .threads) n)
 begun-closed {m} n a b = and-finds a b (closed-now a ∙ closed-is-ended (tables m .threads) n)
 
 -- ---- who is released
 
 -- Those who miss a member are not ready, so they have room in the ready queue.
-missed-room : {L : Limits} (T : Tables) (set : List ℕ) → Inv L T → length (T .ready) + count (λ t. misses set (t .state)) (T .threads) ≤ L .threads
+missed-room : {L : Limits} (T : Tables) (set : List ℕ) → Inv L T →
+    length (T .ready) + count (λ t. misses set (t .state)) (T .threads) ≤ L .threads
 unfolding misses
-missed-room {L} T set I = omega (arith, I .few, released-room L T I (λ t. misses set (t .state)) (λ t e. asleep (by-wanted false (λ n. has n set)) (λ d. false) (λ k. false) (t .state) e .1))
+missed-room {L} T set I = omega (
+  arith,
+  I .few,
+  released-room L T I (λ t. misses set (t .state))
+      (λ t e. asleep (by-wanted false (λ n. has n set)) (λ d. false) (λ k. false) (t .state) e .1),
+)
 
 -- ---- all of it
 
-module _ {m m₁ m₂ : List ℕ} (n : ℕ) (a : Finds m m₁ (ended-set (tables m .threads) n)) (b : Removes m₁ m₂ (remove (found m₁) (tables m₁))) where
-  abbrev set : List ℕ
-  set = ended-set (tables m .threads) n
+module _ {m m₁ m₂ : List ℕ} (n : ℕ) (a : Finds m m₁ (ended-set (tables m .threads) n)) (b : Removes m₁ m₂ (remove (found m₁) (tables m₁)))
+  where
+    abbrev set : List ℕ
+    set = ended-set (tables m .threads) n
 
-  removes : Leaves m m₂ (remove set (tables m))
-  removes = record {
-    says = b .leaves .says ∙ (ap (λ (l : List ℕ). remove l (tables m₁)) (a .set) ∙ ap (remove set) (a .says));
-    same = b .leaves .same ∙ a .same;
-    holding = b .leaves .holding;
-  }
+    removes : Leaves m m₂ (remove set (tables m))
+    removes = record {
+      says = b .leaves .says ∙ (ap (λ (l : List ℕ). remove l (tables m₁)) (a .set) ∙ ap (remove set) (a .says));
+      same = b .leaves .same ∙ a .same;
+      holding = b .leaves .holding;
+    }
 
-  pub release-room : Inv (limits m) (tables m) → length (tables m₂ .ready) + count (λ t. misses (found m₂) (t .state)) (tables m₂ .threads) ≤ limits m₂ .threads
-  release-room I = missed-room (tables m₂) (found m₂) (carried Inv removes (remove-inv set I))
+    pub release-room : Inv (limits m) (tables m) →
+        length (tables m₂ .ready) + count (λ t. misses (found m₂) (t .state)) (tables m₂ .threads) ≤ limits m₂ .threads
+    release-room I = missed-room (tables m₂) (found m₂) (carried Inv removes (remove-inv set I))
 
-  pub ended : {m₃ : List ℕ} → Leaves m₂ m₃ (release (found m₂) (tables m₂)) → Leaves m m₃ (end n (tables m))
-  unfolding end
-  ended c = record {
-    says = c .says ∙ (ap (λ (l : List ℕ). release l (tables m₂)) (b .set ∙ a .set) ∙ ap (release set) (removes .says));
-    same = c .same ∙ removes .same;
-    holding = c .holding;
-  }
+    pub ended : {m₃ : List ℕ} → Leaves m₂ m₃ (release (found m₂) (tables m₂)) → Leaves m m₃ (end n (tables m))
+    unfolding end
+    ended c = record {
+      says = c .says ∙ (ap (λ (l : List ℕ). release l (tables m₂)) (b .set ∙ a .set) ∙ ap (release set) (removes .says));
+      same = c .same ∙ removes .same;
+      holding = c .holding;
+    }

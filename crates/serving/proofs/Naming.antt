@@ -30,9 +30,11 @@ module _ (c : ℕ) where
   from-place [] = refl
   from-place (t ∷ ts) = go (ltb (t .name) c) refl (from-place ts)
     where
-      go : (b : Bool) → ltb (t .name) c ≡ b → walked c (drop (place not-below ts) ts) ≡ walked c ts → walked c (drop (if not b then 0 else suc (place not-below ts)) (t ∷ ts)) ≡ walked c (t ∷ ts)
+      go : (b : Bool) → ltb (t .name) c ≡ b → walked c (drop (place not-below ts) ts) ≡ walked c ts →
+          walked c (drop (if not b then 0 else suc (place not-below ts)) (t ∷ ts)) ≡ walked c (t ∷ ts)
       go false e later = refl
-      go true e later = later ∙ ap (λ (b : Bool). walked (if b then (c + 1) % names else c) ts) (sym (ne-eqb c (t .name) (λ f. omega (arith, ltb-true (t .name) c e))))
+      go true e later = later ∙ ap (λ (b : Bool). walked (if b then (c + 1) % names else c) ts)
+          (sym (ne-eqb c (t .name) (λ f. omega (arith, ltb-true (t .name) c e))))
 
 -- ---- place by place
 
@@ -41,9 +43,11 @@ pub record Walks (m : List ℕ) (last name i : ℕ) : Type 0 where
   pub gives : walked name (drop i (tables m .threads)) ≡ walked ((last + 1) % names) (tables m .threads)
   pub lowest : (d : Thread) → i < length (tables m .threads) → name ≤ getD (tables m .threads) i d .name
 
-pub sets-out : (m : List ℕ) (last name i : ℕ) → name ≡ (last + 1) % names → i ≡ place (λ t. not (ltb (t .name) name)) (tables m .threads) → Walks m last name i
+pub sets-out : (m : List ℕ) (last name i : ℕ) → name ≡ (last + 1) % names → i ≡ place (λ t. not (ltb (t .name) name)) (tables m .threads) →
+    Walks m last name i
 sets-out m last name i e f = record {
-  gives = ap (λ (j : ℕ). walked name (drop j (tables m .threads))) f ∙ from-place name (tables m .threads) ∙ ap (λ (c : ℕ). walked c (tables m .threads)) e;
+  gives = ap (λ (j : ℕ). walked name (drop j (tables m .threads))) f ∙ from-place name (tables m .threads)
+      ∙ ap (λ (c : ℕ). walked c (tables m .threads)) e;
   lowest = λ d h. rw f (not-lower name (tables m .threads) d (rw f at h));
 }
 
@@ -70,15 +74,16 @@ module _ (m : List ℕ) (H : Holding m) (last name i n : ℕ) (count : n ≡ len
 -- ---- the next name
 
 -- what was found behind the name given last
-module _ (m : List ℕ) (H : Holding m) (l name : ℕ) (last : l ≡ tables m .last) (e : name ≡ free-name (names - (l + 1) % names) l (tables m)) where
-  few : length (tables m .threads) < names
-  few = omega (arith, threads-limit m (H .shaped), names-left m (H .shaped))
+module _ (m : List ℕ) (H : Holding m) (l name : ℕ) (last : l ≡ tables m .last) (e : name ≡ free-name (names - (l + 1) % names) l (tables m))
+  where
+    few : length (tables m .threads) < names
+    few = omega (arith, threads-limit m (H .shaped), names-left m (H .shaped))
 
-  here : name ≡ free-name (names - (tables m .last + 1) % names) (tables m .last) (tables m)
-  here = e ∙ ap (λ (x : ℕ). free-name (names - (x + 1) % names) x (tables m)) last
+    here : name ≡ free-name (names - (tables m .last + 1) % names) (tables m .last) (tables m)
+    here = e ∙ ap (λ (x : ℕ). free-name (names - (x + 1) % names) x (tables m)) last
 
-  pub found-above : name ≢ 0 → name ≡ next-name (tables m)
-  found-above = next-above (tables m) few name here
+    pub found-above : name ≢ 0 → name ≡ next-name (tables m)
+    found-above = next-above (tables m) few name here
 
-  pub comes-round : name ≡ 0 → free-name names (names - 1) (tables m) ≡ next-name (tables m)
-  comes-round = next-round (tables m) few name here
+    pub comes-round : name ≡ 0 → free-name names (names - 1) (tables m) ≡ next-name (tables m)
+    comes-round = next-round (tables m) few name here

@@ -33,7 +33,8 @@ use Rattle.handling.proofs.Moving.{woken-room}
 -- ---- who decides
 
 -- whether the receiver waits for the sender's decision is what it says; a receiver that is not there says no
-pub decides-by : (T : Tables) → ((n : ℕ) → count (named n) (T .threads) ≤ 1) → (me to : ℕ) → of-thread false (awaits me) to (T .threads) ≡ decides me to T
+pub decides-by : (T : Tables) → ((n : ℕ) → count (named n) (T .threads) ≤ 1) → (me to : ℕ) →
+    of-thread false (awaits me) to (T .threads) ≡ decides me to T
 decides-by T once me to = go (live to T) refl
   where
     go : (b : Bool) → live to T ≡ b → of-thread false (awaits me) to (T .threads) ≡ decides me to T
@@ -55,16 +56,20 @@ module _ {m : List ℕ} (H : Holds m) (me to : ℕ) (yes : decides me to (tables
       member-any (named to) (T .threads) (r .0) (r .1) (and-left (named to (r .0)) _ (r .2))
 
   -- it is not ready, so there is room in the ready queue
-  pub decided-room : {m₁ : List ℕ} (ms : List Message) → Leaves m m₁ (with-messages ms T) → Holding m₁ × (length (tables m₁ .ready) < limits m₁ .threads)
+  pub decided-room : {m₁ : List ℕ} (ms : List Message) → Leaves m m₁ (with-messages ms T) →
+      Holding m₁ × (length (tables m₁ .ready) < limits m₁ .threads)
   unfolding trapped-on
   decided-room ms a = (
     a .holding,
-    carried (λ (L : Limits) (U : Tables). length (U .ready) < L .threads) a (woken-room T (H .inv) (waits-for-decision me to) (λ t k. asleep _ _ _ (t .state) (and-right (named to t) _ k) .1) yes),
+    carried (λ (L : Limits) (U : Tables). length (U .ready) < L .threads) a
+        (woken-room T (H .inv) (waits-for-decision me to) (λ t k. asleep _ _ _ (t .state) (and-right (named to t) _ k) .1) yes),
   )
 
-  pub decided-on : {m₁ m₂ : List ℕ} (w : ℕ) → w ≡ 0 → Leaves m m₁ (with-messages (keep (λ x. not (notice-of to x)) (T .messages)) T) → Leaves m₁ m₂ (wake to Nothing (tables m₁)) → Leaves m m₂ (decide me to w T)
+  pub decided-on : {m₁ m₂ : List ℕ} (w : ℕ) → w ≡ 0 → Leaves m m₁ (with-messages (keep (λ x. not (notice-of to x)) (T .messages)) T) →
+      Leaves m₁ m₂ (wake to Nothing (tables m₁)) → Leaves m m₂ (decide me to w T)
   decided-on w z a b =
-      in-words (sym (decide-continues T (H .holding .once) me to yes) ∙ ap (λ (n : ℕ). decide me to n T) (sym z)) (and-then (wake to Nothing) a b)
+      in-words (sym (decide-continues T (H .holding .once) me to yes) ∙ ap (λ (n : ℕ). decide me to n T) (sym z))
+      (and-then (wake to Nothing) a b)
 
 pub decided-over : (T : Tables) (me to w : ℕ) → w ≢ 0 → end to T ≡ decide me to w T
 unfolding decide
@@ -108,7 +113,8 @@ module _ {m m₁ : List ℕ} (me : ℕ) (w : Wanted) {g : Taken} (t : Takes m m�
           and-hands (r .1) (ap (λ (b : Answer). with-messages ms (tables m) handing b) (h ∙ ap handed (ap (the-taken x) (sym e ∙ r .0))))
 
   -- without one the runner waits
-  pub missing-waits : {m₂ : List ℕ} → g ≡ Missing → Leaves m₁ m₂ (stop me (Receiving w) (tables m₁)) → Hands m m₂ Nothing (receive me w (tables m))
+  pub missing-waits : {m₂ : List ℕ} → g ≡ Missing → Leaves m₁ m₂ (stop me (Receiving w) (tables m₁)) →
+      Hands m m₂ Nothing (receive me w (tables m))
   unfolding receive received
   missing-waits {m₂} e b = go inbox refl
     where
@@ -127,7 +133,8 @@ module _ {m m₁ : List ℕ} (me : ℕ) (w : Wanted) {g : Taken} (t : Takes m m�
 -- ---- trap
 
 -- by the manager of that kind
-pub trap-by : (T : Tables) (me : ℕ) (k : TrapKind) (cause : ℕ) (g : Manager) → g ≡ of-thread Unset (λ t. manager k (t .managers)) me (T .threads) →
+pub trap-by : (T : Tables) (me : ℕ) (k : TrapKind) (cause : ℕ) (g : Manager) →
+    g ≡ of-thread Unset (λ t. manager k (t .managers)) me (T .threads) →
     by-manager (end me T) (λ n. deliver (notice n me cause) (stop me (Trapped k) T)) g ≡ trap me k cause T
 unfolding trap
 trap-by T me k cause g e = rw e
@@ -146,7 +153,9 @@ module _ {m : List ℕ} (me s : ℕ) (S : AtRest m) (runs : tables m .runner ≡
     pub trapped-room : length (tables m₁ .messages) < limits m₁ .threads + limits m₁ .blocks
     unfolding stop change
     trapped-room =
-        carried (λ (L : Limits) (U : Tables). length (U .messages) < L .threads + L .blocks) a (omega (arith, notice-room (limits m) (tables m) (S .ruled .inv) (S .ruled .fits) me s runs))
+        carried (λ (L : Limits) (U : Tables). length (U .messages) < L .threads + L .blocks) a
+        (omega (arith, notice-room (limits m) (tables m) (S .ruled .inv) (S .ruled .fits) me s runs))
 
-    pub trapped-told : {m₂ : List ℕ} (x : Message) (n cause : ℕ) → x ≡ notice n me cause → Leaves m₁ m₂ (deliver x (tables m₁)) → Leaves m m₂ (deliver (notice n me cause) (stop me (Trapped k) (tables m)))
+    pub trapped-told : {m₂ : List ℕ} (x : Message) (n cause : ℕ) → x ≡ notice n me cause → Leaves m₁ m₂ (deliver x (tables m₁)) →
+        Leaves m m₂ (deliver (notice n me cause) (stop me (Trapped k) (tables m)))
     trapped-told x n cause e b = and-then (deliver (notice n me cause)) a (in-words (ap (λ (y : Message). deliver y (tables m₁)) e) b)

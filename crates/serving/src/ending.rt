@@ -14,8 +14,12 @@ ghost use Rattle.handling.specs.Standing.{Holds};
 // The set closed under dependants: as long as a round adds somebody, another follows.
 // Threads not yet in the set are fewer with each round.
 fn close(m: &mut [u32], marks: &mut [u8; 256])
-    requires { ⌜ Finding (now m) × (length (found (now m)) + count-of (λ t. not (has (t .name) (found (now m)))) (tables (now m) .threads) ≤ limits (now m) .threads) × Marks (found (now m)) (now marks) ⌝ }
-    ensures { λ _. ⌜ Finds (now (m .entry)) (now (m .exit)) (times (count-of (λ t. not (has (t .name) (found (now (m .entry))))) (tables (now (m .entry)) .threads)) (grow-of (tables (now (m .entry)) .threads)) (found (now (m .entry)))) × Marks (found (now (m .exit))) (now (marks .exit)) ⌝ }
+    requires { ⌜ Finding (now m)
+        × (length (found (now m)) + count-of (λ t. not (has (t .name) (found (now m)))) (tables (now m) .threads) ≤ limits (now m) .threads)
+        × Marks (found (now m)) (now marks) ⌝ }
+    ensures { λ _. ⌜ Finds (now (m .entry)) (now (m .exit))
+        (times (count-of (λ t. not (has (t .name) (found (now (m .entry))))) (tables (now (m .entry)) .threads))
+        (grow-of (tables (now (m .entry)) .threads)) (found (now (m .entry)))) × Marks (found (now (m .exit))) (now (marks .exit)) ⌝ }
 {
     let before = store::ended_count(m);
     store::grow_ended(m, marks);
@@ -28,7 +32,8 @@ fn close(m: &mut [u32], marks: &mut [u8; 256])
 // The smallest set that holds a live thread and, with each member, its children and those trapped on it.
 fn ended_set(m: &mut [u32], marks: &mut [u8; 256], name: u8)
     requires { ⌜ Holds (now m) × (live name (tables (now m)) ≡ true) × Marks [] (now marks) ⌝ }
-    ensures { λ _. ⌜ Finds (now (m .entry)) (now (m .exit)) (ended-set-of (tables (now (m .entry)) .threads) name) × Marks (found (now (m .exit))) (now (marks .exit)) ⌝ }
+    ensures { λ _. ⌜ Finds (now (m .entry)) (now (m .exit)) (ended-set-of (tables (now (m .entry)) .threads) name)
+        × Marks (found (now (m .exit))) (now (marks .exit)) ⌝ }
 {
     store::begin_ended(m, marks, name);
     close(m, marks);

@@ -18,7 +18,9 @@ ghost use lib.ListN.{length};
 ghost use Rattle.rules.specs.Numbers.{names, devices};
 ghost use Rattle.rules.specs.Tables.{live, new-thread as new-thread-of};
 ghost use Rattle.rules.specs.Refusals.{ends-nobody};
-ghost use Rattle.rules.specs.Requests.{free-name, next-name as next-name-of, create as create-of, create-brother as create-brother-of, create-son as create-son-of, terminate as terminate-of, set-manager as set-manager-of, get-cpu-time as get-cpu-time-of, wait-for-clock as wait-for-clock-of, wait-for-io as wait-for-io-of};
+ghost use Rattle.rules.specs.Requests.{free-name, next-name as next-name-of, create as create-of, create-brother as create-brother-of};
+ghost use Rattle.rules.specs.Requests.{create-son as create-son-of, terminate as terminate-of, set-manager as set-manager-of};
+ghost use Rattle.rules.specs.Requests.{get-cpu-time as get-cpu-time-of, wait-for-clock as wait-for-clock-of, wait-for-io as wait-for-io-of};
 ghost use Rattle.store.specs.Store.{limits, tables, Holding, Hands};
 ghost use Rattle.handling.specs.Standing.{Holds, AtRest};
 
@@ -30,8 +32,9 @@ fn successor(name: u8) -> u8
     next as u8
 }
 
-// The first name behind `last`, up to 253, that no thread has, or 0 where all of them are in use. The threads stand by rising name: the walk
-// begins at the first one that is not below, and each that has the name moves it on. It ends before a higher name, or behind the last thread.
+// The first name behind `last`, up to 253, that no thread has, or 0 where all of them are in use. The threads stand by rising name: the
+// walk begins at the first one that is not below, and each that has the name moves it on. It ends before a higher name, or behind the
+// last thread.
 fn free_behind(m: &[u32], last: u8) -> u8
     requires { ⌜ Holding (now m) ⌝ }
     ensures { λ n. ⌜ n ≡ free-name (names - (last + 1) % names) last (tables (now (m .entry))) ⌝ }

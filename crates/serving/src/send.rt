@@ -48,7 +48,9 @@ fn decide(m: &mut [u32], me: u8, to: u8, word: u32)
 }
 
 pub fn send(m: &mut [u32], me: u8, to: u8, word: u32)
-    requires { ⌜ Holds (now m) × (decides-of me to (tables (now m)) ≡ false → any (accepts (message-of to me word)) (tables (now m) .threads) ≡ false → length (tables (now m) .messages) < limits (now m) .threads + limits (now m) .blocks) ⌝ }
+    requires { ⌜ Holds (now m) × (decides-of me to (tables (now m)) ≡ false →
+        any (accepts (message-of to me word)) (tables (now m) .threads) ≡ false →
+        length (tables (now m) .messages) < limits (now m) .threads + limits (now m) .blocks) ⌝ }
     ensures { λ _. ⌜ Leaves (now (m .entry)) (now (m .exit)) (send-of me to word (tables (now (m .entry)))) ⌝ }
 {
     if decides(m, me, to) {

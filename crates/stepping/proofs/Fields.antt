@@ -27,7 +27,8 @@ all-bytes [] h = refl
 all-bytes (b ∷ bs) h = lt-ltb b 256 (h 0 .fits) & all-bytes bs (λ i. h (suc i))
 
 -- eight bytes, four by four
-pub eight-at : (l : List ℕ) (at : ℕ) → at + 8 ≤ length l → number (take 4 (drop at l)) * wrap + number (take 4 (drop (at + 4) l)) ≡ number (take 8 (drop at l))
+pub eight-at : (l : List ℕ) (at : ℕ) → at + 8 ≤ length l →
+    number (take 4 (drop at l)) * wrap + number (take 4 (drop (at + 4) l)) ≡ number (take 8 (drop at l))
 unfolding number-from
 eight-at l at h =
     let m : 4 ≤ length (drop at l) = simp length-drop (omega arith) in
@@ -39,7 +40,8 @@ eight-at l at h =
 -- none of the tags before the last
 pub last-tag : (tag : ℕ) → tag-facts tag .known ≡ true → tag ≢ 16 → tag ≢ 17 → tag ≢ 18 → tag ≢ 19 → tag ≢ 20 → tag ≡ 21
 unfolding tag-facts facts-in
-last-tag tag k a b c d e = go (tag == 21) refl (simp (ne-eqb tag 16 a, ne-eqb tag 17 b, ne-eqb tag 18 c, ne-eqb tag 19 d, ne-eqb tag 20 e) at k)
+last-tag tag k a b c d e =
+    go (tag == 21) refl (simp (ne-eqb tag 16 a, ne-eqb tag 17 b, ne-eqb tag 18 c, ne-eqb tag 19 d, ne-eqb tag 20 e) at k)
   where
     facts : Bool → TagFacts
     facts t = if t then record { known = true; length = 12; runner = false } else record { known = false; length = 0; runner = false }
@@ -52,7 +54,16 @@ last-tag tag k a b c d e = go (tag == 21) refl (simp (ne-eqb tag 16 a, ne-eqb ta
 pub last-service : (s a : ℕ) → meets (argument-rule s) a ≡ true → s ≢ 1 → s ≢ 2 → s ≢ 3 → s ≢ 4 → s ≢ 5 → s ≢ 6 → s ≢ 7 → s ≢ 8 → s ≡ 9
 unfolding argument-rule rule-in meets
 last-service s a m n1 n2 n3 n4 n5 n6 n7 n8 =
-    go (s == 9) refl (simp (ne-eqb s 1 n1, ne-eqb s 2 n2, ne-eqb s 3 n3, ne-eqb s 4 n4, ne-eqb s 5 n5, ne-eqb s 6 n6, ne-eqb s 7 n7, ne-eqb s 8 n8) at m)
+    go (s == 9) refl (simp (
+      ne-eqb s 1 n1,
+      ne-eqb s 2 n2,
+      ne-eqb s 3 n3,
+      ne-eqb s 4 n4,
+      ne-eqb s 5 n5,
+      ne-eqb s 6 n6,
+      ne-eqb s 7 n7,
+      ne-eqb s 8 n8,
+    ) at m)
   where
     go : (b : Bool) → (s == 9) ≡ b → meets (if b then ADevice else NoService) a ≡ true → s ≡ 9
     go true t h = eqb-true s 9 t
@@ -73,7 +84,8 @@ module _ (tag : ℕ) (l : List ℕ) (sized : length l ≡ tag-facts tag .length 
   unfolding meaning
   means-receive e = simp (e, getD-drop)
 
-  pub means-request : tag ≡ 18 → meaning tag (drop 3 l) ≡ (if meets (argument-rule (getD l 3 0)) (getD l 4 0) then request (getD l 3 0) (getD l 4 0) else Malformed)
+  pub means-request : tag ≡ 18 →
+      meaning tag (drop 3 l) ≡ (if meets (argument-rule (getD l 3 0)) (getD l 4 0) then request (getD l 3 0) (getD l 4 0) else Malformed)
   unfolding meaning tag-facts facts-in number-from
   means-request e =
       let s : length l ≡ 5 = size 18 e in
@@ -109,7 +121,8 @@ too-short l h = by-if (λ (e : Event). e ≡ Malformed) (all is-byte l) (λ _. s
 
 -- the rules' test of three bytes or more, whose tag has these facts
 judged : TagFacts → List ℕ → Event
-judged f l = let n = getD l 1 0 * 256 + getD l 2 0 in if f .known && n == f .length && length (drop 3 l) == n then meaning (getD l 0 0) (drop 3 l) else Malformed
+judged f l = let n = getD l 1 0 * 256 + getD l 2 0 in
+    if f .known && n == f .length && length (drop 3 l) == n then meaning (getD l 0 0) (drop 3 l) else Malformed
 
 long-field : (l : List ℕ) → 3 ≤ length l → field-of l ≡ judged (tag-facts (getD l 0 0)) l
 unfolding field-of judged
@@ -122,7 +135,8 @@ read : (l : List ℕ) → ((i : ℕ) → Fits w8 (getD l i 0)) → 3 ≤ length 
 unfolding decode
 read l bytes long f says = rw (all-bytes l bytes, says) (long-field l long)
 
-pub unknown : (l : List ℕ) → ((i : ℕ) → Fits w8 (getD l i 0)) → 3 ≤ length l → (f : TagFacts) → f ≡ tag-facts (getD l 0 0) → f .known ≡ false → decode l ≡ Malformed
+pub unknown : (l : List ℕ) → ((i : ℕ) → Fits w8 (getD l i 0)) → 3 ≤ length l → (f : TagFacts) → f ≡ tag-facts (getD l 0 0) →
+    f .known ≡ false → decode l ≡ Malformed
 unfolding judged
 unknown l bytes long f says k = read l bytes long f says ∙ rw k
 

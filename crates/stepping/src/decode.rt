@@ -14,7 +14,8 @@ ghost use lib.ListN.{length, take, drop};
 ghost use Rattle.rules.specs.Lists.{if_then_else_, number};
 ghost use Rattle.rules.specs.Pick.{pick as pick-of};
 ghost use Rattle.rules.specs.declared.Event.the-variants.{ByRunner as ByTheRunner, Malformed as Rubbish};
-ghost use Rattle.rules.specs.Events.{request as request-of, trap-of as trap-for, interrupt-of as interrupt-for, meaning as meaning-of, decode as decode-of};
+ghost use Rattle.rules.specs.Events.{request as request-of, trap-of as trap-for, interrupt-of as interrupt-for, meaning as meaning-of};
+ghost use Rattle.rules.specs.Events.{decode as decode-of};
 ghost use Rattle.rules.specs.Tags.{target as target-of, tag-facts as facts-of, meets as meets-of, argument-rule as rule-of};
 
 fn target(n: u8) -> Target

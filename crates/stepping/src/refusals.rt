@@ -16,7 +16,8 @@ ghost use mathlib.Core.List.{List, [], _∷_};
 ghost use Rattle.rules.specs.Lists.{_==_};
 ghost use Rattle.rules.specs.declared.Call.the-variants.{Send as SendCall, WaitForIo as IoCall};
 ghost use Rattle.rules.specs.Tables.{live};
-ghost use Rattle.rules.specs.Refusals.{over, wants-nobody as wants-nobody-of, ends-nobody as ends-nobody-of, call-rules, first-of, _refuses_, refusal as refusal-of};
+ghost use Rattle.rules.specs.Refusals.{over, wants-nobody as wants-nobody-of, ends-nobody as ends-nobody-of, call-rules, first-of};
+ghost use Rattle.rules.specs.Refusals.{_refuses_, refusal as refusal-of};
 ghost use Rattle.store.specs.Store.{limits, tables, Holding};
 ghost use Rattle.handling.specs.Standing.{Holds};
 

@@ -28,7 +28,8 @@ ghost use Rattle.stepping.specs.Stepping.{Steps};
 
 // A call of the runner that nothing refuses.
 fn serve(m: &mut [u32], me: u8, c: Call) -> Answer
-    requires { ⌜ AtRest (now m) × ((s : ℕ) × (tables (now m) .runner ≡ RunsNow me s)) × (first-of (call-rules (limits (now m)) (tables (now m)) me c) ≡ 0) × ProperCall c ⌝ }
+    requires { ⌜ AtRest (now m) × ((s : ℕ) × (tables (now m) .runner ≡ RunsNow me s))
+        × (first-of (call-rules (limits (now m)) (tables (now m)) me c) ≡ 0) × ProperCall c ⌝ }
     ensures { λ a. ⌜ Hands (now (m .entry)) (now (m .exit)) a (serve-of me (tables (now (m .entry))) c) ⌝ }
 {
     match c {
@@ -96,7 +97,8 @@ fn decided(m: &[u32], refusal: u8, answer: Answer) -> Decision
 // One event, given by the bytes of its field, on a memory that stands.
 pub fn step(m: &mut [u32], event: &[u8]) -> Decision
     requires { ⌜ AtRest (now m) ⌝ }
-    ensures { λ d. ⌜ Steps (now (m .entry)) (now (m .exit)) d (step-of (limits (now (m .entry))) (tables (now (m .entry))) (now (event .entry))) ⌝ }
+    ensures { λ d. ⌜ Steps (now (m .entry)) (now (m .exit)) d
+        (step-of (limits (now (m .entry))) (tables (now (m .entry))) (now (event .entry))) ⌝ }
 {
     let e = decode::decode(event);
     let refusal = refusals::refusal(m, e);

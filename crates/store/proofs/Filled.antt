@@ -21,7 +21,8 @@ behind l n x h = rw add-one (take-suc-set l n x h)
 
 -- written at the end n of its row, by way of m₁, and counted
 module _ {m m′ : List ℕ} (m₁ : List ℕ) (s : Shaped m) (n : ℕ) where
-  pub thread-behind : (t : Thread) → n ≡ rows-of m .count → n < rows-of m .limits .threads → rows-of m₁ ≡ put-threads (set (rows-of m .threads) n t) (rows-of m) → rows-of m′ ≡ put-count (n + 1) (rows-of m₁) →
+  pub thread-behind : (t : Thread) → n ≡ rows-of m .count → n < rows-of m .limits .threads →
+      rows-of m₁ ≡ put-threads (set (rows-of m .threads) n t) (rows-of m) → rows-of m′ ≡ put-count (n + 1) (rows-of m₁) →
       Fills m m′ (with-threads (tables m .threads ++ (t ∷ [])) (tables m))
   unfolding tables Shaped
   thread-behind t c h a b =
@@ -31,7 +32,8 @@ module _ {m m′ : List ℕ} (m₁ : List ℕ) (s : Shaped m) (n : ℕ) where
       refl
       (record { limits = refl; roomy = s .roomy; threads = omega arith; ready = s .ready; clock = s .clock; messages = s .messages })
 
-  pub message-behind : (x : Message) → n ≡ rows-of m .letters → n < rows-of m .limits .threads + rows-of m .limits .blocks → rows-of m₁ ≡ put-messages (set (rows-of m .messages) n x) (rows-of m) → rows-of m′ ≡ put-letters (n + 1) (rows-of m₁) →
+  pub message-behind : (x : Message) → n ≡ rows-of m .letters → n < rows-of m .limits .threads + rows-of m .limits .blocks →
+      rows-of m₁ ≡ put-messages (set (rows-of m .messages) n x) (rows-of m) → rows-of m′ ≡ put-letters (n + 1) (rows-of m₁) →
       Fills m m′ (with-messages (tables m .messages ++ (x ∷ [])) (tables m))
   unfolding tables Shaped
   message-behind x c h a b =
@@ -46,11 +48,19 @@ unfolding rows-of
 room-is m = refl
 
 -- a memory of that length, with these limits, that holds nothing
-pub empty : (m : List ℕ) (L : Limits) (w : ℕ) → Room L w → length m ≡ w → view (rows-of m) ≡ nothing → rows-of m .limits ≡ L → rows-of m .count ≡ 0 → rows-of m .readies ≡ 0 → rows-of m .clocks ≡ 0 → rows-of m .letters ≡ 0 → Holding m
+pub empty : (m : List ℕ) (L : Limits) (w : ℕ) → Room L w → length m ≡ w → view (rows-of m) ≡ nothing → rows-of m .limits ≡ L →
+    rows-of m .count ≡ 0 → rows-of m .readies ≡ 0 → rows-of m .clocks ≡ 0 → rows-of m .letters ≡ 0 → Holding m
 unfolding tables Shaped count chain
 empty m L w R l v e t r c k =
     record {
-      shaped = record { limits = refl; roomy = rw (e, room-is m ∙ l) R; threads = omega arith; ready = omega arith; clock = omega arith; messages = omega arith };
+      shaped = record {
+        limits = refl;
+        roomy = rw (e, room-is m ∙ l) R;
+        threads = omega arith;
+        ready = omega arith;
+        clock = omega arith;
+        messages = omega arith;
+      };
       rising = rw (ap (λ (T : Tables). T .threads) v);
       once = λ n. rw (ap (λ (T : Tables). T .threads) v) (omega arith);
     }

@@ -25,7 +25,8 @@ use Rattle.store.proofs.Searched.{messages-length}
 -- with fewer messages than blocks one is free
 pub block-free : (m : List ℕ) → Shaped m → rows-of m .letters < rows-of m .limits .blocks → false ≡ no-block-free (limits m) (tables m)
 unfolding limits
-block-free m s h = sym (lt-leb (rows-of m .limits .blocks) (blocks-used (tables m)) (omega (arith, messages-length m s, count-length (λ x. is-ordinary (x .kind)) (tables m .messages))))
+block-free m s h = sym (lt-leb (rows-of m .limits .blocks) (blocks-used (tables m))
+    (omega (arith, messages-length m s, count-length (λ x. is-ordinary (x .kind)) (tables m .messages))))
 
 module _ (m : List ℕ) (H : Holding m) where
   -- the end of x's inbox is at i
@@ -34,7 +35,8 @@ module _ (m : List ℕ) (H : Holding m) where
     unfolding Shaped
     end-inside = found-within _ (rows-of m .letters) (rows-of m .messages) i (messages-whole m _ (H .shaped)) f
 
-    pub queued : {m′ : List ℕ} → MessagesAre (rows-of m) (rows-of m′) (take i (view (rows-of m) .messages) ++ x ∷ drop i (view (rows-of m) .messages)) → Leaves m m′ (queue x (tables m))
+    pub queued : {m′ : List ℕ} → MessagesAre (rows-of m) (rows-of m′) (take i (view (rows-of m) .messages) ++ x
+        ∷ drop i (view (rows-of m) .messages)) → Leaves m m′ (queue x (tables m))
     unfolding tables queue
     queued q =
         let e : insert (λ y. leb (y .to) (x .to)) x (tables m .messages) ≡ take i (tables m .messages) ++ x ∷ drop i (tables m .messages)
@@ -45,12 +47,14 @@ module _ (m : List ℕ) (H : Holding m) where
   -- the oldest that is wanted is at i
   module _ (p : Message → Bool) (i : ℕ) (f : i ≡ place p (view (rows-of m) .messages)) where
     pub taken : {m′ : List ℕ} (x : Message) → i < rows-of m .letters → x ≡ getD (rows-of m .messages) i no-message →
-        MessagesAre (rows-of m) (rows-of m′) (take i (view (rows-of m) .messages) ++ drop (i + 1) (view (rows-of m) .messages)) → Takes m m′ (Took x) (pull p (tables m .messages))
+        MessagesAre (rows-of m) (rows-of m′) (take i (view (rows-of m) .messages) ++ drop (i + 1) (view (rows-of m) .messages)) →
+        Takes m m′ (Took x) (pull p (tables m .messages))
     unfolding tables Shaped
     taken {m′} x h e q =
         let l : List Message = take i (tables m .messages) ++ drop (i + 1) (tables m .messages) in
         let w : pull p (tables m .messages) ≡ pulled x l
-        = found-pull p (rows-of m .letters) (rows-of m .messages) i (messages-whole m _ (H .shaped)) f no-message h ∙ ap (λ (y : Message). pulled y l) (sym e) in
+        = found-pull p (rows-of m .letters) (rows-of m .messages) i (messages-whole m _ (H .shaped)) f no-message h
+        ∙ ap (λ (y : Message). pulled y l) (sym e) in
         go (pull p (tables m .messages)) l w (leaves (messages-are (H .shaped) q) (H .rising))
       where
         go : (P : Pulled Message) (l : List Message) → P ≡ pulled x l → Leaves m m′ (with-messages l (tables m)) → Takes m m′ (Took x) P

@@ -22,23 +22,28 @@ unfolding Shaped limits
 names-left m s = s .roomy .low
 
 -- who stands at the place of a name has no lower one
-pub not-lower : (name : ℕ) (ts : List Thread) (d : Thread) → place (λ t. not (ltb (t .name) name)) ts < length ts → name ≤ getD ts (place (λ t. not (ltb (t .name) name)) ts) d .name
+pub not-lower : (name : ℕ) (ts : List Thread) (d : Thread) → place (λ t. not (ltb (t .name) name)) ts < length ts →
+    name ≤ getD ts (place (λ t. not (ltb (t .name) name)) ts) d .name
 not-lower name ts d h = ltb-false _ name (not-true _ (passes-at (λ t. not (ltb (t .name) name)) d ts h))
 
 -- names are below 254, so that 255 says that nobody passes
-pub nobody-passes : (p : Thread → Bool) (ts : List Thread) → ((n : ℕ) → any (named n) ts ≡ true → n < names) → (name-where p ts == nobody) ≡ not (any p ts)
+pub nobody-passes : (p : Thread → Bool) (ts : List Thread) → ((n : ℕ) → any (named n) ts ≡ true → n < names) →
+    (name-where p ts == nobody) ≡ not (any p ts)
 unfolding name-where any
 nobody-passes p [] low = refl
 nobody-passes p (t ∷ ts) low = go (nobody-passes p ts (λ n h. low n (or-right (n == t .name) (any (named n) ts) h))) (p t)
   where
-    go : (name-where p ts == nobody) ≡ not (any p ts) → (b : Bool) → ((if b then t .name else name-where p ts) == nobody) ≡ not (b || any p ts)
-    go rest true = ne-eqb (t .name) nobody (λ e. omega (arith, e, low (t .name) (or-left (t .name == t .name) (any (named (t .name)) ts) (eq-eqb (t .name) (t .name) refl))))
+    go : (name-where p ts == nobody) ≡ not (any p ts) → (b : Bool) →
+        ((if b then t .name else name-where p ts) == nobody) ≡ not (b || any p ts)
+    go rest true = ne-eqb (t .name) nobody
+        (λ e. omega (arith, e, low (t .name) (or-left (t .name == t .name) (any (named (t .name)) ts) (eq-eqb (t .name) (t .name) refl))))
     go rest false = rest
 
 -- so a name that was found tells whether there is one
-module _ (p : Thread → Bool) (ts : List Thread) (low : (n : ℕ) → any (named n) ts ≡ true → n < names) (n : ℕ) (e : n ≡ name-where p ts) where
-  pub nobody-found : n ≡ nobody → any p ts ≡ false
-  nobody-found z = not-true (any p ts) (sym (nobody-passes p ts low) ∙ eq-eqb _ _ (sym e ∙ z))
+module _ (p : Thread → Bool) (ts : List Thread) (low : (n : ℕ) → any (named n) ts ≡ true → n < names) (n : ℕ) (e : n ≡ name-where p ts)
+  where
+    pub nobody-found : n ≡ nobody → any p ts ≡ false
+    nobody-found z = not-true (any p ts) (sym (nobody-passes p ts low) ∙ eq-eqb _ _ (sym e ∙ z))
 
-  pub somebody-found : n ≢ nobody → any p ts ≡ true
-  somebody-found z = not-false (any p ts) (sym (nobody-passes p ts low) ∙ ne-eqb _ _ (λ i. z (e ∙ i)))
+    pub somebody-found : n ≢ nobody → any p ts ≡ true
+    somebody-found z = not-false (any p ts) (sym (nobody-passes p ts low) ∙ ne-eqb _ _ (λ i. z (e ∙ i)))

@@ -1,5 +1,5 @@
--- The tables without those an ending has found, row by row: m became m₁ without their threads, that became m₂ without them in the ready queue, m₃ without
--- them in the clock queue, m₄ without their messages; and a runner among them runs no more.
+-- The tables without those an ending has found, row by row: m became m₁ without their threads, that became m₂ without them in the ready
+-- queue, m₃ without them in the clock queue, m₄ without their messages; and a runner among them runs no more.
 use Prim.Native.Nat.{ℕ, _≤_}
 use mathlib.Core.Path.{_≡_, refl, sym, ap, _∙_}
 use mathlib.Core.Bool.{Bool, true, false, not, _||_}
@@ -46,8 +46,10 @@ module _ (set : List ℕ) where
   rising-left T r = rising-map _ (rising-keep (T .threads) r (λ t. not (has (t .name) set))) (without-managers set) (λ t. refl)
 
 -- what is asked of a part, where the set is as it was
-along : {m m₁ m′ : List ℕ} {T : Tables} {s₁ s : List ℕ} (f : List ℕ → Tables → Tables) → s₁ ≡ s → Fills m m₁ T → Fills m₁ m′ (f s₁ (tables m₁)) → Fills m m′ (f s T)
-along {m₁ = m₁} {s = s} f e a b = record { says = b .says ∙ (ap (λ (q : List ℕ). f q (tables m₁)) e ∙ ap (f s) (a .says)); same = b .same ∙ a .same; shaped = b .shaped }
+along : {m m₁ m′ : List ℕ} {T : Tables} {s₁ s : List ℕ} (f : List ℕ → Tables → Tables) → s₁ ≡ s → Fills m m₁ T →
+    Fills m₁ m′ (f s₁ (tables m₁)) → Fills m m′ (f s T)
+along {m₁ = m₁} {s = s} f e a b =
+    record { says = b .says ∙ (ap (λ (q : List ℕ). f q (tables m₁)) e ∙ ap (f s) (a .says)); same = b .same ∙ a .same; shaped = b .shaped }
 
 module _ (m : List ℕ) (F : Finding m) where
   -- who is found stays
@@ -62,7 +64,8 @@ module _ (m : List ℕ) (F : Finding m) where
   gone = members (rows-of m)
 
   -- one part after the other
-  module _ (m₁ : List ℕ) (a : ThreadsLeft (rows-of m) (rows-of m₁) (map (without-managers gone) (keep (λ t. not (has (t .name) gone)) (view (rows-of m) .threads)))) where
+  module _ (m₁ : List ℕ) (a : ThreadsLeft (rows-of m) (rows-of m₁)
+      (map (without-managers gone) (keep (λ t. not (has (t .name) gone)) (view (rows-of m) .threads)))) where
     pub kept₁ : Kept (rows-of m₁)
     kept₁ = by Kept (a .only) kept
 
@@ -70,7 +73,8 @@ module _ (m : List ℕ) (F : Finding m) where
     unfolding tables
     left₁ = threads-left (F .holding .shaped) a
 
-    module _ (m₂ : List ℕ) (b : ReadyIs (rows-of m₁) (rows-of m₂) (keep (λ n. not (has n (members (rows-of m₁)))) (view (rows-of m₁) .ready))) where
+    module _ (m₂ : List ℕ) (b : ReadyIs (rows-of m₁) (rows-of m₂)
+        (keep (λ n. not (has n (members (rows-of m₁)))) (view (rows-of m₁) .ready))) where
       pub kept₂ : Kept (rows-of m₂)
       kept₂ = by Kept (b .only) kept₁
 
@@ -78,7 +82,8 @@ module _ (m : List ℕ) (F : Finding m) where
       unfolding tables
       left₂ = along (λ s T. no-ready s T) (kept₁ .0) left₁ (ready-is (left₁ .shaped) b)
 
-      module _ (m₃ : List ℕ) (c : ClockIs (rows-of m₂) (rows-of m₃) (keep (λ n. not (has n (members (rows-of m₂)))) (view (rows-of m₂) .clock))) where
+      module _ (m₃ : List ℕ) (c : ClockIs (rows-of m₂) (rows-of m₃)
+          (keep (λ n. not (has n (members (rows-of m₂)))) (view (rows-of m₂) .clock))) where
         pub kept₃ : Kept (rows-of m₃)
         kept₃ = by Kept (c .only) kept₂
 
@@ -86,41 +91,51 @@ module _ (m : List ℕ) (F : Finding m) where
         unfolding tables
         left₃ = along (λ s T. no-clock s T) (kept₂ .0) left₂ (clock-is (left₂ .shaped) c)
 
-        module _ (m₄ : List ℕ) (d : MessagesAre (rows-of m₃) (rows-of m₄) (keep (λ x. not (has (x .to) (members (rows-of m₃)) || has (x .from) (members (rows-of m₃)))) (view (rows-of m₃) .messages))) where
-          pub kept₄ : Kept (rows-of m₄)
-          kept₄ = by Kept (d .only) kept₃
+        module _ (m₄ : List ℕ) (d : MessagesAre (rows-of m₃) (rows-of m₄)
+            (keep (λ x. not (has (x .to) (members (rows-of m₃)) || has (x .from) (members (rows-of m₃)))) (view (rows-of m₃) .messages)))
+          where
+            pub kept₄ : Kept (rows-of m₄)
+            kept₄ = by Kept (d .only) kept₃
 
-          pub left₄ : Fills m m₄ (shed gone (tables m))
-          unfolding tables
-          left₄ = along (λ s T. no-messages s T) (kept₃ .0) left₃ (messages-are (left₃ .shaped) d)
+            pub left₄ : Fills m m₄ (shed gone (tables m))
+            unfolding tables
+            left₄ = along (λ s T. no-messages s T) (kept₃ .0) left₃ (messages-are (left₃ .shaped) d)
 
-          -- nobody else is the runner now
-          ran : (r : Runner) → r ≡ rows-of m₄ .runner → tables m .runner ≡ r
-          unfolding tables
-          ran r e = sym (ap (λ (T : Tables). T .runner) (left₄ .says)) ∙ sym e
+            -- nobody else is the runner now
+            ran : (r : Runner) → r ≡ rows-of m₄ .runner → tables m .runner ≡ r
+            unfolding tables
+            ran r e = sym (ap (λ (T : Tables). T .runner) (left₄ .says)) ∙ sym e
 
-          removes : {m′ : List ℕ} (r : Runner) → run-left gone (tables m .runner) ≡ r → Fills m m′ (with-runner r (shed gone (tables m))) → Kept (rows-of m′) → Removes m m′ (remove (found m) (tables m))
-          unfolding found limits
-          removes {m′} r e f k =
-              let l : Leaves m m′ (remove gone (tables m))
-              = leaves
-              (record { says = f .says ∙ (ap (λ (q : Runner). with-runner q (shed gone (tables m))) (sym e) ∙ shed-is gone (tables m)); same = f .same; shaped = f .shaped })
-              (rising-left gone (tables m) (F .holding .rising)) in
-              record { leaves = l; set = k .0; finding = record { holding = l .holding; low = k .1 } }
+            removes : {m′ : List ℕ} (r : Runner) → run-left gone (tables m .runner) ≡ r →
+                Fills m m′ (with-runner r (shed gone (tables m))) →
+                Kept (rows-of m′) → Removes m m′ (remove (found m) (tables m))
+            unfolding found limits
+            removes {m′} r e f k =
+                let l : Leaves m m′ (remove gone (tables m))
+                = leaves
+                (record {
+                  says = f .says ∙ (ap (λ (q : Runner). with-runner q (shed gone (tables m))) (sym e) ∙ shed-is gone (tables m));
+                  same = f .same;
+                  shaped = f .shaped;
+                })
+                (rising-left gone (tables m) (F .holding .rising)) in
+                record { leaves = l; set = k .0; finding = record { holding = l .holding; low = k .1 } }
 
-          pub removed-idle : (r : Runner) → r ≡ rows-of m₄ .runner → r ≡ NoRunner → Removes m m₄ (remove (found m) (tables m))
-          removed-idle r e n =
-              let w : tables m .runner ≡ NoRunner = ran r e ∙ n in
-              removes (tables m .runner) (ap (run-left gone) w ∙ sym w) left₄ kept₄
+            pub removed-idle : (r : Runner) → r ≡ rows-of m₄ .runner → r ≡ NoRunner → Removes m m₄ (remove (found m) (tables m))
+            removed-idle r e n =
+                let w : tables m .runner ≡ NoRunner = ran r e ∙ n in
+                removes (tables m .runner) (ap (run-left gone) w ∙ sym w) left₄ kept₄
 
-          module _ (r : Runner) (k s : ℕ) (e : r ≡ rows-of m₄ .runner) (w : r ≡ Runs k s) where
-            known : {b : Bool} → has k (members (rows-of m₄)) ≡ b → run-left gone (tables m .runner) ≡ (if b then NoRunner else Runs k s)
-            known {b} h =
-                ap (run-left gone) (ran r e ∙ w)
-                ∙ ap (λ (t : Bool). if t then NoRunner else Runs k s) (ap (has k) (sym (kept₄ .0)) ∙ h)
+            module _ (r : Runner) (k s : ℕ) (e : r ≡ rows-of m₄ .runner) (w : r ≡ Runs k s) where
+              known : {b : Bool} → has k (members (rows-of m₄)) ≡ b → run-left gone (tables m .runner) ≡ (if b then NoRunner else Runs k s)
+              known {b} h =
+                  ap (run-left gone) (ran r e ∙ w)
+                  ∙ ap (λ (t : Bool). if t then NoRunner else Runs k s) (ap (has k) (sym (kept₄ .0)) ∙ h)
 
-            pub removed-stays : has k (members (rows-of m₄)) ≡ false → Removes m m₄ (remove (found m) (tables m))
-            removed-stays h = removes (tables m .runner) (known h ∙ sym (ran r e ∙ w)) left₄ kept₄
+              pub removed-stays : has k (members (rows-of m₄)) ≡ false → Removes m m₄ (remove (found m) (tables m))
+              removed-stays h = removes (tables m .runner) (known h ∙ sym (ran r e ∙ w)) left₄ kept₄
 
-            pub removed-ends : (m₅ : List ℕ) → has k (members (rows-of m₄)) ≡ true → rows-of m₅ ≡ put-runner NoRunner (rows-of m₄) → Removes m m₅ (remove (found m) (tables m))
-            removed-ends m₅ h p = removes NoRunner (known h) (after (with-runner NoRunner) left₄ (runner-put (left₄ .shaped) NoRunner p)) (by Kept p kept₄)
+              pub removed-ends : (m₅ : List ℕ) → has k (members (rows-of m₄)) ≡ true → rows-of m₅ ≡ put-runner NoRunner (rows-of m₄) →
+                  Removes m m₅ (remove (found m) (tables m))
+              removed-ends m₅ h p =
+                  removes NoRunner (known h) (after (with-runner NoRunner) left₄ (runner-put (left₄ .shaped) NoRunner p)) (by Kept p kept₄)

@@ -41,16 +41,20 @@ module _ (m : List ℕ) (s : Shaped m) where
   found-here h = (s .roomy, omega (arith, s .threads))
 
   -- and noted, after a thread was written
-  pub can-hint : {i : ℕ} (m₁ : List ℕ) (g : Thread → Thread) → rows-of m₁ ≡ put-threads (set (rows-of m .threads) i (g (getD (rows-of m .threads) i no-thread))) (rows-of m) → i < rows-of m .count → Roomy (rows-of m₁) × (i < 4294967296)
+  pub can-hint : {i : ℕ} (m₁ : List ℕ) (g : Thread → Thread) →
+      rows-of m₁ ≡ put-threads (set (rows-of m .threads) i (g (getD (rows-of m .threads) i no-thread))) (rows-of m) → i < rows-of m .count →
+      Roomy (rows-of m₁) × (i < 4294967296)
   unfolding Shaped
   can-hint m₁ g e h = (by Roomy e (s .roomy), omega (arith, s .threads, s .roomy .low))
 
-pub can-find : (m : List ℕ) → Holding m → (n : ℕ) → Roomy (rows-of m) × (rows-of m .count ≤ rows-of m .limits .threads) × (count (named n) (view (rows-of m) .threads) ≤ 1)
+pub can-find : (m : List ℕ) → Holding m → (n : ℕ) → Roomy (rows-of m) × (rows-of m .count ≤ rows-of m .limits .threads)
+    × (count (named n) (view (rows-of m) .threads) ≤ 1)
 unfolding tables Shaped
 can-find m H n = (H .shaped .roomy, H .shaped .threads, H .once n)
 
 -- where a name belongs is told by the order
-pub can-place : (m : List ℕ) → Holding m → Roomy (rows-of m) × (rows-of m .count ≤ rows-of m .limits .threads) × Rising (view (rows-of m) .threads)
+pub can-place : (m : List ℕ) → Holding m → Roomy (rows-of m) × (rows-of m .count ≤ rows-of m .limits .threads)
+    × Rising (view (rows-of m) .threads)
 unfolding tables Shaped
 can-place m H = (H .shaped .roomy, H .shaped .threads, H .rising)
 
@@ -113,7 +117,8 @@ unfolding place name-where
 name-at p [] d h = absurd (omega arith)
 name-at p (t ∷ ts) d h = go (name-at p ts d) (p t) h
   where
-    go : (place p ts < length ts → getD ts (place p ts) d .name ≡ name-where p ts) → (b : Bool) → (if b then 0 else suc (place p ts)) < suc (length ts) →
+    go : (place p ts < length ts → getD ts (place p ts) d .name ≡ name-where p ts) → (b : Bool) →
+        (if b then 0 else suc (place p ts)) < suc (length ts) →
         getD (t ∷ ts) (if b then 0 else suc (place p ts)) d .name ≡ (if b then t .name else name-where p ts)
     go r true h = refl
     go r false h = r (omega arith)
@@ -123,7 +128,8 @@ unfolding place name-where
 no-name p [] h = refl
 no-name p (t ∷ ts) h = go (no-name p ts) (p t) h
   where
-    go : (length ts ≤ place p ts → nobody ≡ name-where p ts) → (b : Bool) → suc (length ts) ≤ (if b then 0 else suc (place p ts)) → nobody ≡ (if b then t .name else name-where p ts)
+    go : (length ts ≤ place p ts → nobody ≡ name-where p ts) → (b : Bool) → suc (length ts) ≤ (if b then 0 else suc (place p ts)) →
+        nobody ≡ (if b then t .name else name-where p ts)
     go r true h = absurd (omega arith)
     go r false h = r (omega arith)
 
@@ -145,7 +151,8 @@ module _ (m : List ℕ) (H : Holding m) (k i : ℕ) (f : i ≡ place (named k) (
   pub live-found : ltb i (rows-of m .count) ≡ live k (tables m)
   unfolding tables
   live-found =
-      ap (λ (j : ℕ). ltb i j) (threads-length m (H .shaped)) ∙ (ap (λ (j : ℕ). ltb j (length (tables m .threads))) f ∙ sym (any-place (named k) (tables m .threads)))
+      ap (λ (j : ℕ). ltb i j) (threads-length m (H .shaped))
+      ∙ (ap (λ (j : ℕ). ltb j (length (tables m .threads))) f ∙ sym (any-place (named k) (tables m .threads)))
 
   module _ {B : Type 0} (other : B) (g : Thread → B) where
     pub of-found : i < rows-of m .count → g (getD (rows-of m .threads) i no-thread) ≡ of-thread other g k (tables m .threads)
@@ -158,18 +165,23 @@ module _ (m : List ℕ) (H : Holding m) (k i : ℕ) (f : i ≡ place (named k) (
 
   -- and is changed, but for its name
   module _ (g : Thread → Thread) (keeps : (t : Thread) → g t .name ≡ t .name) where
-    pub changed : {m′ : List ℕ} → i < rows-of m .count → rows-of m′ ≡ put-threads (set (rows-of m .threads) i (g (getD (rows-of m .threads) i no-thread))) (rows-of m) → Leaves m m′ (change k g (tables m))
+    pub changed : {m′ : List ℕ} → i < rows-of m .count →
+        rows-of m′ ≡ put-threads (set (rows-of m .threads) i (g (getD (rows-of m .threads) i no-thread))) (rows-of m) →
+        Leaves m m′ (change k g (tables m))
     unfolding tables Shaped change
     changed h e =
         leaves
         (fills _ e
-        (ap (λ (l : List Thread). with-threads l (view (rows-of m))) (sym (found-map (named k) (rows-of m .count) (rows-of m .threads) i (threads-whole m _ (H .shaped)) f g no-thread (H .once k) h)))
+        (ap (λ (l : List Thread). with-threads l (view (rows-of m)))
+        (sym (found-map (named k) (rows-of m .count) (rows-of m .threads) i (threads-whole m _ (H .shaped)) f g no-thread (H .once k) h)))
         refl
         (H .shaped))
         (rising-where (tables m .threads) (H .rising) (named k) g keeps)
 
     -- a hint is no part of the rows
-    pub changed-hinted : {m′ : List ℕ} (m₁ : List ℕ) → i < rows-of m .count → rows-of m₁ ≡ put-threads (set (rows-of m .threads) i (g (getD (rows-of m .threads) i no-thread))) (rows-of m) → rows-of m′ ≡ rows-of m₁ → Leaves m m′ (change k g (tables m))
+    pub changed-hinted : {m′ : List ℕ} (m₁ : List ℕ) → i < rows-of m .count →
+        rows-of m₁ ≡ put-threads (set (rows-of m .threads) i (g (getD (rows-of m .threads) i no-thread))) (rows-of m) →
+        rows-of m′ ≡ rows-of m₁ → Leaves m m′ (change k g (tables m))
     changed-hinted m₁ h e d = changed h (d ∙ e)
 
     pub unchanged : rows-of m .count ≤ i → Leaves m m (change k g (tables m))
@@ -177,23 +189,26 @@ module _ (m : List ℕ) (H : Holding m) (k i : ℕ) (f : i ≡ place (named k) (
     unchanged h =
         leaves
         (fills (rows-of m) refl
-        (ap (λ (l : List Thread). with-threads l (view (rows-of m))) (sym (no-map (named k) (rows-of m .count) (rows-of m .threads) i (threads-whole m _ (H .shaped)) f g h)))
+        (ap (λ (l : List Thread). with-threads l (view (rows-of m)))
+        (sym (no-map (named k) (rows-of m .count) (rows-of m .threads) i (threads-whole m _ (H .shaped)) f g h)))
         refl
         (H .shaped))
         (rising-where (tables m .threads) (H .rising) (named k) g keeps)
 
 -- ---- the place of a newcomer
 
-module _ (m : List ℕ) (H : Holding m) (t : Thread) (i : ℕ) (f : i ≡ place (λ u. not (ltb (u .name) (t .name))) (view (rows-of m) .threads)) where
-  pub place-inside : i ≤ rows-of m .count
-  unfolding Shaped
-  place-inside = found-within _ (rows-of m .count) (rows-of m .threads) i (threads-whole m _ (H .shaped)) f
+module _ (m : List ℕ) (H : Holding m) (t : Thread) (i : ℕ) (f : i ≡ place (λ u. not (ltb (u .name) (t .name))) (view (rows-of m) .threads))
+  where
+    pub place-inside : i ≤ rows-of m .count
+    unfolding Shaped
+    place-inside = found-within _ (rows-of m .count) (rows-of m .threads) i (threads-whole m _ (H .shaped)) f
 
-  pub came-in : {m′ : List ℕ} → live (t .name) (tables m) ≡ false → ThreadsLeft (rows-of m) (rows-of m′) (take i (view (rows-of m) .threads) ++ t ∷ drop i (view (rows-of m) .threads)) →
-      Leaves m m′ (with-threads (insert (λ u. ltb (u .name) (t .name)) t (tables m .threads)) (tables m))
-  unfolding tables
-  came-in new q =
-      let e : insert (λ u. ltb (u .name) (t .name)) t (tables m .threads) ≡ take i (tables m .threads) ++ t ∷ drop i (tables m .threads)
-      = insert-at (λ u. ltb (u .name) (t .name)) (λ u. not (ltb (u .name) (t .name))) (λ u. refl) t (tables m .threads)
-      ∙ ap (λ (j : ℕ). take j (tables m .threads) ++ t ∷ drop j (tables m .threads)) (sym f) in
-      leaves (rw e (threads-left (H .shaped) q)) (rising-insert (tables m .threads) (H .rising) t new)
+    pub came-in : {m′ : List ℕ} → live (t .name) (tables m) ≡ false →
+        ThreadsLeft (rows-of m) (rows-of m′) (take i (view (rows-of m) .threads) ++ t ∷ drop i (view (rows-of m) .threads)) →
+        Leaves m m′ (with-threads (insert (λ u. ltb (u .name) (t .name)) t (tables m .threads)) (tables m))
+    unfolding tables
+    came-in new q =
+        let e : insert (λ u. ltb (u .name) (t .name)) t (tables m .threads) ≡ take i (tables m .threads) ++ t ∷ drop i (tables m .threads)
+        = insert-at (λ u. ltb (u .name) (t .name)) (λ u. not (ltb (u .name) (t .name))) (λ u. refl) t (tables m .threads)
+        ∙ ap (λ (j : ℕ). take j (tables m .threads) ++ t ∷ drop j (tables m .threads)) (sym f) in
+        leaves (rw e (threads-left (H .shaped) q)) (rising-insert (tables m .threads) (H .rising) t new)

@@ -8,12 +8,14 @@ use borrow.Author.Tests.{eqb-false}
 use lib.Dec.{ltb}
 use lib.ListN.{take}
 use Rattle.rules.specs.Lists.{if_then_else_, any, keep, count, insert}
-use Rattle.rules.specs.Tables.{Tables, with-last, with-runner, with-time, with-threads, with-ready, with-clock, with-messages, with-held, named}
+use Rattle.rules.specs.Tables.{Tables, with-last, with-runner, with-time, with-threads, with-ready, with-clock, with-messages, with-held}
+use Rattle.rules.specs.Tables.{named}
 use Rattle.laws.specs.Words.{Thread, Message, Held, Runner}
 use Rattle.laws.specs.Types.{Rising}
 use Rattle.laws.proofs.Tally.{not-any}
 use Rattle.laws.proofs.Ordered.{keep-less, up-less, up-map, up-insert, up-once}
-use Rattle.memory.specs.Rows.{Rows, view, Fits, put-last, put-runner, put-since, put-beats, put-clocks, put-held, ReadyIs, ClockIs, ThreadsAre, ThreadsLeft, MessagesAre, MembersAre, Woken}
+use Rattle.memory.specs.Rows.{Rows, view, Fits, put-last, put-runner, put-since, put-beats, put-clocks, put-held, ReadyIs, ClockIs}
+use Rattle.memory.specs.Rows.{ThreadsAre, ThreadsLeft, MessagesAre, MembersAre, Woken}
 use Rattle.memory.specs.Memory.{rows-of}
 use Rattle.moving.proofs.Steps.{by}
 use Rattle.store.specs.Store.{limits, tables, Shaped, Holding, Leaves, Fills, found, Finds}
@@ -24,11 +26,17 @@ module _ {m m′ : List ℕ} where
   -- whose rows are r
   pub fills : {T : Tables} (r : Rows) → rows-of m′ ≡ r → view r ≡ T → r .limits ≡ rows-of m .limits → Fits (r .limits) r → Fills m m′ T
   unfolding tables limits Shaped
-  fills r e v l f = record { says = ap view e ∙ v; same = ap (λ (s : Rows). s .limits) e ∙ l; shaped = by (λ (s : Rows). Fits (s .limits) s) e f }
+  fills r e v l f =
+      record { says = ap view e ∙ v; same = ap (λ (s : Rows). s .limits) e ∙ l; shaped = by (λ (s : Rows). Fits (s .limits) s) e f }
 
   pub leaves : {T : Tables} → Fills m m′ T → Rising (T .threads) → Leaves m m′ T
   leaves {T} f r =
-      record { says = f .says; same = f .same; holding = record { shaped = f .shaped; rising = rw (f .says) r; once = λ n. rw (f .says) (up-once (λ t. t .name) n (T .threads) r) } }
+      record {
+        says = f .says;
+        same = f .same;
+        holding =
+            record { shaped = f .shaped; rising = rw (f .says) r; once = λ n. rw (f .says) (up-once (λ t. t .name) n (T .threads) r) };
+      }
 
   module _ (s : Shaped m) where
     pub last-put : (n : ℕ) → rows-of m′ ≡ put-last n (rows-of m) → Fills m m′ (with-last n (tables m))
@@ -40,7 +48,8 @@ module _ {m m′ : List ℕ} where
     runner-put r e = fills _ e refl refl s
 
     -- by way of m₁
-    pub time-put : (m₁ : List ℕ) (n b : ℕ) → rows-of m₁ ≡ put-since n (rows-of m) → rows-of m′ ≡ put-beats b (rows-of m₁) → Fills m m′ (with-time n b (tables m))
+    pub time-put : (m₁ : List ℕ) (n b : ℕ) → rows-of m₁ ≡ put-since n (rows-of m) → rows-of m′ ≡ put-beats b (rows-of m₁) →
+        Fills m m′ (with-time n b (tables m))
     unfolding tables Shaped
     time-put m₁ n b d e = fills _ (e ∙ ap (put-beats b) d) refl refl s
 
@@ -63,7 +72,8 @@ module _ {m m′ : List ℕ} where
     -- nobody waits for the clock
     pub clock-none : rows-of m′ ≡ put-clocks 0 (rows-of m) → Fills m m′ (with-clock [] (tables m))
     unfolding tables Shaped
-    clock-none e = fills _ e refl refl (record { limits = refl; roomy = s .roomy; threads = s .threads; ready = s .ready; clock = omega arith; messages = s .messages })
+    clock-none e = fills _ e refl refl
+        (record { limits = refl; roomy = s .roomy; threads = s .threads; ready = s .ready; clock = omega arith; messages = s .messages })
 
     pub messages-are : {l : List Message} → MessagesAre (rows-of m) (rows-of m′) l → Fills m m′ (with-messages l (tables m))
     unfolding tables Shaped
@@ -87,11 +97,13 @@ module _ {m m′ : List ℕ} where
         refl
         s
 
-    pub woken : {ts : List Thread} {l : List ℕ} → Woken (rows-of m) (rows-of m′) ts l → Fills m m′ (with-ready l (with-threads ts (tables m)))
+    pub woken : {ts : List Thread} {l : List ℕ} → Woken (rows-of m) (rows-of m′) ts l →
+        Fills m m′ (with-ready l (with-threads ts (tables m)))
     unfolding tables Shaped
     woken {ts} q =
         fills _ (q .only)
-        (ap (λ (r : Rows). with-ready (view (rows-of m′) .ready) (with-threads (take (r .count) (rows-of m′ .threads)) (view (rows-of m)))) (sym (q .only))
+        (ap (λ (r : Rows). with-ready (view (rows-of m′) .ready) (with-threads (take (r .count) (rows-of m′ .threads)) (view (rows-of m))))
+        (sym (q .only))
         ∙ ap (λ (l : List Thread). with-ready (view (rows-of m′) .ready) (with-threads l (view (rows-of m)))) (q .threads)
         ∙ ap (λ (l : List ℕ). with-ready l (with-threads ts (view (rows-of m)))) (q .ready))
         refl
@@ -126,7 +138,8 @@ module _ (ts : List Thread) (r : Rising ts) where
   pub rising-map : (f : Thread → Thread) → ((t : Thread) → f t .name ≡ t .name) → Rising (map f ts)
   rising-map f e = up-map (λ t. t .name) f e ts r
 
-  pub rising-where : (p : Thread → Bool) (f : Thread → Thread) → ((t : Thread) → f t .name ≡ t .name) → Rising (map (λ t. if p t then f t else t) ts)
+  pub rising-where : (p : Thread → Bool) (f : Thread → Thread) → ((t : Thread) → f t .name ≡ t .name) →
+      Rising (map (λ t. if p t then f t else t) ts)
   rising-where p f e = rising-map _ (λ t. go t (p t))
     where
       go : (t : Thread) (b : Bool) → (if b then f t else t) .name ≡ t .name

@@ -1,4 +1,5 @@
--- What a memory stands for, in the words of the contracts. All that is above the store speaks of these; none of it looks inside Shaped and Holding.
+-- What a memory stands for, in the words of the contracts. All that is above the store speaks of these; none of it looks inside Shaped
+-- and Holding.
 use Prim.Native.Nat.{ℕ, _≤_}
 use mathlib.Core.Path.{_≡_}
 use mathlib.Core.Bool.{Bool}

@@ -30,8 +30,11 @@ pub fn ended_count(m: &[u32]) -> usize
 
 // A round: those join that depend on who was in the set when it began.
 pub fn grow_ended(m: &mut [u32], marks: &mut [u8; 256])
-    requires { ⌜ Finding (now m) × (length (found (now m)) + count-of (λ t. depends (found (now m)) t && not (has (t .name) (found (now m)))) (tables (now m) .threads) ≤ limits (now m) .threads) × Marks (found (now m)) (now marks) ⌝ }
-    ensures { λ _. ⌜ Finds (now (m .entry)) (now (m .exit)) (grow-of (tables (now (m .entry)) .threads) (found (now (m .entry)))) × Marks (found (now (m .exit))) (now (marks .exit)) ⌝ }
+    requires { ⌜ Finding (now m)
+        × (length (found (now m)) + count-of (λ t. depends (found (now m)) t && not (has (t .name) (found (now m))))
+        (tables (now m) .threads) ≤ limits (now m) .threads) × Marks (found (now m)) (now marks) ⌝ }
+    ensures { λ _. ⌜ Finds (now (m .entry)) (now (m .exit)) (grow-of (tables (now (m .entry)) .threads) (found (now (m .entry))))
+        × Marks (found (now (m .exit))) (now (marks .exit)) ⌝ }
 {
     members::grow(m, marks);
 }
@@ -58,7 +61,9 @@ pub fn remove_ended(m: &mut [u32], marks: &[u8; 256])
 
 // Those that receive from one of the set become ready, by rising name, told that the sender is gone.
 pub fn release_ended(m: &mut [u32], marks: &[u8; 256])
-    requires { ⌜ Finding (now m) × (length (tables (now m) .ready) + count-of (λ t. misses (found (now m)) (t .state)) (tables (now m) .threads) ≤ limits (now m) .threads) × Marks (found (now m)) (now marks) ⌝ }
+    requires { ⌜ Finding (now m)
+        × (length (tables (now m) .ready) + count-of (λ t. misses (found (now m)) (t .state)) (tables (now m) .threads) ≤ limits
+        (now m) .threads) × Marks (found (now m)) (now marks) ⌝ }
     ensures { λ _. ⌜ Leaves (now (m .entry)) (now (m .exit)) (release-of (found (now (m .entry))) (tables (now (m .entry)))) ⌝ }
 {
     without::receivers(m, marks);

@@ -18,7 +18,8 @@ ghost use Rattle.store.specs.Store.{limits, tables, Shaped, Holding, Fil
 // Whatever stood there, the memory has these limits and holds nothing.
 pub fn clear(m: &mut [u32], threads: u32, blocks: u32)
     requires { ⌜ Room (record { threads = threads; blocks = blocks }) (length (now m)) ⌝ }
-    ensures { λ _. ⌜ (tables (now (m .exit)) ≡ nothing) × (limits (now (m .exit)) ≡ record { threads = threads; blocks = blocks }) × Holding (now (m .exit)) ⌝ }
+    ensures { λ _. ⌜ (tables (now (m .exit)) ≡ nothing) × (limits (now (m .exit)) ≡ record { threads = threads; blocks = blocks })
+        × Holding (now (m .exit)) ⌝ }
 {
     rows::clear(m, threads, blocks);
 }
@@ -26,7 +27,8 @@ pub fn clear(m: &mut [u32], threads: u32, blocks: u32)
 // A thread behind the others.
 pub fn fill_thread(m: &mut [u32], t: Thread)
     requires { ⌜ Shaped (now m) × (length (tables (now m) .threads) < limits (now m) .threads) ⌝ }
-    ensures { λ _. ⌜ Fills (now (m .entry)) (now (m .exit)) (with-threads (tables (now (m .entry)) .threads ++ (t ∷ [])) (tables (now (m .entry)))) ⌝ }
+    ensures { λ _. ⌜ Fills (now (m .entry)) (now (m .exit))
+        (with-threads (tables (now (m .entry)) .threads ++ (t ∷ [])) (tables (now (m .entry)))) ⌝ }
 {
     let n = rows::count(m);
     rows::put_thread(m, n, t);
@@ -35,14 +37,16 @@ pub fn fill_thread(m: &mut [u32], t: Thread)
 
 pub fn fill_ready(m: &mut [u32], name: u8)
     requires { ⌜ Shaped (now m) × (length (tables (now m) .ready) < limits (now m) .threads) ⌝ }
-    ensures { λ _. ⌜ Fills (now (m .entry)) (now (m .exit)) (with-ready (tables (now (m .entry)) .ready ++ (name ∷ [])) (tables (now (m .entry)))) ⌝ }
+    ensures { λ _. ⌜ Fills (now (m .entry)) (now (m .exit))
+        (with-ready (tables (now (m .entry)) .ready ++ (name ∷ [])) (tables (now (m .entry)))) ⌝ }
 {
     queues::join(m, name);
 }
 
 pub fn fill_clock(m: &mut [u32], name: u8)
     requires { ⌜ Shaped (now m) × (length (tables (now m) .clock) < limits (now m) .threads) ⌝ }
-    ensures { λ _. ⌜ Fills (now (m .entry)) (now (m .exit)) (with-clock (tables (now (m .entry)) .clock ++ (name ∷ [])) (tables (now (m .entry)))) ⌝ }
+    ensures { λ _. ⌜ Fills (now (m .entry)) (now (m .exit))
+        (with-clock (tables (now (m .entry)) .clock ++ (name ∷ [])) (tables (now (m .entry)))) ⌝ }
 {
     queues::join_waiters(m, name);
 }
@@ -50,7 +54,8 @@ pub fn fill_clock(m: &mut [u32], name: u8)
 // A message behind the others.
 pub fn fill_message(m: &mut [u32], x: Message)
     requires { ⌜ Shaped (now m) × (length (tables (now m) .messages) < limits (now m) .threads + limits (now m) .blocks) ⌝ }
-    ensures { λ _. ⌜ Fills (now (m .entry)) (now (m .exit)) (with-messages (tables (now (m .entry)) .messages ++ (x ∷ [])) (tables (now (m .entry)))) ⌝ }
+    ensures { λ _. ⌜ Fills (now (m .entry)) (now (m .exit))
+        (with-messages (tables (now (m .entry)) .messages ++ (x ∷ [])) (tables (now (m .entry)))) ⌝ }
 {
     let n = rows::letters(m);
     rows::put_message(m, n, x);
@@ -60,7 +65,8 @@ pub fn fill_message(m: &mut [u32], x: Message)
 // A held word. `hold` asks for names that come once, and held words have nothing to do with names.
 pub fn fill_held(m: &mut [u32], d: u8, word: u32)
     requires { ⌜ Shaped (now m) × (d < devices) × (all (λ h. ltb (h .device) devices) (tables (now m) .held) ≡ true) ⌝ }
-    ensures { λ _. ⌜ Fills (now (m .entry)) (now (m .exit)) (with-held (hold-of d word (tables (now (m .entry)) .held)) (tables (now (m .entry)))) ⌝ }
+    ensures { λ _. ⌜ Fills (now (m .entry)) (now (m .exit))
+        (with-held (hold-of d word (tables (now (m .entry)) .held)) (tables (now (m .entry)))) ⌝ }
 {
     rows::hold(m, d, word);
 }

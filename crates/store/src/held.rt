@@ -28,7 +28,8 @@ pub fn held_word(m: &[u32], d: u8) -> u32
 // A word is held for a device, in place of one held before.
 pub fn hold(m: &mut [u32], d: u8, word: u32)
     requires { ⌜ Holding (now m) × (d < devices) × (all (λ h. ltb (h .device) devices) (tables (now m) .held) ≡ true) ⌝ }
-    ensures { λ _. ⌜ Leaves (now (m .entry)) (now (m .exit)) (with-held (hold-of d word (tables (now (m .entry)) .held)) (tables (now (m .entry)))) ⌝ }
+    ensures { λ _. ⌜ Leaves (now (m .entry)) (now (m .exit))
+        (with-held (hold-of d word (tables (now (m .entry)) .held)) (tables (now (m .entry)))) ⌝ }
 {
     rows::hold(m, d, word);
 }
@@ -36,7 +37,8 @@ pub fn hold(m: &mut [u32], d: u8, word: u32)
 // No word is held for a device.
 pub fn clear_held(m: &mut [u32], d: u8)
     requires { ⌜ Holding (now m) × (d < devices) × (all (λ h. ltb (h .device) devices) (tables (now m) .held) ≡ true) ⌝ }
-    ensures { λ _. ⌜ Leaves (now (m .entry)) (now (m .exit)) (with-held (keep (λ h. not (held-for d h)) (tables (now (m .entry)) .held)) (tables (now (m .entry)))) ⌝ }
+    ensures { λ _. ⌜ Leaves (now (m .entry)) (now (m .exit))
+        (with-held (keep (λ h. not (held-for d h)) (tables (now (m .entry)) .held)) (tables (now (m .entry)))) ⌝ }
 {
     rows::clear_held(m, d);
 }

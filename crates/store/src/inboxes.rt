@@ -70,7 +70,8 @@ pub fn take_message(m: &mut [u32], me: u8, w: Wanted) -> Taken
 // An unread notice of a thread goes.
 pub fn discard_notice(m: &mut [u32], name: u8)
     requires { ⌜ Holding (now m) ⌝ }
-    ensures { λ _. ⌜ Leaves (now (m .entry)) (now (m .exit)) (with-messages (keep (λ x. not (notice-of name x)) (tables (now (m .entry)) .messages)) (tables (now (m .entry)))) ⌝ }
+    ensures { λ _. ⌜ Leaves (now (m .entry)) (now (m .exit))
+        (with-messages (keep (λ x. not (notice-of name x)) (tables (now (m .entry)) .messages)) (tables (now (m .entry)))) ⌝ }
 {
     messages::drop_notice(m, name);
 }

@@ -46,7 +46,8 @@ pub fn clock_at(m: &[u32], i: usize) -> u8
 // A name joins the ready queue at its tail.
 pub fn join_ready(m: &mut [u32], name: u8)
     requires { ⌜ Holding (now m) × (length (tables (now m) .ready) < limits (now m) .threads) ⌝ }
-    ensures { λ _. ⌜ Leaves (now (m .entry)) (now (m .exit)) (with-ready (tables (now (m .entry)) .ready ++ (name ∷ [])) (tables (now (m .entry)))) ⌝ }
+    ensures { λ _. ⌜ Leaves (now (m .entry)) (now (m .exit))
+        (with-ready (tables (now (m .entry)) .ready ++ (name ∷ [])) (tables (now (m .entry)))) ⌝ }
 {
     queues::join(m, name);
 }
@@ -54,7 +55,8 @@ pub fn join_ready(m: &mut [u32], name: u8)
 // The front of the ready queue goes.
 pub fn drop_front(m: &mut [u32])
     requires { ⌜ Holding (now m) × (0 < length (tables (now m) .ready)) ⌝ }
-    ensures { λ _. ⌜ Leaves (now (m .entry)) (now (m .exit)) (with-ready (drop 1 (tables (now (m .entry)) .ready)) (tables (now (m .entry)))) ⌝ }
+    ensures { λ _. ⌜ Leaves (now (m .entry)) (now (m .exit))
+        (with-ready (drop 1 (tables (now (m .entry)) .ready)) (tables (now (m .entry)))) ⌝ }
 {
     queues::drop_front(m);
 }
@@ -62,7 +64,8 @@ pub fn drop_front(m: &mut [u32])
 // A name joins those who wait for the clock.
 pub fn join_clock(m: &mut [u32], name: u8)
     requires { ⌜ Holding (now m) × (length (tables (now m) .clock) < limits (now m) .threads) ⌝ }
-    ensures { λ _. ⌜ Leaves (now (m .entry)) (now (m .exit)) (with-clock (tables (now (m .entry)) .clock ++ (name ∷ [])) (tables (now (m .entry)))) ⌝ }
+    ensures { λ _. ⌜ Leaves (now (m .entry)) (now (m .exit))
+        (with-clock (tables (now (m .entry)) .clock ++ (name ∷ [])) (tables (now (m .entry)))) ⌝ }
 {
     queues::join_waiters(m, name);
 }
@@ -70,7 +73,9 @@ pub fn join_clock(m: &mut [u32], name: u8)
 // All who wait for the clock become ready, in order of waiting, with the number of the beat.
 pub fn wake_clock(m: &mut [u32], beats: u32)
     requires { ⌜ Holding (now m) × (length (tables (now m) .ready) + length (tables (now m) .clock) ≤ limits (now m) .threads) ⌝ }
-    ensures { λ _. ⌜ Leaves (now (m .entry)) (now (m .exit)) (wake-those (λ t. on-clock (t .state)) (λ t. ResultIs beats) (tables (now (m .entry)) .clock) (with-clock [] (tables (now (m .entry))))) ⌝ }
+    ensures { λ _. ⌜ Leaves (now (m .entry)) (now (m .exit))
+        (wake-those (λ t. on-clock (t .state)) (λ t. ResultIs beats) (tables (now (m .entry)) .clock)
+        (with-clock [] (tables (now (m .entry))))) ⌝ }
 {
     threads::wake_clock(m, beats);
     queues::join_clock(m);

@@ -15,7 +15,8 @@ ghost use Prim.Native.Nat.{_<_};
 ghost use lib.Dec.{ltb};
 ghost use lib.ListN.{length, getD};
 ghost use Rattle.rules.specs.Lists.{any, insert};
-ghost use Rattle.rules.specs.Tables.{of-thread, live, change, in-state, with-ticks, with-threads, with-managers, set-entry, manager as manager-in};
+ghost use Rattle.rules.specs.Tables.{of-thread, live, change, in-state, with-ticks, with-threads, with-managers, set-entry};
+ghost use Rattle.rules.specs.Tables.{manager as manager-in};
 ghost use Rattle.rules.specs.States.{receives, waits-for, wakes-from-outside, awaits};
 ghost use Rattle.rules.specs.Tick.{one-more};
 ghost use Rattle.rules.specs.Refusals.{no-thread-free};
@@ -188,7 +189,8 @@ pub fn turn(m: &mut [u32], name: u8, s: State, a: Answer)
 // Its tick count rises by 1; from 4,294,967,295 it goes to 0.
 pub fn add_tick(m: &mut [u32], name: u8)
     requires { ⌜ Holding (now m) ⌝ }
-    ensures { λ _. ⌜ Leaves (now (m .entry)) (now (m .exit)) (change name (λ t. with-ticks (one-more (t .ticks)) t) (tables (now (m .entry)))) ⌝ }
+    ensures { λ _. ⌜ Leaves (now (m .entry)) (now (m .exit))
+        (change name (λ t. with-ticks (one-more (t .ticks)) t) (tables (now (m .entry)))) ⌝ }
 {
     let i = threads::find(m, name);
     if i < rows::count(m) {
@@ -200,7 +202,8 @@ pub fn add_tick(m: &mut [u32], name: u8)
 // Its manager entry of a kind.
 pub fn set_manager(m: &mut [u32], name: u8, k: TrapKind, g: Manager)
     requires { ⌜ Holding (now m) ⌝ }
-    ensures { λ _. ⌜ Leaves (now (m .entry)) (now (m .exit)) (change name (λ t. with-managers (set-entry k g (t .managers)) t) (tables (now (m .entry)))) ⌝ }
+    ensures { λ _. ⌜ Leaves (now (m .entry)) (now (m .exit))
+        (change name (λ t. with-managers (set-entry k g (t .managers)) t) (tables (now (m .entry)))) ⌝ }
 {
     let i = threads::find(m, name);
     if i < rows::count(m) {
@@ -210,8 +213,10 @@ pub fn set_manager(m: &mut [u32], name: u8, k: TrapKind, g: Manager)
 
 // A newcomer, at the place of its name.
 pub fn add_thread(m: &mut [u32], t: Thread)
-    requires { ⌜ Holding (now m) × (length (tables (now m) .threads) < limits (now m) .threads) × (live (t .name) (tables (now m)) ≡ false) ⌝ }
-    ensures { λ _. ⌜ Leaves (now (m .entry)) (now (m .exit)) (with-threads (insert (λ u. ltb (u .name) (t .name)) t (tables (now (m .entry)) .threads)) (tables (now (m .entry)))) ⌝ }
+    requires { ⌜ Holding (now m) × (length (tables (now m) .threads) < limits (now m) .threads)
+        × (live (t .name) (tables (now m)) ≡ false) ⌝ }
+    ensures { λ _. ⌜ Leaves (now (m .entry)) (now (m .exit))
+        (with-threads (insert (λ u. ltb (u .name) (t .name)) t (tables (now (m .entry)) .threads)) (tables (now (m .entry)))) ⌝ }
 {
     let at = threads::find_place(m, t.name);
     threads::open_gap(m, at, t);

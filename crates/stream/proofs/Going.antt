@@ -1,5 +1,5 @@
--- A program between two rounds: its memory and buffers have their lengths, the run is right, and the number of the next line has room for the
--- rounds that are left.
+-- A program between two rounds: its memory and buffers have their lengths, the run is right, and the number of the next line has room for
+-- the rounds that are left.
 use Prim.Native.Nat.{ℕ, _+_, _*_, _≤_}
 use mathlib.Core.Path.{_≡_, sym, _∙_}
 use mathlib.Core.Bool.{Bool}
@@ -18,7 +18,8 @@ pub record Going (m input out : List ℕ) (r : Run) (rounds : ℕ) : Type 0 wher
   pub room : r .line + rounds * 131072 ≤ 4611686018427387905
 
 -- from a start
-pub going-starts : {m input out : List ℕ} {r : Run} {rounds : ℕ} → Begins m r → length m ≡ 656 → length input ≡ 131072 → length out ≡ 65536 →
+pub going-starts : {m input out : List ℕ} {r : Run} {rounds : ℕ} → Begins m r → length m ≡ 656 → length input ≡ 131072 →
+    length out ≡ 65536 →
     rounds ≤ 35184372088832 → Going m input out r rounds
 going-starts {m} {input} {out} {r} b w i o n =
     let e : r .line ≡ 1 = λ ι. b .first ι .line in

@@ -34,7 +34,8 @@ module _ {m : List ℕ} {k : ℕ} {w : List ℕ} {ended : Bool} {before after : 
     (p : Turns m k w ended before after t m′) where
   by-stop : (P : Type 0) → (drop (t .used) w ≡ [] → P) → (length before < t .filled + 160 → P)
       → ((not ended && not (whole (drop (t .used) w))) ≡ true → P) → P
-  by-stop P served full cut = ⊎-elim (λ x. ⊎-elim (λ a. served (all a)) (λ f. full (ltb-true _ _ f)) (or-cases _ _ x)) cut (or-cases _ _ (p .stops))
+  by-stop P served full cut =
+      ⊎-elim (λ x. ⊎-elim (λ a. served (all a)) (λ f. full (ltb-true _ _ f)) (or-cases _ _ x)) cut (or-cases _ _ (p .stops))
     where
       all : eqb (t .used) (length w) ≡ true → drop (t .used) w ≡ []
       all a = drop-of-length-le w {i = t .used} (omega (arith, eqb-true (t .used) (length w) a))

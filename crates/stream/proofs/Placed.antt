@@ -1,4 +1,5 @@
--- What turns, reads and rounds keep: the run lies in its buffers, and the number of the next line grows by no more than the bytes that are there.
+-- What turns, reads and rounds keep: the run lies in its buffers, and the number of the next line grows by no more than the bytes that
+-- are there.
 use Prim.Native.Nat.{ℕ, zero, suc, _+_, _-_, _≤_, _<_, min}
 use mathlib.Core.Path.{_≡_, refl, sym, ap, _∙_, subst}
 use mathlib.Core.Bool.{Bool, false}
@@ -16,12 +17,14 @@ use Rattle.stream.specs.Stream.{window, Right, first, Begins, Serves, Re
 
 -- the same with the lengths said otherwise
 pub placed : {m : List ℕ} {r : Run} {a b n k : ℕ} → n ≡ a → k ≡ b → Right m r n k → Right m r a b
-placed e f p = record { standing = p .standing; opens = p .opens; within = omega (arith, e, p .within); filled = omega (arith, f, p .filled) }
+placed e f p =
+    record { standing = p .standing; opens = p .opens; within = omega (arith, e, p .within); filled = omega (arith, f, p .filled) }
 
 -- a start is right, whatever the buffers
 pub begins-right : {m : List ℕ} {r : Run} (n k : ℕ) → Begins m r → Right m r n k
 begins-right {m} n k b =
-    subst (λ (x : Run). Right m x n k) (sym (b .first)) (record { standing = b .standing; opens = omega arith; within = omega arith; filled = omega arith })
+    subst (λ (x : Run). Right m x n k) (sym (b .first))
+    (record { standing = b .standing; opens = omega arith; within = omega arith; filled = omega arith })
 
 -- ---- a turn
 
@@ -65,7 +68,12 @@ module _ {m : List ℕ} {r : Run} {input out m′ input′ out′ : List ℕ} {v
   read-right e =
       let q = serves-right p (s .serves) in
       subst (λ (x : Run). Right m′ x (length input) (length out)) (sym (e .leaves))
-      (record { standing = q .standing; opens = refilled-opens (e .refills); within = refilled-within (e .refills) (q .within); filled = q .filled })
+      (record {
+        standing = q .standing;
+        opens = refilled-opens (e .refills);
+        within = refilled-within (e .refills) (q .within);
+        filled = q .filled;
+      })
 
   pub rounds-right : Right m′ v (length input) (length out)
   rounds-right = go (s .served .filled) refl

@@ -1,5 +1,6 @@
 -- The programs' loop, whole. From a start: rounds until a read tells the end of the input, then a last turn, and the last line. Whatever
--- pieces the reads give, what is written is the document's output for all that was read, and the tables at the end are those of the rules' run.
+-- pieces the reads give, what is written is the document's output for all that was read, and the tables at the end are those of the
+-- rules' run.
 use Prim.Native.Nat.{ℕ, zero, suc, _+_, _-_, _≤_, _<_}
 use mathlib.Core.Path.{_≡_, refl, sym, ap, ap₂, _∙_}
 use mathlib.Core.Bool.{true, false, false≢true}
@@ -129,7 +130,8 @@ module _ {m : List ℕ} {r : Run} {input out m′ input′ out′ : List ℕ} {v
         ≡ take (v .filled) out′ ++ prints (v .line) (tables m′) (waiting (window v) input′ ++ coming)
     round-prints =
         ρ .serves .turns .prints (piece ++ coming) (λ e. absurd (false≢true e))
-        ∙ (ap₂ (λ (n k : ℕ). take n out′ ++ prints k (tables m′) (drop (ρ .serves .turn .used) (waiting (window r) input) ++ (piece ++ coming)))
+        ∙ (ap₂ (λ (n k : ℕ). take n out′
+        ++ prints k (tables m′) (drop (ρ .serves .turn .used) (waiting (window r) input) ++ (piece ++ coming)))
         (sym filled-is) (sym line-is)
         ∙ ap (λ (l : List ℕ). take (v .filled) out′ ++ prints (v .line) (tables m′) l) joined)
 
@@ -180,10 +182,10 @@ module _ {m : List ℕ} {r : Run} {input out m′ input′ out′ : List ℕ} {v
 
 -- ---- the loop
 
--- What a program's loop does from the run r on, with the memory m and the bytes of its input's buffer. `coming` is the input that is still to
--- be read (the pieces of the rounds, one behind the other), `written` what it writes, and `end` the memory at the end. It makes rounds, and
--- writes the lines of each, until a read tells the end; then a last turn, told so, whose lines it writes, and the last line. The buffers for
--- lines are any that are long enough.
+-- What a program's loop does from the run r on, with the memory m and the bytes of its input's buffer. `coming` is the input that is
+-- still to be read (the pieces of the rounds, one behind the other), `written` what it writes, and `end` the memory at the end. It makes
+-- rounds, and writes the lines of each, until a read tells the end; then a last turn, told so, whose lines it writes, and the last line.
+-- The buffers for lines are any that are long enough.
 pub data Loop : List ℕ → Run → List ℕ → List ℕ → List ℕ → List ℕ → Type 0 where
   goes : {m : List ℕ} {r : Run} {input out m′ input′ out′ : List ℕ} {v : Run} {coming written end : List ℕ}
       (ρ : Rounds m r input out m′ input′ out′ v) → r .ended ≡ false → 160 ≤ length out

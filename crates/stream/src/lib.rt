@@ -94,7 +94,8 @@ pub fn read_more(r: Run, input: &mut [u8]) -> Run
 // One round: lines to be written, or more read.
 pub fn round(m: &mut [u32], r: Run, input: &mut [u8], out: &mut [u8]) -> Run
     requires { ⌜ Right (now m) r (length (now input)) (length (now out)) × (r .line + length (now input) ≤ 9223372036854775808) ⌝ }
-    ensures { λ v. ⌜ Rounds (now (m .entry)) r (now (input .entry)) (now (out .entry)) (now (m .exit)) (now (input .exit)) (now (out .exit)) v ⌝ }
+    ensures { λ v. ⌜ Rounds (now (m .entry)) r (now (input .entry)) (now (out .entry)) (now (m .exit)) (now (input .exit)) (now (out .exit))
+        v ⌝ }
 {
     let v = serve(m, r, false, input, out);
     if 0 < v.filled {

@@ -19,7 +19,8 @@ module _ (f : State → Bool) (b : Bool) where
   either false x y e g = g
 
   -- a test that answers the same for each state that the words can say
-  pub said : (s d : ℕ) → f wrong-state ≡ b → (s ≡ 0 → f Running ≡ b) → (s ≡ 1 → f Ready ≡ b) → (s ≡ 2 → f (Receiving (wanted-in d)) ≡ b) → (s ≡ 3 → f Clock ≡ b) →
+  pub said : (s d : ℕ) → f wrong-state ≡ b → (s ≡ 0 → f Running ≡ b) → (s ≡ 1 → f Ready ≡ b) → (s ≡ 2 → f (Receiving (wanted-in d)) ≡ b) →
+      (s ≡ 3 → f Clock ≡ b) →
       (s ≡ 4 → f (Device (byte d)) ≡ b) → (s ≡ 5 → f (trapped-in d) ≡ b) → f (state-in s d) ≡ b
   unfolding state-in
   said s d wrong running ready receiving clock device trapped =
@@ -38,7 +39,8 @@ module _ (f : State → Bool) (b : Bool) where
 
 pub no-clock : (s d : ℕ) → (s ≡ 3 → ⊥) → on-clock (state-in s d) ≡ false
 unfolding on-clock
-no-clock s d other = said on-clock false s d refl (λ e. refl) (λ e. refl) (λ e. refl) (λ e. absurd (other e)) (λ e. refl) (λ e. kinds on-clock false d refl refl refl refl)
+no-clock s d other = said on-clock false s d refl (λ e. refl) (λ e. refl) (λ e. refl) (λ e. absurd (other e)) (λ e. refl)
+    (λ e. kinds on-clock false d refl refl refl refl)
 
 pub beat : (t : Bool) → t ≡ on-clock (if t then Clock else wrong-state)
 unfolding on-clock
@@ -50,7 +52,8 @@ pub no-device : (device s d : ℕ) → device < 255 → (s ≡ 4 → ⊥) → at
 unfolding at-device
 no-device device s d low other =
     let wrong = ne-eqb device 255 (λ e. omega (arith, low, e)) in
-    said (at-device device) false s d wrong (λ e. refl) (λ e. refl) (λ e. refl) (λ e. refl) (λ e. absurd (other e)) (λ e. kinds (at-device device) false d wrong refl refl refl)
+    said (at-device device) false s d wrong (λ e. refl) (λ e. refl) (λ e. refl) (λ e. refl) (λ e. absurd (other e))
+    (λ e. kinds (at-device device) false d wrong refl refl refl)
 
 -- a detail where there is none
 pub detailed : (x : State) (t : Bool) → wakes-from-outside x ≡ false → not t ≡ wakes-from-outside (if t then x else wrong-state)
@@ -69,21 +72,25 @@ no-trap (suc (suc (suc d))) =
 
 pub others-wake : (s d : ℕ) → (s ≡ 0 → ⊥) → (s ≡ 1 → ⊥) → (s ≡ 2 → ⊥) → (s ≡ 5 → ⊥) → wakes-from-outside (state-in s d) ≡ true
 unfolding wakes-from-outside on-clock
-others-wake s d a b c e = said wakes-from-outside true s d refl (λ k. absurd (a k)) (λ k. absurd (b k)) (λ k. absurd (c k)) (λ k. refl) (λ k. refl) (λ k. absurd (e k))
+others-wake s d a b c e = said wakes-from-outside true s d refl (λ k. absurd (a k)) (λ k. absurd (b k)) (λ k. absurd (c k)) (λ k. refl)
+    (λ k. refl) (λ k. absurd (e k))
 
 -- ---- who receives, who is trapped
 
 pub no-receiver : (n s d : ℕ) → (s ≡ 2 → ⊥) → receives n (state-in s d) ≡ false
 unfolding receives
-no-receiver n s d other = said (receives n) false s d refl (λ e. refl) (λ e. refl) (λ e. absurd (other e)) (λ e. refl) (λ e. refl) (λ e. kinds (receives n) false d refl refl refl refl)
+no-receiver n s d other = said (receives n) false s d refl (λ e. refl) (λ e. refl) (λ e. absurd (other e)) (λ e. refl) (λ e. refl)
+    (λ e. kinds (receives n) false d refl refl refl refl)
 
 module _ (n : ℕ) (w : List ℕ) where
   pub not-trapped : (word w 2 ≡ 5 → ⊥) → awaits n (thread-in w) ≡ false
   unfolding trapped-on thread-in
-  not-trapped other = said (trapped-on n (thread-in w .managers)) false (word w 2) (word w 3) refl (λ e. refl) (λ e. refl) (λ e. refl) (λ e. refl) (λ e. refl) (λ e. absurd (other e))
+  not-trapped other = said (trapped-on n (thread-in w .managers)) false (word w 2) (word w 3) refl (λ e. refl) (λ e. refl) (λ e. refl)
+      (λ e. refl) (λ e. refl) (λ e. absurd (other e))
 
   -- the entry that the detail says, behind the four words before
-  entry : (d : ℕ) → d < 3 → trapped-on n (thread-in w .managers) (state-in 5 d) ≡ by-manager false (λ k. n == k) (manager-in (word w (4 + d)))
+  entry : (d : ℕ) → d < 3 → trapped-on n (thread-in w .managers) (state-in 5 d) ≡ by-manager false (λ k. n == k)
+      (manager-in (word w (4 + d)))
   unfolding trapped-on manager thread-in state-in
   entry zero low = refl
   entry (suc zero) low = refl
@@ -94,7 +101,8 @@ module _ (n : ℕ) (w : List ℕ) where
   unfolding trapped-on state-in
   no-entry d high = rw (ne-eqb d 0 (λ e. omega arith), ne-eqb d 1 (λ e. omega arith), ne-eqb d 2 (λ e. omega arith)) refl
 
-  pub trapped-by : word w 2 ≡ 5 → word w 3 < 3 → awaits n (thread-in w) ≡ by-manager false (λ k. n == k) (manager-in (word w (4 + word w 3)))
+  pub trapped-by : word w 2 ≡ 5 → word w 3 < 3 →
+      awaits n (thread-in w) ≡ by-manager false (λ k. n == k) (manager-in (word w (4 + word w 3)))
   unfolding thread-in
   trapped-by e low = rw (e) (entry (word w 3) low)
 

@@ -7,8 +7,10 @@ use lib.ListN.{length, set, drop-of-length-le}
 use Rattle.rules.specs.Tables.{in-state}
 use lib.Seq.{sets, sets-eq}
 use borrow.Author.Tests.{lt-ltb, le-ltb, ne-eqb}
-use Rattle.laws.specs.Words.{Wanted, Only, State, Answer, Manager, Set, Parent, ParentIs, Thread, MessageKind, Ordinary, Notice, Message, Runner, Runs}
-use Rattle.words.specs.Saying.{word, byte, parent-in, manager-in, wanted-in, state-in, answer-in, sender-in, kind-in, thread-in, message-in, runner-in}
+use Rattle.laws.specs.Words.{Wanted, Only, State, Answer, Manager, Set, Parent, ParentIs, Thread, MessageKind, Ordinary, Notice, Message}
+use Rattle.laws.specs.Words.{Runner, Runs}
+use Rattle.words.specs.Saying.{word, byte, parent-in, manager-in, wanted-in, state-in, answer-in, sender-in, kind-in, thread-in}
+use Rattle.words.specs.Saying.{message-in, runner-in}
 
 -- ---- a byte
 
@@ -38,21 +40,32 @@ module _ (n : ℕ) (low : n < 256) where
 
 -- ---- a record's words after its stores
 
-pub message-said : (w : List ℕ) (m : Message) (k : ℕ) → length w ≡ 3 → m .to < 256 → sender-in k ≡ m .from → kind-in k ≡ m .kind → message-in (sets w 0 (m .to ∷ k ∷ m .word ∷ [])) ≡ m
+pub message-said : (w : List ℕ) (m : Message) (k : ℕ) → length w ≡ 3 → m .to < 256 → sender-in k ≡ m .from → kind-in k ≡ m .kind →
+    message-in (sets w 0 (m .to ∷ k ∷ m .word ∷ [])) ≡ m
 unfolding message-in
 message-said w m k l to from kind =
     ap message-in (sets-eq (m .to ∷ k ∷ m .word ∷ []) w 0 (omega arith))
     ∙ (λ i. record { to = byte-same (m .to) to i; from = from i; kind = kind i; word = m .word })
 
-pub thread-said : (w : List ℕ) (t : Thread) (p s d g₀ g₁ g₂ k n a : ℕ) → length w ≡ 11 → t .name < 256 → parent-in p ≡ t .parent → state-in s d ≡ t .state →
-    manager-in g₀ ≡ t .managers .program → manager-in g₁ ≡ t .managers .tlb → manager-in g₂ ≡ t .managers .sysbp → answer-in k n a ≡ t .answer →
+pub thread-said : (w : List ℕ) (t : Thread) (p s d g₀ g₁ g₂ k n a : ℕ) → length w ≡ 11 → t .name < 256 → parent-in p ≡ t .parent →
+    state-in s d ≡ t .state →
+    manager-in g₀ ≡ t .managers .program → manager-in g₁ ≡ t .managers .tlb → manager-in g₂ ≡ t .managers .sysbp →
+    answer-in k n a ≡ t .answer →
     thread-in (sets w 0 (t .name ∷ p ∷ s ∷ d ∷ g₀ ∷ g₁ ∷ g₂ ∷ t .ticks ∷ k ∷ n ∷ a ∷ [])) ≡ t
 unfolding thread-in
 thread-said w t p s d g₀ g₁ g₂ k n a l name parent state program tlb sysbp answer =
     ap thread-in (sets-eq (t .name ∷ p ∷ s ∷ d ∷ g₀ ∷ g₁ ∷ g₂ ∷ t .ticks ∷ k ∷ n ∷ a ∷ []) w 0 (omega arith))
-    ∙ (λ i. record { name = byte-same (t .name) name i; parent = parent i; state = state i; managers = record { program = program i; tlb = tlb i; sysbp = sysbp i }; ticks = t .ticks; answer = answer i })
+    ∙ (λ i. record {
+      name = byte-same (t .name) name i;
+      parent = parent i;
+      state = state i;
+      managers = record { program = program i; tlb = tlb i; sysbp = sysbp i };
+      ticks = t .ticks;
+      answer = answer i;
+    })
 
-pub turned-said : (w : List ℕ) (x : State) (y : Answer) (s d k n a : ℕ) → length w ≡ 11 → state-in s d ≡ x → answer-in k n a ≡ y → thread-in (set (set (set (set (set w 2 s) 3 d) 8 k) 9 n) 10 a) ≡ in-state x y (thread-in w)
+pub turned-said : (w : List ℕ) (x : State) (y : Answer) (s d k n a : ℕ) → length w ≡ 11 → state-in s d ≡ x → answer-in k n a ≡ y →
+    thread-in (set (set (set (set (set w 2 s) 3 d) 8 k) 9 n) 10 a) ≡ in-state x y (thread-in w)
 unfolding thread-in
 turned-said [] x y s d k n a l e f = absurd (omega arith)
 turned-said (w₀ ∷ []) x y s d k n a l e f = absurd (omega arith)
@@ -65,7 +78,14 @@ turned-said (w₀ ∷ w₁ ∷ w₂ ∷ w₃ ∷ w₄ ∷ w₅ ∷ w₆ ∷ []) 
 turned-said (w₀ ∷ w₁ ∷ w₂ ∷ w₃ ∷ w₄ ∷ w₅ ∷ w₆ ∷ w₇ ∷ []) x y s d k n a l e f = absurd (omega arith)
 turned-said (w₀ ∷ w₁ ∷ w₂ ∷ w₃ ∷ w₄ ∷ w₅ ∷ w₆ ∷ w₇ ∷ w₈ ∷ []) x y s d k n a l e f = absurd (omega arith)
 turned-said (w₀ ∷ w₁ ∷ w₂ ∷ w₃ ∷ w₄ ∷ w₅ ∷ w₆ ∷ w₇ ∷ w₈ ∷ w₉ ∷ []) x y s d k n a l e f = absurd (omega arith)
-turned-said (w₀ ∷ w₁ ∷ w₂ ∷ w₃ ∷ w₄ ∷ w₅ ∷ w₆ ∷ w₇ ∷ w₈ ∷ w₉ ∷ u ∷ []) x y s d k n a l e f = λ i. record { name = byte w₀; parent = parent-in w₁; state = e i; managers = record { program = manager-in w₄; tlb = manager-in w₅; sysbp = manager-in w₆ }; ticks = w₇; answer = f i }
+turned-said (w₀ ∷ w₁ ∷ w₂ ∷ w₃ ∷ w₄ ∷ w₅ ∷ w₆ ∷ w₇ ∷ w₈ ∷ w₉ ∷ u ∷ []) x y s d k n a l e f = λ i. record {
+  name = byte w₀;
+  parent = parent-in w₁;
+  state = e i;
+  managers = record { program = manager-in w₄; tlb = manager-in w₅; sysbp = manager-in w₆ };
+  ticks = w₇;
+  answer = f i;
+}
 turned-said (w₀ ∷ w₁ ∷ w₂ ∷ w₃ ∷ w₄ ∷ w₅ ∷ w₆ ∷ w₇ ∷ w₈ ∷ w₉ ∷ u ∷ v ∷ r) x y s d k n a l e f = absurd (omega arith)
 
 -- ---- four words as they stand

@@ -7,7 +7,9 @@ use lib.Dec.{ltb}
 use lib.ListN.{getD}
 use Rattle.rules.specs.Lists.{if_then_else_, _==_}
 use Rattle.rules.specs.Numbers.{nobody}
-use Rattle.laws.specs.Words.{Wanted, Anybody, Only, TrapKind, Program, Tlb, SysBp, State, Running, Ready, Receiving, Clock, Device, Trapped, Answer, Nothing, FromMessage, FromNotice, SenderGone, Result, Manager, Unset, Set, Gone, Managers, Parent, NoParent, ParentIs, Thread, MessageKind, Ordinary, Notice, Message, Held, Runner, NoRunner, Runs}
+use Rattle.laws.specs.Words.{Wanted, Anybody, Only, TrapKind, Program, Tlb, SysBp, State, Running, Ready, Receiving, Clock, Device, Trapped}
+use Rattle.laws.specs.Words.{Answer, Nothing, FromMessage, FromNotice, SenderGone, Result, Manager, Unset, Set, Gone, Managers, Parent}
+use Rattle.laws.specs.Words.{NoParent, ParentIs, Thread, MessageKind, Ordinary, Notice, Message, Held, Runner, NoRunner, Runs}
 
 abbrev pub word : List ℕ → ℕ → ℕ
 word m k = getD m k 0

@@ -1,12 +1,13 @@
-// Tests of the rules on the words themselves, s of a state and d of its detail: what they say is not made, so a walk over many threads is short.
-// Words that would not be written say device 255 (specs/Saying.antt), so they count where somebody waits for a device.
+// Tests of the rules on the words themselves, s of a state and d of its detail: what they say is not made, so a walk over many threads is
+// short. Words that would not be written say device 255 (specs/Saying.antt), so they count where somebody waits for a device.
 use crate::saying;
 use crate::states;
 use rules::numbers;
 ghost use mathlib.Core.Path.{_≡_};
 ghost use Prim.Native.Nat.{_≤_};
 ghost use lib.ListN.{length};
-ghost use Rattle.rules.specs.States.{on-clock as on-clock-of, receives as receives-of, at-device as at-device-of, wakes-from-outside as wakes-of, awaits as awaits-of};
+ghost use Rattle.rules.specs.States.{on-clock as on-clock-of, receives as receives-of, at-device as at-device-of};
+ghost use Rattle.rules.specs.States.{wakes-from-outside as wakes-of, awaits as awaits-of};
 ghost use Rattle.words.specs.Saying.{state-in, thread-in};
 
 // The words of states, and the detail of "receiving from anybody".

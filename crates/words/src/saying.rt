@@ -17,7 +17,8 @@ ghost use Prim.Native.Nat.{_≤_, _<_};
 ghost use lib.ListN.{length, drop};
 ghost use Rattle.rules.specs.Tables.{in-state};
 ghost use Rattle.rules.specs.declared.State.the-variants.{Trapped as TrappedBy};
-ghost use Rattle.words.specs.Saying.{byte as byte-of, parent-in, manager-in, wanted-in, trapped-in, state-in, answer-in, sender-in, kind-in, thread-in, message-in, runner-in};
+ghost use Rattle.words.specs.Saying.{byte as byte-of, parent-in, manager-in, wanted-in, trapped-in, state-in, answer-in, sender-in};
+ghost use Rattle.words.specs.Saying.{kind-in, thread-in, message-in, runner-in};
 
 // The first word that is no byte: "no name" where a name can stand, and what is added to the sender of a notice.
 const PAST_BYTES: u32 = 256;

@@ -1,5 +1,5 @@
--- `nucleus_check` meets its contract: a walk of its code, by hand. The tables behind the `&` are copied out whole, and `check_value` is called on the
--- copy. Of `check_value` it knows the contract, of the tables no field.
+-- `nucleus_check` meets its contract: a walk of its code, by hand. The tables behind the `&` are copied out whole, and `check_value` is
+-- called on the copy. Of `check_value` it knows the contract, of the tables no field.
 use mathlib.Core.Path.{_≡_, refl}
 use Prim.Native.Nat.{ℕ}
 use mathlib.Core.List.{List, [], _∷_}
@@ -14,8 +14,10 @@ use prog.Wp.{Heap, Calls, Loops, WpFn, Tables as CallTables}
 use ghost.Atoms.{Atoms, sem}
 use contract.Monad.{Fun, fact}
 use contract.Running.{givenOf, tables, tablesOf}
-use types.Kit.{Given, ‵, raw, _⊛_, ⋆, some, later, _$_, _∵_, !, qed, by, move, keep, drop, use1, use2, split, join, pick, fsplit, fsplit3, fjoin, fjoin3, feqI, suffices, frame, await, done}
-use types.Run.{look, look-raw, init, forget, stop, hop, from, load, of-opd, and-then, no-more, assigns, land, returns, enter, alloc1, alloc0, params1, pass1, pass0, free1, free0}
+use types.Kit.{Given, ‵, raw, _⊛_, ⋆, some, later, _$_, _∵_, !, qed, by, move, keep, drop, use1, use2, split, join, pick, fsplit, fsplit3}
+use types.Kit.{fjoin, fjoin3, feqI, suffices, frame, await, done}
+use types.Run.{look, look-raw, init, forget, stop, hop, from, load, of-opd, and-then, no-more, assigns, land, returns, enter, alloc1}
+use types.Run.{alloc0, params1, pass1, pass0, free1, free0}
 use sound.WpLaws.{FmC, fmOf, WpFn-mono}
 use denote.RattleType.{owns}
 use denote.Laws.{Is, shows}
@@ -60,7 +62,8 @@ module _ {M : Type 1} (𝓤 : URA M) (H : Heap 𝓤) (A : Atoms 𝓤) (at-mem : 
   abbrev Value : Contract 𝓤
   Value = tripleOf 𝓤 H A value.signature (value.spec 𝓤 H A at-mem run)
 
-module _ {M : Type 1} (𝓤 : URA M) (H : Heap 𝓤) (A : Atoms 𝓤) (W : Given 𝓤 H A) (at-mem : Memory → SProp 𝓤) (run : Routine → Fun 𝓤) (κ : Lft) (q : Share) (b o : ℕ) (γ : GName) (h : Tables) where
+module _ {M : Type 1} (𝓤 : URA M) (H : Heap 𝓤) (A : Atoms 𝓤) (W : Given 𝓤 H A) (at-mem : Memory → SProp 𝓤) (run : Routine → Fun 𝓤) (κ : Lft)
+    (q : Share) (b o : ℕ) (γ : GName) (h : Tables) where
   abbrev Arg : Type 0
   Arg = RefT Tables × Unit {0}
 
@@ -87,49 +90,67 @@ module _ {M : Type 1} (𝓤 : URA M) (H : Heap 𝓤) (A : Atoms 𝓤) (W : Given
   said : (n : ℕ) → ent 𝓤 (ensured 𝓤 H A value.ended (value.clauses 𝓤 H A at-mem run) tt (h, tt) tt n) (fact 𝓤 (Found n))
   said n = exE 𝓤 _ (λ ws. snd∗ 𝓤 (sem 𝓤 H A (lasts value.ended tt (h, tt) ws)) (fact 𝓤 (Found n)))
 
-  exits : (n : ℕ) (u : Val) → Found n → ent 𝓤 (⋆ 𝓤 H A (‵ (u8 .own n (u ∷ [])) ∷ ‵ (flft κ q) ∷ ‵ (fres γ (T.the-row .coded .code h)) ∷ ‵ (fshr-bor κ (λ s. partAt T.the-row s h b o)) ∷ [])) (Post u)
+  exits : (n : ℕ) (u : Val) → Found n →
+      ent 𝓤 (⋆ 𝓤 H A (‵ (u8 .own n (u ∷ [])) ∷ ‵ (flft κ q) ∷ ‵ (fres γ (T.the-row .coded .code h))
+      ∷ ‵ (fshr-bor κ (λ s. partAt T.the-row s h b o)) ∷ [])) (Post u)
   exits n u e =
-      qed W (‵ (u8 .own n (u ∷ [])) ∷ ‵ (flft κ q) ∷ ‵ (fres γ (T.the-row .coded .code h)) ∷ ‵ (fshr-bor κ (λ s. partAt T.the-row s h b o)) ∷ []) ∵
-      suffices ! _ (ends-at 𝓤 H A check.ended stayed (check.clauses 𝓤 H A at-mem run) W (((κ, tt), (q, tt), tt, x, at), tt) u n (tt, tt) (tt, tt)) $ says ! e $
-      nothing ! $ move ! (2 ∷ 0 ∷ []) $ join ! $ frame ! $ move ! (1 ∷ 2 ∷ []) $ feqI ! (List Val) (vptr b o ∷ []) (vptr b o ∷ []) refl $ fjoin3 ! $
+      qed W (‵ (u8 .own n (u ∷ [])) ∷ ‵ (flft κ q) ∷ ‵ (fres γ (T.the-row .coded .code h)) ∷ ‵ (fshr-bor κ (λ s. partAt T.the-row s h b o))
+      ∷ []) ∵
+      suffices ! _ (ends-at 𝓤 H A check.ended stayed (check.clauses 𝓤 H A at-mem run) W (((κ, tt), (q, tt), tt, x, at), tt) u n (tt, tt)
+      (tt, tt)) $ says ! e $
+      nothing ! $ move ! (2 ∷ 0 ∷ []) $ join ! $ frame ! $ move ! (1 ∷ 2 ∷ []) $ feqI ! (List Val) (vptr b o ∷ []) (vptr b o ∷ []) refl
+      $ fjoin3 ! $
       nothing ! $ move ! (1 ∷ 0 ∷ []) $ fjoin ! $ done !
 
   module _ (C : Calls 𝓤 H) (Λ : Loops 𝓤 H) (fm : FmC 𝓤 H (W .laws) C) (known : Triple 𝓤 (C #check-value) (Value 𝓤 H A at-mem run)) where
     walk : ent 𝓤 (onEntry 𝓤 H A check.signature (κ, tt) (q, tt) x at) (WpFn 𝓤 H C Λ code.function (vptr b o ∷ []) Post)
     walk =
-        qed W ((‵ (flft κ q) ⊛ ‵ ftrue) ∷ ‵ (owns (ShrRef (named 0) κ T.the-row ∷ []) x at) ∷ []) ∵ enter ! C Λ code.function (vptr b o ∷ []) _ $
+        qed W ((‵ (flft κ q) ⊛ ‵ ftrue) ∷ ‵ (owns (ShrRef (named 0) κ T.the-row ∷ []) x at) ∷ []) ∵ enter ! C Λ code.function (vptr b o
+        ∷ []) _ $
         alloc1 ! (λ l₀. alloc1 ! (λ l₁. alloc1 ! (λ l₂. alloc0 ! $ params1 ! $ pass1 ! (init ! 2 refl (tt, tt)) $ pass0 ! $
         -- the fractured borrow is opened
         move ! (7 ∷ []) $ fsplit ! $ fsplit3 ! $ drop ! $ move ! (9 ∷ []) $ split ! $ move ! (3 ∷ 0 ∷ []) $
-        looks ! tt T.the-row (Is T.the-row) (shows 𝓤 H A T.the-row) tvals (LL.tells T.the-type T′.the-laws) (LL.copy T.the-type T′.the-copy 𝓤 H A W) h b o (λ q′ vs. spelt ! T.the-row (Is T.the-row) (shows 𝓤 H A T.the-row) tvals (LL.tells T.the-type T′.the-laws) q′ h vs b o $
+        looks ! tt T.the-row (Is T.the-row) (shows 𝓤 H A T.the-row) tvals (LL.tells T.the-type T′.the-laws)
+        (LL.copy T.the-type T′.the-copy 𝓤 H A W) h b o
+        (λ q′ vs. spelt ! T.the-row (Is T.the-row) (shows 𝓤 H A T.the-row) tvals (LL.tells T.the-type T′.the-laws) q′ h vs b o $
         move ! (1 ∷ []) $ peeks ! T.the-row (Is T.the-row) (shows 𝓤 H A T.the-row) h (tvals h) (λ was. move ! (1 ∷ 0 ∷ []) $
-        -- [0 a share of the struct's cell; 1 what it owns; 2 what shuts it; 3 the fractured borrow; 4 true; 5 res; 6 true; 7 _2; 9 _1; 11 room for _0]
-        assigns ! (of-opd ! (load ! (from ! (hop ! (look ! 9 refl) (stop !))) (look-raw ! 0 refl))) (from ! (stop !)) (init ! 7 refl (LL.lawful T.the-type T′.the-laws 𝓤 H A W .typed h _ was .0)) $
+        -- [0 a share of the struct's cell; 1 what it owns; 2 what shuts it; 3 the fractured borrow; 4 true; 5 res; 6 true; 7 _2; 9 _1; 11
+        -- room for _0]
+        assigns ! (of-opd ! (load ! (from ! (hop ! (look ! 9 refl) (stop !))) (look-raw ! 0 refl))) (from ! (stop !))
+        (init ! 7 refl (LL.lawful T.the-type T′.the-laws 𝓤 H A W .typed h _ was .0)) $
         shuts ! tt T.the-row q′ h (tvals h) b o $
         -- [0 the token; 1 the fractured borrow; 2 true; 3 res; 4 true; 5 _2; 7 _1; 9 room for _0]
-        move ! (4 ∷ []) $ owned ! T.the-row (Is T.the-row) (LL.makes T.the-type T′.the-plain 𝓤 H A) h _ was $ fjoin ! $ nothing ! $ use2 W (raw (Value 𝓤 H A at-mem run .pre to)) asked $
+        move ! (4 ∷ []) $ owned ! T.the-row (Is T.the-row) (LL.makes T.the-type T′.the-plain 𝓤 H A) h _ was $ fjoin ! $ nothing
+        ! $ use2 W (raw (Value 𝓤 H A at-mem run .pre to)) asked $
         calls-at ! fm (Value 𝓤 H A at-mem run) known to (and-then ! (load ! (from ! (stop !)) (look ! 5 refl)) (no-more !)) (λ u.
-        use1 W (later (some (λ (n : ℕ). (‵ ftrue ⊛ ‵ (u8 .own n (u ∷ []))) ⊛ raw (ensured 𝓤 H A value.ended (value.clauses 𝓤 H A at-mem run) tt (h, tt) tt n)))) (id⊢ 𝓤 _) $ await ! tt $ pick ! (λ n.
+        use1 W (later
+        (some (λ (n : ℕ). (‵ ftrue ⊛ ‵ (u8 .own n (u ∷ [])))
+        ⊛ raw (ensured 𝓤 H A value.ended (value.clauses 𝓤 H A at-mem run) tt (h, tt) tt n)))) (id⊢ 𝓤 _) $ await ! tt $ pick ! (λ n.
         split ! $ move ! (1 ∷ []) $ use1 W (raw (fact 𝓤 (Found n))) (said n) $ heard ! (Found n) (λ e. split ! $ drop ! $
         -- [0 the result's; 1 the token; 2 the fractured borrow; 3 true; 4 res; 5 _2; 7 _1; 9 room for _0]
         peeks ! u8 (Is u8) (shows 𝓤 H A u8) n (u ∷ []) (λ is.
         land ! (from ! (stop !)) (init ! 9 refl (uint-lawful 𝓤 H A W w8 .typed n _ is .0)) $
         returns ! (look ! 9 refl) $ forget ! 5 refl $ forget ! 7 refl $ forget ! 9 refl $
-        move ! (9 ∷ 10 ∷ []) $ free1 ! $ move ! (7 ∷ 8 ∷ []) $ free1 ! $ move ! (5 ∷ 6 ∷ []) $ free1 ! $ free0 ! $ keep ! (0 ∷ 1 ∷ 4 ∷ 2 ∷ []) $ by ! (exits n u e))))))))))
+        move ! (9 ∷ 10 ∷ []) $ free1 ! $ move ! (7 ∷ 8 ∷ []) $ free1 ! $ move ! (5 ∷ 6 ∷ []) $ free1 ! $ free0 ! $ keep
+        ! (0 ∷ 1 ∷ 4 ∷ 2 ∷ []) $ by ! (exits n u e))))))))))
 
 module _ {M : Type 1} (𝓤 : URA M) (H : Heap 𝓤) (A : Atoms 𝓤) (W : Given 𝓤 H A) (at-mem : Memory → SProp 𝓤) (run : Routine → Fun 𝓤) where
   check-walks : (C : Calls 𝓤 H) (Λ : Loops 𝓤 H) → FmC 𝓤 H (W .laws) C → Triple 𝓤 (C #check-value) (Value 𝓤 H A at-mem run)
       → Walks 𝓤 H A check.ended stayed (WpFn 𝓤 H C Λ code.function) (check.clauses 𝓤 H A at-mem run)
-  check-walks C Λ fm known = walked 𝓤 H A check.ended stayed (check.clauses 𝓤 H A at-mem run) (WpFn 𝓤 H C Λ code.function) (λ κs. (ptr-vals, tt)) (λ κs. (shr-tells (named 0) (κs .0) T.the-row, tt))
-      (λ κs qs bounds a _ are. via 𝓤 _ (fst∗ 𝓤 _ (emp 𝓤)) (walk 𝓤 H A W at-mem run (κs .0) (qs .0) (a .0 .ptr .0) (a .0 .ptr .1) (a .0 .name) (a .0 .now) C Λ fm known))
+  check-walks C Λ fm known = walked 𝓤 H A check.ended stayed (check.clauses 𝓤 H A at-mem run) (WpFn 𝓤 H C Λ code.function)
+      (λ κs. (ptr-vals, tt)) (λ κs. (shr-tells (named 0) (κs .0) T.the-row, tt))
+      (λ κs qs bounds a _ are. via 𝓤 _ (fst∗ 𝓤 _ (emp 𝓤))
+      (walk 𝓤 H A W at-mem run (κs .0) (qs .0) (a .0 .ptr .0) (a .0 .ptr .1) (a .0 .name) (a .0 .now) C Λ fm known))
 
   goes : AllGo 𝓤 H A W 1 (check.signature .params) (check.ended .kept) stayed
   goes = (goes-none-ref 𝓤 H A W 1 (0 ∷ []) tt (plain (λ _. T.the-row)) yes, tt)
 
-check-meets : {M : Type 1} (𝓤 : URA M) (H : Heap 𝓤) (A : Atoms 𝓤) (W : Given 𝓤 H A) (at-mem : Memory → SProp 𝓤) (run : Routine → Fun 𝓤) (𝓣 : CallTables 𝓤 H)
+check-meets : {M : Type 1} (𝓤 : URA M) (H : Heap 𝓤) (A : Atoms 𝓤) (W : Given 𝓤 H A) (at-mem : Memory → SProp 𝓤) (run : Routine →
+    Fun 𝓤) (𝓣 : CallTables 𝓤 H)
     → Triple 𝓤 (𝓣 .C #check-value) (Value 𝓤 H A at-mem run)
     → Meets 𝓤 H A check.signature (WpFn 𝓤 H (𝓣 .C) (𝓣 .Λ) code.function) (check.spec 𝓤 H A at-mem run)
-check-meets 𝓤 H A W at-mem run 𝓣 known = walk-meets 𝓤 H A check.ended stayed W (goes 𝓤 H A W at-mem run) (check.clauses 𝓤 H A at-mem run) (WpFn 𝓤 H (𝓣 .C) (𝓣 .Λ) code.function) (WpFn-mono 𝓤 H (W .laws) 𝓣 code.function)
+check-meets 𝓤 H A W at-mem run 𝓣 known = walk-meets 𝓤 H A check.ended stayed W (goes 𝓤 H A W at-mem run) (check.clauses 𝓤 H A at-mem run)
+    (WpFn 𝓤 H (𝓣 .C) (𝓣 .Λ) code.function) (WpFn-mono 𝓤 H (W .laws) 𝓣 code.function)
     (check-walks 𝓤 H A W at-mem run (𝓣 .C) (𝓣 .Λ) (fmOf 𝓤 H (W .laws) 𝓣) known)
 
 pub nucleus-check-spec : {M : Type 1} → stated.statement M
@@ -138,4 +159,5 @@ nucleus-check-spec 𝓤 H 𝓜 𝓖 𝓡 =
     entered 𝓤 H (tripleOf 𝓤 H (𝓖 .A) check.signature (check.spec 𝓤 H (𝓖 .A) (𝓜 .mem) (𝓡 .run)))
     (tables 𝓤 H 𝓜 𝓡 code.env .C) (tables 𝓤 H 𝓜 𝓡 code.env .Λ) #check code.function (code.unfolded 𝓤 H 𝓜 𝓡)
     (check-meets 𝓤 H (𝓖 .A) (givenOf 𝓤 H 𝓜 𝓖) (𝓜 .mem) (𝓡 .run) (tablesOf 𝓤 H 𝓜 (tables 𝓤 H 𝓜 𝓡 code.env))
-    (cited 𝓤 H (Value 𝓤 H (𝓖 .A) (𝓜 .mem) (𝓡 .run)) 𝓜 𝓡 code.env #check-value value-def.routine code.calls-lending·check·check-value (value-thm.met 𝓤 H 𝓜 𝓖 𝓡)))
+    (cited 𝓤 H (Value 𝓤 H (𝓖 .A) (𝓜 .mem) (𝓡 .run)) 𝓜 𝓡 code.env #check-value value-def.routine code.calls-lending·check·check-value
+    (value-thm.met 𝓤 H 𝓜 𝓖 𝓡)))

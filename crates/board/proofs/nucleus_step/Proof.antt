@@ -1,5 +1,6 @@
--- `nucleus_step` meets its contract: a walk of its code, by hand. The borrow is opened, the tables are copied out whole, `step_numbers` is called on
--- the copy, the new tables are stored whole, and the borrow is closed at them. Of `step_numbers` it knows the contract, of the tables no field.
+-- `nucleus_step` meets its contract: a walk of its code, by hand. The borrow is opened, the tables are copied out whole, `step_numbers`
+-- is called on the copy, the new tables are stored whole, and the borrow is closed at them. Of `step_numbers` it knows the contract, of
+-- the tables no field.
 use mathlib.Core.Path.{_≡_, refl, ap}
 use Prim.Native.Nat.{ℕ}
 use mathlib.Core.List.{List, [], _∷_}
@@ -16,9 +17,11 @@ use prog.Wp.{Heap, Calls, Loops, WpFn, Tables as CallTables}
 use ghost.Atoms.{Atoms, sem}
 use contract.Monad.{Fun, fact}
 use contract.Running.{givenOf, tables, tablesOf}
-use types.Kit.{Given, ‵, raw, _⊛_, ⋆, some, later, _$_, _∵_, !, qed, by, move, drop, use1, use2, split, join, pick, rewrite, fsplit, fsplit3, fjoin, fjoin3, feqI, suffices, frame, await, done}
+use types.Kit.{Given, ‵, raw, _⊛_, ⋆, some, later, _$_, _∵_, !, qed, by, move, drop, use1, use2, split, join, pick, rewrite, fsplit}
+use types.Kit.{fsplit3, fjoin, fjoin3, feqI, suffices, frame, await, done}
 use types.Part.{whole, sub, look-in}
-use types.Run.{look, look-raw, init, store-raw, forget, stop, hop, fld, from, load, of-opd, and-then, no-more, assigns, land, returns, enter, alloc1, alloc0, params1, pass1, pass0, free1, free0}
+use types.Run.{look, look-raw, init, store-raw, forget, stop, hop, fld, from, load, of-opd, and-then, no-more, assigns, land, returns}
+use types.Run.{enter, alloc1, alloc0, params1, pass1, pass0, free1, free0}
 use types.SemTy.{Body}
 use sound.WpLaws.{FmC, fmOf, WpFn-mono}
 use denote.RattleType.{owns}
@@ -36,7 +39,8 @@ use denote.Triple.Call.{calls-at}
 use denote.Triple.Entry.{onEntry}
 use denote.Triple.Spec.{Meets, tripleOf}
 use denote.Triple.Table.{entered, cited}
-use denote.Triple.Walked.{says, Stays, stay-ref, stay-none-slice, walkOf, AllGo, goes-ref, goes-none-slice, Walks, ends-at, walked, walk-meets}
+use denote.Triple.Walked.{says, Stays, stay-ref, stay-none-slice, walkOf, AllGo, goes-ref, goes-none-slice, Walks, ends-at, walked}
+use denote.Triple.Walked.{walk-meets}
 use denote.Exit.{yes}
 use denote.Triple.Clauses.{ensured, lasts}
 use Rattle.lending.specs.declared.Tables.{Tables}
@@ -83,7 +87,8 @@ module _ {M : Type 1} (𝓤 : URA M) (H : Heap 𝓤) (A : Atoms 𝓤) (at-mem : 
   abbrev Value : Contract 𝓤
   Value = tripleOf 𝓤 H A value.signature (value.spec 𝓤 H A at-mem run)
 
-module _ {M : Type 1} (𝓤 : URA M) (H : Heap 𝓤) (A : Atoms 𝓤) (W : Given 𝓤 H A) (at-mem : Memory → SProp 𝓤) (run : Routine → Fun 𝓤) (κ κ′ : Lft) (q q′ : Share) (b o : ℕ) (γ : GName) (h : Tables) (s : RefT (List ℕ)) where
+module _ {M : Type 1} (𝓤 : URA M) (H : Heap 𝓤) (A : Atoms 𝓤) (W : Given 𝓤 H A) (at-mem : Memory → SProp 𝓤) (run : Routine →
+    Fun 𝓤) (κ κ′ : Lft) (q q′ : Share) (b o : ℕ) (γ : GName) (h : Tables) (s : RefT (List ℕ)) where
   abbrev Arg : Type 0
   Arg = RefT Tables × (RefT (List ℕ) × Unit {0})
 
@@ -113,11 +118,14 @@ module _ {M : Type 1} (𝓤 : URA M) (H : Heap 𝓤) (A : Atoms 𝓤) (W : Given
   to = (((κ′, tt), (q′, tt), tt, (h, (s, tt)), (tvals h, (v ∷ [], tt))), tt)
 
   asked : ent 𝓤 (onEntry 𝓤 H A value.signature (κ′, tt) (q′, tt) (h, (s, tt)) (tvals h, (v ∷ [], tt))) (Value 𝓤 H A at-mem run .pre to)
-  asked = qed W ((‵ (flft κ′ q′) ⊛ ‵ ftrue) ∷ ‵ (owns (T.the-row ∷ ShrSlice (named 0) κ′ u8 ∷ []) (h, (s, tt)) (tvals h, (v ∷ [], tt))) ∷ []) ∵ join ! $ frame ! $ done !
+  asked = qed W ((‵ (flft κ′ q′) ⊛ ‵ ftrue) ∷ ‵ (owns (T.the-row ∷ ShrSlice (named 0) κ′ u8 ∷ []) (h, (s, tt)) (tvals h, (v ∷ [], tt)))
+      ∷ []) ∵ join ! $ frame ! $ done !
 
-  goes-value : Is T.the-row h (tvals h) → ent 𝓤 (⋆ 𝓤 H A ((‵ (flft κ′ q′) ⊛ ‵ ftrue) ∷ ‵ (fsep Own ftrue) ∷ [])) (sep 𝓤 (Value 𝓤 H A at-mem run .pre to) (sem 𝓤 H A Own))
+  goes-value : Is T.the-row h (tvals h) →
+      ent 𝓤 (⋆ 𝓤 H A ((‵ (flft κ′ q′) ⊛ ‵ ftrue) ∷ ‵ (fsep Own ftrue) ∷ [])) (sep 𝓤 (Value 𝓤 H A at-mem run .pre to) (sem 𝓤 H A Own))
   goes-value was =
-      qed W ((‵ (flft κ′ q′) ⊛ ‵ ftrue) ∷ ‵ (fsep Own ftrue) ∷ []) ∵ move ! (1 ∷ []) $ fsplit ! $ use1 W (‵ Own ⊛ ‵ Own) (shr-slice-copy 𝓤 H A W (named 1) κ′ u8 .twice s (v ∷ [])) $ split ! $
+      qed W ((‵ (flft κ′ q′) ⊛ ‵ ftrue) ∷ ‵ (fsep Own ftrue) ∷ []) ∵ move ! (1 ∷ []) $ fsplit ! $ use1 W (‵ Own ⊛ ‵ Own)
+      (shr-slice-copy 𝓤 H A W (named 1) κ′ u8 .twice s (v ∷ [])) $ split ! $
       -- [Own; Own; true; the token]
       move ! (0 ∷ 2 ∷ []) $ fjoin ! $ owned ! T.the-row (Is T.the-row) (LL.makes T.the-type T′.the-plain 𝓤 H A) h _ was $ fjoin ! $
       move ! (2 ∷ 0 ∷ []) $ use2 W (raw (Value 𝓤 H A at-mem run .pre to)) asked $ frame ! $ done !
@@ -126,56 +134,84 @@ module _ {M : Type 1} (𝓤 : URA M) (H : Heap 𝓤) (A : Atoms 𝓤) (W : Given
   said r = exE 𝓤 _ (λ ws. snd∗ 𝓤 (sem 𝓤 H A (lasts value.ended (κ′, tt) (h, (s, tt)) ws)) (fact 𝓤 (Found r)))
 
   exits : (r : Served) → Is D.the-row (r .report) (dvals (r .report)) → Found r
-      → ent 𝓤 (⋆ 𝓤 H A (‵ (fobs γ (T.the-row .coded .code (r .tables))) ∷ ‵ (fbor κ (Body (mem T.the-row) b o γ)) ∷ ‵ (flft κ q) ∷ (‵ (flft κ′ q′) ⊛ ‵ ftrue) ∷ ‵ Own ∷ [])) (Post (only (dvals (r .report))))
+      → ent 𝓤 (⋆ 𝓤 H A (‵ (fobs γ (T.the-row .coded .code (r .tables))) ∷ ‵ (fbor κ (Body (mem T.the-row) b o γ)) ∷ ‵ (flft κ q)
+      ∷ (‵ (flft κ′ q′) ⊛ ‵ ftrue) ∷ ‵ Own ∷ [])) (Post (only (dvals (r .report))))
   exits r isd e =
-      qed W (‵ (fobs γ (T.the-row .coded .code (r .tables))) ∷ ‵ (fbor κ (Body (mem T.the-row) b o γ)) ∷ ‵ (flft κ q) ∷ (‵ (flft κ′ q′) ⊛ ‵ ftrue) ∷ ‵ Own ∷ []) ∵
-      suffices ! _ (ends-at 𝓤 H A step.ended stayed (step.clauses 𝓤 H A at-mem run) W (((κ, (κ′, tt)), (q, (q′, tt)), tt, x, at), tt) (only (dvals (r .report))) (r .report) (r .tables, (tt, tt)) (tt, (tt, tt))) $
+      qed W (‵ (fobs γ (T.the-row .coded .code (r .tables))) ∷ ‵ (fbor κ (Body (mem T.the-row) b o γ)) ∷ ‵ (flft κ q)
+      ∷ (‵ (flft κ′ q′) ⊛ ‵ ftrue) ∷ ‵ Own ∷ []) ∵
+      suffices ! _ (ends-at 𝓤 H A step.ended stayed (step.clauses 𝓤 H A at-mem run) W (((κ, (κ′, tt)), (q, (q′, tt)), tt, x, at), tt)
+      (only (dvals (r .report))) (r .report) (r .tables, (tt, tt)) (tt, (tt, tt))) $
       says ! e $
       move ! (2 ∷ 3 ∷ []) $ join ! $ frame ! $ feqI ! (List Val) (vptr b o ∷ []) (vptr b o ∷ []) refl $ fjoin3 ! $
       -- [what t owns; what event owns]
-      nothing ! $ move ! (2 ∷ 0 ∷ []) $ fjoin ! $ move ! (1 ∷ 0 ∷ []) $ fjoin ! $ owned ! D.the-row (Is D.the-row) (LL.makes D.the-type D′.the-plain 𝓤 H A) (r .report) _ isd $ move ! (1 ∷ 0 ∷ []) $ done !
+      nothing ! $ move ! (2 ∷ 0 ∷ []) $ fjoin ! $ move ! (1 ∷ 0 ∷ []) $ fjoin ! $ owned ! D.the-row (Is D.the-row)
+      (LL.makes D.the-type D′.the-plain 𝓤 H A) (r .report) _ isd $ move ! (1 ∷ 0 ∷ []) $ done !
 
   module _ (C : Calls 𝓤 H) (Λ : Loops 𝓤 H) (fm : FmC 𝓤 H (W .laws) C) (known : Triple 𝓤 (C #step-numbers) (Value 𝓤 H A at-mem run)) where
-    walk : Is (ShrSlice (named 1) κ′ u8) s (v ∷ []) → ent 𝓤 (onEntry 𝓤 H A step.signature (κ, (κ′, tt)) (q, (q′, tt)) x at) (WpFn 𝓤 H C Λ code.function (vptr b o ∷ v ∷ []) Post)
+    walk : Is (ShrSlice (named 1) κ′ u8) s (v ∷ []) →
+        ent 𝓤 (onEntry 𝓤 H A step.signature (κ, (κ′, tt)) (q, (q′, tt)) x at) (WpFn 𝓤 H C Λ code.function (vptr b o ∷ v ∷ []) Post)
     walk p =
-        qed W ((‵ (flft κ q) ⊛ ‵ (flft κ′ q′) ⊛ ‵ ftrue) ∷ ‵ (owns (MutRef (named 0) κ T.the-row ∷ ShrSlice (named 1) κ′ u8 ∷ []) x at) ∷ []) ∵ enter ! C Λ code.function (vptr b o ∷ v ∷ []) _ $
-        alloc1 ! (λ l₀. alloc1 ! (λ l₁. alloc1 ! (λ l₂. alloc1 ! (λ l₃. alloc1 ! (λ l₄. alloc0 ! $ params1 ! $ pass1 ! (init ! 6 refl (tt, tt)) $ pass1 ! (init ! 4 refl (shr-slice-lawful 𝓤 H A W (named 1) κ′ u8 .typed s (v ∷ []) p .0)) $ pass0 ! $
+        qed W ((‵ (flft κ q) ⊛ ‵ (flft κ′ q′) ⊛ ‵ ftrue) ∷ ‵ (owns (MutRef (named 0) κ T.the-row ∷ ShrSlice (named 1) κ′ u8 ∷ []) x at)
+        ∷ []) ∵ enter ! C Λ code.function (vptr b o ∷ v ∷ []) _ $
+        alloc1 ! (λ l₀. alloc1 ! (λ l₁. alloc1
+        ! (λ l₂. alloc1 ! (λ l₃. alloc1
+        ! (λ l₄. alloc0 ! $ params1 ! $ pass1 ! (init ! 6 refl (tt, tt)) $ pass1
+        ! (init ! 4 refl (shr-slice-lawful 𝓤 H A W (named 1) κ′ u8 .typed s (v ∷ []) p .0)) $ pass0 ! $
         -- the borrow is opened
         move ! (11 ∷ []) $ fsplit ! $ fsplit3 ! $ drop ! $ move ! (13 ∷ []) $ split ! $ move ! (2 ∷ 3 ∷ 0 ∷ []) $
-        opens ! tt T.the-row {h = h} b o (λ vs. spelt ! T.the-row (Is T.the-row) (shows 𝓤 H A T.the-row) tvals (LL.tells T.the-type T′.the-laws) fullShare h vs b o $
+        opens ! tt T.the-row {h = h} b o
+        (λ vs. spelt ! T.the-row (Is T.the-row) (shows 𝓤 H A T.the-row) tvals (LL.tells T.the-type T′.the-laws) fullShare h vs b o $
         move ! (1 ∷ []) $ peeks ! T.the-row (Is T.the-row) (shows 𝓤 H A T.the-row) h (tvals h) (λ was. move ! (1 ∷ 0 ∷ []) $
-        -- [0 the struct's cell; 1 what it owns; 2 the open borrow; 3 obs; 4 auth; 5 the second token; 6 event's; 7 _4; 9 _3; 11 _2; 13 _1; 15 room for _0]
-        assigns ! (of-opd ! (load ! (from ! (hop ! (look ! 13 refl) (stop !))) (look-raw ! 0 refl))) (from ! (stop !)) (init ! 7 refl (LL.lawful T.the-type T′.the-laws 𝓤 H A W .typed h _ was .0)) $
+        -- [0 the struct's cell; 1 what it owns; 2 the open borrow; 3 obs; 4 auth; 5 the second token; 6 event's; 7 _4; 9 _3; 11 _2; 13
+        -- _1; 15 room for _0]
+        assigns ! (of-opd ! (load ! (from ! (hop ! (look ! 13 refl) (stop !))) (look-raw ! 0 refl))) (from ! (stop !))
+        (init ! 7 refl (LL.lawful T.the-type T′.the-laws 𝓤 H A W .typed h _ was .0)) $
         move ! (5 ∷ 6 ∷ []) $ use2 W (raw (Value 𝓤 H A at-mem run .pre to) ⊛ ‵ Own) (goes-value was) $ split ! $
-        calls-at ! fm (Value 𝓤 H A at-mem run) known to (and-then ! (load ! (from ! (stop !)) (look ! 7 refl)) (and-then ! (load ! (from ! (stop !)) (look ! 11 refl)) (no-more !))) (λ u.
-        use1 W (later (some (λ (r : Served). ((‵ (flft κ′ q′) ⊛ ‵ ftrue) ⊛ ‵ (S.the-row .own r (u ∷ []))) ⊛ raw (ensured 𝓤 H A value.ended (value.clauses 𝓤 H A at-mem run) (κ′, tt) (h, (s, tt)) tt r)))) (id⊢ 𝓤 _) $ await ! tt $ pick ! (λ r.
+        calls-at ! fm (Value 𝓤 H A at-mem run) known to
+        (and-then ! (load ! (from ! (stop !)) (look ! 7 refl)) (and-then ! (load ! (from ! (stop !)) (look ! 11 refl)) (no-more !))) (λ u.
+        use1 W (later (some (λ (r : Served). ((‵ (flft κ′ q′) ⊛ ‵ ftrue) ⊛ ‵ (S.the-row .own r (u ∷ [])))
+        ⊛ raw (ensured 𝓤 H A value.ended (value.clauses 𝓤 H A at-mem run) (κ′, tt) (h, (s, tt)) tt r)))) (id⊢ 𝓤 _) $ await ! tt $ pick
+        ! (λ r.
         split ! $ move ! (1 ∷ []) $ use1 W (raw (fact 𝓤 (Found r))) (said r) $ heard ! (Found r) (λ e. split ! $ move ! (1 ∷ []) $
-        -- [0 the result's; 1 the second token; 2 event's; 3 the struct's cell; 4 what it owns; 5 the open borrow; 6 obs; 7 auth; 8 _4; 10 room for _3; 12 _2; 14 _1; 16 room for _0]
+        -- [0 the result's; 1 the second token; 2 event's; 3 the struct's cell; 4 what it owns; 5 the open borrow; 6 obs; 7 auth; 8 _4; 10
+        -- room for _3; 12 _2; 14 _1; 16 room for _0]
         peeks ! S.the-row (Is S.the-row) (shows 𝓤 H A S.the-row) r (u ∷ []) (λ is.
-        land ! (from ! (stop !)) (init ! 10 refl (LL.lawful S.the-type S′.the-laws 𝓤 H A W .typed r _ is .0)) $ rewrite ! 10 (λ (us : List Val). ‵ (fat fullShare S′.mir l₃ 0 (only us))) (LL.tells S.the-type S′.the-laws r (u ∷ []) is) refl $
+        land ! (from ! (stop !)) (init ! 10 refl (LL.lawful S.the-type S′.the-laws 𝓤 H A W .typed r _ is .0)) $ rewrite
+        ! 10 (λ (us : List Val). ‵ (fat fullShare S′.mir l₃ 0 (only us))) (LL.tells S.the-type S′.the-laws r (u ∷ []) is) refl $
         drop ! $ move ! (2 ∷ 3 ∷ 4 ∷ 5 ∷ 6 ∷ []) $
-        -- [0 the struct's cell; 1 what it owned; 2 the open borrow; 3 obs; 4 auth; 5 the second token; 6 event's; 7 _4; 9 _3; 11 _2; 13 _1; 15 room for _0]
-        assigns ! (of-opd ! (load ! (from ! (fld ! refl (stop !))) (look-in ! 9 (sub ! 0 refl (whole !))))) (from ! (hop ! (look ! 13 refl) (stop !))) (store-raw ! 0 refl (LL.lawful T.the-type T′.the-laws 𝓤 H A W .typed (r .tables) _ (is-tables r _ is) .0)) $
-        assigns ! (of-opd ! (load ! (from ! (fld ! refl (stop !))) (look-in ! 9 (sub ! 1 refl (whole !))))) (from ! (stop !)) (init ! 15 refl (LL.lawful D.the-type D′.the-laws 𝓤 H A W .typed (r .report) _ (is-report r _ is) .0)) $
+        -- [0 the struct's cell; 1 what it owned; 2 the open borrow; 3 obs; 4 auth; 5 the second token; 6 event's; 7 _4; 9 _3; 11 _2; 13
+        -- _1; 15 room for _0]
+        assigns ! (of-opd ! (load ! (from ! (fld ! refl (stop !))) (look-in ! 9 (sub ! 0 refl (whole !)))))
+        (from ! (hop ! (look ! 13 refl) (stop !)))
+        (store-raw ! 0 refl (LL.lawful T.the-type T′.the-laws 𝓤 H A W .typed (r .tables) _ (is-tables r _ is) .0)) $
+        assigns ! (of-opd ! (load ! (from ! (fld ! refl (stop !))) (look-in ! 9 (sub ! 1 refl (whole !))))) (from ! (stop !))
+        (init ! 15 refl (LL.lawful D.the-type D′.the-laws 𝓤 H A W .typed (r .report) _ (is-report r _ is) .0)) $
         -- the borrow is closed at the new tables
-        move ! (1 ∷ []) $ drop ! $ owned ! T.the-row (Is T.the-row) (LL.makes T.the-type T′.the-plain 𝓤 H A) (r .tables) _ (is-tables r _ is) $ move ! (1 ∷ 0 ∷ []) $ closes ! tt T.the-row (r .tables) (tvals (r .tables)) b o $
+        move ! (1 ∷ []) $ drop ! $ owned ! T.the-row (Is T.the-row) (LL.makes T.the-type T′.the-plain 𝓤 H A) (r .tables) _
+        (is-tables r _ is) $ move ! (1 ∷ 0 ∷ []) $ closes ! tt T.the-row (r .tables) (tvals (r .tables)) b o $
         -- [0 obs; 1 the borrow; 2 its token; 3 the second token; 4 event's; 5 _4; 7 _3; 9 _2; 11 _1; 13 _0]
         returns ! (look ! 13 refl) $ forget ! 5 refl $ forget ! 7 refl $ forget ! 9 refl $ forget ! 11 refl $ forget ! 13 refl $
-        move ! (13 ∷ 14 ∷ []) $ free1 ! $ move ! (11 ∷ 12 ∷ []) $ free1 ! $ move ! (9 ∷ 10 ∷ []) $ free1 ! $ move ! (7 ∷ 8 ∷ []) $ free1 ! $ move ! (5 ∷ 6 ∷ []) $ free1 ! $ free0 ! $ by ! (exits r (is-report r _ is) e))))))))))))
+        move ! (13 ∷ 14 ∷ []) $ free1 ! $ move ! (11 ∷ 12 ∷ []) $ free1 ! $ move ! (9 ∷ 10 ∷ []) $ free1 ! $ move ! (7 ∷ 8 ∷ []) $ free1
+        ! $ move ! (5 ∷ 6 ∷ []) $ free1 ! $ free0 ! $ by ! (exits r (is-report r _ is) e))))))))))))
 
 module _ {M : Type 1} (𝓤 : URA M) (H : Heap 𝓤) (A : Atoms 𝓤) (W : Given 𝓤 H A) (at-mem : Memory → SProp 𝓤) (run : Routine → Fun 𝓤) where
   step-walks : (C : Calls 𝓤 H) (Λ : Loops 𝓤 H) → FmC 𝓤 H (W .laws) C → Triple 𝓤 (C #step-numbers) (Value 𝓤 H A at-mem run)
       → Walks 𝓤 H A step.ended stayed (WpFn 𝓤 H C Λ code.function) (step.clauses 𝓤 H A at-mem run)
-  step-walks C Λ fm known = walked 𝓤 H A step.ended stayed (step.clauses 𝓤 H A at-mem run) (WpFn 𝓤 H C Λ code.function) (λ κs. (ptr-vals, (slice-vals, tt))) (λ κs. (mut-tells (named 0) (κs .0) T.the-row, (shr-slice-tells (named 1) (κs .1 .0) u8, tt)))
-      (λ κs qs bounds a _ are. via 𝓤 _ (fst∗ 𝓤 _ (emp 𝓤)) (walk 𝓤 H A W at-mem run (κs .0) (κs .1 .0) (qs .0) (qs .1 .0) (a .0 .ptr .0) (a .0 .ptr .1) (a .0 .name) (a .0 .now) (a .1 .0) C Λ fm known (are .1 .0)))
+  step-walks C Λ fm known = walked 𝓤 H A step.ended stayed (step.clauses 𝓤 H A at-mem run) (WpFn 𝓤 H C Λ code.function)
+      (λ κs. (ptr-vals, (slice-vals, tt))) (λ κs. (mut-tells (named 0) (κs .0) T.the-row, (shr-slice-tells (named 1) (κs .1 .0) u8, tt)))
+      (λ κs qs bounds a _ are. via 𝓤 _ (fst∗ 𝓤 _ (emp 𝓤))
+      (walk 𝓤 H A W at-mem run (κs .0) (κs .1 .0) (qs .0) (qs .1 .0) (a .0 .ptr .0) (a .0 .ptr .1) (a .0 .name) (a .0 .now) (a .1 .0) C Λ fm
+      known (are .1 .0)))
 
   goes : AllGo 𝓤 H A W 2 (step.signature .params) (step.ended .kept) stayed
   goes = (goes-ref 𝓤 H A W 2 0 tt (plain (λ _. T.the-row)), (goes-none-slice 𝓤 H A W 2 (1 ∷ []) tt (plain (λ _. u8)) yes, tt))
 
-step-meets : {M : Type 1} (𝓤 : URA M) (H : Heap 𝓤) (A : Atoms 𝓤) (W : Given 𝓤 H A) (at-mem : Memory → SProp 𝓤) (run : Routine → Fun 𝓤) (𝓣 : CallTables 𝓤 H)
+step-meets : {M : Type 1} (𝓤 : URA M) (H : Heap 𝓤) (A : Atoms 𝓤) (W : Given 𝓤 H A) (at-mem : Memory → SProp 𝓤) (run : Routine →
+    Fun 𝓤) (𝓣 : CallTables 𝓤 H)
     → Triple 𝓤 (𝓣 .C #step-numbers) (Value 𝓤 H A at-mem run)
     → Meets 𝓤 H A step.signature (WpFn 𝓤 H (𝓣 .C) (𝓣 .Λ) code.function) (step.spec 𝓤 H A at-mem run)
-step-meets 𝓤 H A W at-mem run 𝓣 known = walk-meets 𝓤 H A step.ended stayed W (goes 𝓤 H A W at-mem run) (step.clauses 𝓤 H A at-mem run) (WpFn 𝓤 H (𝓣 .C) (𝓣 .Λ) code.function) (WpFn-mono 𝓤 H (W .laws) 𝓣 code.function)
+step-meets 𝓤 H A W at-mem run 𝓣 known = walk-meets 𝓤 H A step.ended stayed W (goes 𝓤 H A W at-mem run) (step.clauses 𝓤 H A at-mem run)
+    (WpFn 𝓤 H (𝓣 .C) (𝓣 .Λ) code.function) (WpFn-mono 𝓤 H (W .laws) 𝓣 code.function)
     (step-walks 𝓤 H A W at-mem run (𝓣 .C) (𝓣 .Λ) (fmOf 𝓤 H (W .laws) 𝓣) known)
 
 pub nucleus-step-spec : {M : Type 1} → stated.statement M
@@ -184,4 +220,5 @@ nucleus-step-spec 𝓤 H 𝓜 𝓖 𝓡 =
     entered 𝓤 H (tripleOf 𝓤 H (𝓖 .A) step.signature (step.spec 𝓤 H (𝓖 .A) (𝓜 .mem) (𝓡 .run)))
     (tables 𝓤 H 𝓜 𝓡 code.env .C) (tables 𝓤 H 𝓜 𝓡 code.env .Λ) #step code.function (code.unfolded 𝓤 H 𝓜 𝓡)
     (step-meets 𝓤 H (𝓖 .A) (givenOf 𝓤 H 𝓜 𝓖) (𝓜 .mem) (𝓡 .run) (tablesOf 𝓤 H 𝓜 (tables 𝓤 H 𝓜 𝓡 code.env))
-    (cited 𝓤 H (Value 𝓤 H (𝓖 .A) (𝓜 .mem) (𝓡 .run)) 𝓜 𝓡 code.env #step-numbers value-def.routine code.calls-board·values·step-numbers (value-thm.met 𝓤 H 𝓜 𝓖 𝓡)))
+    (cited 𝓤 H (Value 𝓤 H (𝓖 .A) (𝓜 .mem) (𝓡 .run)) 𝓜 𝓡 code.env #step-numbers value-def.routine code.calls-board·values·step-numbers
+    (value-thm.met 𝓤 H 𝓜 𝓖 𝓡)))

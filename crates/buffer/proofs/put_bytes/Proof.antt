@@ -38,7 +38,8 @@ loop-again c =
     let a = c .before .before .before .args in
     let text : List ℕ = a .text .now in
     let i : ℕ = l .i in
-    let more : take i text ++ (getD text i 0 ∷ []) ≡ take (i + 1) text = sym (take-suc text i 0 (omega arith)) ∙ ap (λ (j : ℕ). take j text) (sym (add-one i)) in (
+    let more : take i text ++ (getD text i 0 ∷ []) ≡ take (i + 1) text =
+    sym (take-suc text i 0 (omega arith)) ∙ ap (λ (j : ℕ). take j text) (sym (add-one i)) in (
       omega arith,
       simp length-set (l .inv .1),
       said (one-more (l .inv .2) (getD text i 0) (omega arith)) more,

@@ -20,7 +20,12 @@ loop-holds : tie.Need-loop-holds Inv-loop μ-loop
 loop-holds c = refl
 
 load-in-requires-2 : tie.Need-load-in-requires-2 Inv-loop μ-loop
-load-in-requires-2 c κs = omega (arith, c .before .before .before .before .before .before .before .before .before .pre, c .before .before .loop .inv, c .before .before .before .before .m .given)
+load-in-requires-2 c κs = omega (
+  arith,
+  c .before .before .before .before .before .before .before .before .before .pre,
+  c .before .before .loop .inv,
+  c .before .before .before .before .m .given,
+)
 
 add-i : tie.Need-add-i Inv-loop μ-loop
 add-i c = omega arith

@@ -35,7 +35,8 @@ slice-aggregate-write-dump c = search needs
 
 write-dump-requires : tie.Need-write-dump-requires
 write-dump-requires c κs =
-    let w = writable _ (read-stands _ _ _ _ (c .before .before .before .before .before .load-in .ensures) (c .before .before .if2 .left)) in (w .0, omega (arith, w .1))
+    let w = writable _ (read-stands _ _ _ _ (c .before .before .before .before .before .load-in .ensures) (c .before .before .if2 .left)) in
+    (w .0, omega (arith, w .1))
 
 same-length : tie.Need-same-length
 same-length c = search needs
@@ -44,4 +45,5 @@ returns-3 : tie.Need-returns-3
 returns-3 c = search needs
 
 pub gauge-again-spec : {M : Type 1} → statement M
-gauge-again-spec = tie.close (tie.spec returns slice-aggregate-load-in load-in-requires returns-2 slice-aggregate-write-dump write-dump-requires same-length returns-3)
+gauge-again-spec = tie.close (tie.spec returns slice-aggregate-load-in load-in-requires returns-2 slice-aggregate-write-dump
+    write-dump-requires same-length returns-3)

@@ -16,7 +16,8 @@ slice-aggregate-run-in : tie.Need-slice-aggregate-run-in
 slice-aggregate-run-in c = search needs
 
 run-in-requires : tie.Need-run-in-requires
-run-in-requires c κs = let s = c .before .before .start .ensures in record { holding = s .2; ruled = rw (s .1, s .0) (start-ruled (record { threads = 64; blocks = 128 }) (omega arith)) }
+run-in-requires c κs = let s = c .before .before .start .ensures in
+    record { holding = s .2; ruled = rw (s .1, s .0) (start-ruled (record { threads = 64; blocks = 128 }) (omega arith)) }
 
 returns : tie.Need-returns
 returns c = search needs

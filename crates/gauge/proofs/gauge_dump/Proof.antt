@@ -25,10 +25,12 @@ slice-aggregate-writes-2 : tie.Need-slice-aggregate-writes-2
 slice-aggregate-writes-2 c = search needs
 
 writes-requires : tie.Need-writes-requires
-writes-requires c κs = let r = c .before .before .before .run-in .ensures in (passes _ (r .0) (r .1 ∙ checked _ (c .before .before .before .before .before .before .start-in .ensures .valid) .1), omega arith)
+writes-requires c κs = let r = c .before .before .before .run-in .ensures in
+    (passes _ (r .0) (r .1 ∙ checked _ (c .before .before .before .before .before .before .start-in .ensures .valid) .1), omega arith)
 
 returns : tie.Need-returns
 returns c = search needs
 
 pub gauge-dump-spec : {M : Type 1} → statement M
-gauge-dump-spec = tie.close (tie.spec slice-aggregate-start-in start-in-requires slice-aggregate-run-in run-in-requires slice-aggregate-writes slice-aggregate-writes-2 writes-requires returns)
+gauge-dump-spec = tie.close (tie.spec slice-aggregate-start-in start-in-requires slice-aggregate-run-in run-in-requires
+    slice-aggregate-writes slice-aggregate-writes-2 writes-requires returns)

@@ -35,7 +35,8 @@ loop-less c = omega arith
 loop-again : tie.Need-loop-again Inv-loop μ-loop
 loop-again c =
     let l = c .before .before .before .before .before .loop in
-    let long = ⊎-elim (λ w. ap length (w .1) ∙ (length-set (l .m) 6 (l .i) ∙ l .inv .0)) (λ w. ap length (w .1) ∙ l .inv .0) (c .before .before .before .if1 .came) in
+    let long = ⊎-elim (λ w. ap length (w .1) ∙ (length-set (l .m) 6 (l .i) ∙ l .inv .0)) (λ w. ap length (w .1) ∙ l .inv .0)
+    (c .before .before .before .if1 .came) in
     (long, ⊎-elim (λ w. omega arith) (λ w. omega arith) (c .if2 .came), omega arith)
 
 same-length : tie.Need-same-length Inv-loop μ-loop

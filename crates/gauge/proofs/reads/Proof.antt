@@ -30,7 +30,11 @@ loop-less : tie.Need-loop-less Inv-loop μ-loop
 loop-less c = omega arith
 
 loop-again : tie.Need-loop-again Inv-loop μ-loop
-loop-again c = (c .before .before .before .m .given ∙ c .before .before .before .before .before .before .before .loop .inv .0, ⊎-elim (λ w. omega arith) (λ w. omega arith) (c .if1 .came), omega arith)
+loop-again c = (
+  c .before .before .before .m .given ∙ c .before .before .before .before .before .before .before .loop .inv .0,
+  ⊎-elim (λ w. omega arith) (λ w. omega arith) (c .if1 .came),
+  omega arith,
+)
 
 same-length : tie.Need-same-length Inv-loop μ-loop
 same-length c = c .before .loop .inv .0

@@ -1,5 +1,5 @@
--- `run_in` meets its contract: each step leaves a memory that stands, with the limits that it had. An event that is accepted passed a byte at least, so the count does not
--- wrap; what is left of the bytes is the measure.
+-- `run_in` meets its contract: each step leaves a memory that stands, with the limits that it had. An event that is accepted passed a
+-- byte at least, so the count does not wrap; what is left of the bytes is the measure.
 use Prim.Native.Nat.{_≤_, _-_}
 use mathlib.Core.Path.{_≡_, refl, _∙_}
 use native.Mathlib.Omega.{arith}
@@ -41,13 +41,29 @@ loop-less : tie.Need-loop-less Inv-loop μ-loop
 loop-less c = omega arith
 
 loop-again : tie.Need-loop-again Inv-loop μ-loop
-loop-again c = (c .before .before .before .m .given ∙ c .before .before .before .before .before .before .before .before .before .loop .inv .0, omega arith, omega arith, c .before .before .before .before .step .ensures .at-rest, c .before .before .before .before .step .ensures .same ∙ c .before .before .before .before .before .before .before .before .before .loop .inv .4)
+loop-again c = (
+  c .before .before .before .m .given
+      ∙ c .before .before .before .before .before .before .before .before .before .loop .inv .0,
+  omega arith,
+  omega arith,
+  c .before .before .before .before .step .ensures .at-rest,
+  c .before .before .before .before .step .ensures .same
+      ∙ c .before .before .before .before .before .before .before .before .before .loop .inv .4,
+)
 
 loop-less-2 : tie.Need-loop-less-2 Inv-loop μ-loop
 loop-less-2 c = omega arith
 
 loop-again-2 : tie.Need-loop-again-2 Inv-loop μ-loop
-loop-again-2 c = (c .before .before .before .m .given ∙ c .before .before .before .before .before .before .before .before .before .loop .inv .0, omega arith, omega arith, c .before .before .before .before .step .ensures .at-rest, c .before .before .before .before .step .ensures .same ∙ c .before .before .before .before .before .before .before .before .before .loop .inv .4)
+loop-again-2 c = (
+  c .before .before .before .m .given
+      ∙ c .before .before .before .before .before .before .before .before .before .loop .inv .0,
+  omega arith,
+  omega arith,
+  c .before .before .before .before .step .ensures .at-rest,
+  c .before .before .before .before .step .ensures .same
+      ∙ c .before .before .before .before .before .before .before .before .before .loop .inv .4,
+)
 
 same-length : tie.Need-same-length Inv-loop μ-loop
 same-length c = c .before .loop .inv .0

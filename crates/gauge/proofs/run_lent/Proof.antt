@@ -38,13 +38,23 @@ loop-less : tie.Need-loop-less Inv-loop μ-loop
 loop-less c = omega arith
 
 loop-again : tie.Need-loop-again Inv-loop μ-loop
-loop-again c = (c .before .before .before .m .given ∙ c .before .before .before .before .before .before .before .before .before .loop .inv .0, omega arith, omega arith)
+loop-again c = (
+  c .before .before .before .m .given
+      ∙ c .before .before .before .before .before .before .before .before .before .loop .inv .0,
+  omega arith,
+  omega arith,
+)
 
 loop-less-2 : tie.Need-loop-less-2 Inv-loop μ-loop
 loop-less-2 c = omega arith
 
 loop-again-2 : tie.Need-loop-again-2 Inv-loop μ-loop
-loop-again-2 c = (c .before .before .before .m .given ∙ c .before .before .before .before .before .before .before .before .before .loop .inv .0, omega arith, omega arith)
+loop-again-2 c = (
+  c .before .before .before .m .given
+      ∙ c .before .before .before .before .before .before .before .before .before .loop .inv .0,
+  omega arith,
+  omega arith,
+)
 
 same-length : tie.Need-same-length Inv-loop μ-loop
 same-length c = c .before .loop .inv .0

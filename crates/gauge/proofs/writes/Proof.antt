@@ -19,7 +19,9 @@ loop-holds : tie.Need-loop-holds Inv-loop μ-loop
 loop-holds c = (refl, omega arith, omega arith)
 
 write-dump-requires : tie.Need-write-dump-requires Inv-loop μ-loop
-write-dump-requires c κs = let w = writable (c .before .before .before .before .before .args .m .now) (c .before .before .before .before .before .pre .0) in (w .0, omega (arith, w .1, c .before .before .before .before .before .pre .1, c .before .before .loop .inv .0))
+write-dump-requires c κs = let w = writable (c .before .before .before .before .before .args .m .now)
+    (c .before .before .before .before .before .pre .0) in
+    (w .0, omega (arith, w .1, c .before .before .before .before .before .pre .1, c .before .before .loop .inv .0))
 
 add-written : tie.Need-add-written Inv-loop μ-loop
 add-written c = omega arith
@@ -31,7 +33,12 @@ loop-less : tie.Need-loop-less Inv-loop μ-loop
 loop-less c = omega arith
 
 loop-again : tie.Need-loop-again Inv-loop μ-loop
-loop-again c = (c .before .before .out .given ∙ c .before .before .before .before .before .before .loop .inv .0, ⊎-elim (λ w. omega arith) (λ w. omega arith) (c .if1 .came), omega arith)
+loop-again c = (
+  c .before .before .out .given ∙ c .before .before .before .before .before .before .loop .inv .0,
+  ⊎-elim (λ w. omega arith)
+      (λ w. omega arith) (c .if1 .came),
+  omega arith,
+)
 
 same-length : tie.Need-same-length Inv-loop μ-loop
 same-length c = c .before .loop .inv .0

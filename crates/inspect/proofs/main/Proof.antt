@@ -72,7 +72,9 @@ array-share-prefix-input : tie.Need-array-share-prefix-input Inv-loop μ-loop
 array-share-prefix-input c = omega (arith, c .before .before .before .loop .inv .0, c .before .before .before .loop .inv .2)
 
 slice-aggregate-load-in-2 : tie.Need-slice-aggregate-load-in-2 Inv-loop μ-loop
-slice-aggregate-load-in-2 c = sym (length-take-le (c .before .before .before .before .loop .w .held) (c .before .before .before .before .loop .input) (c .before .before .before .before .loop .inv .2))
+slice-aggregate-load-in-2 c = sym
+    (length-take-le (c .before .before .before .before .loop .w .held) (c .before .before .before .before .loop .input)
+    (c .before .before .before .before .loop .inv .2))
 
 load-in-requires : tie.Need-load-in-requires Inv-loop μ-loop
 load-in-requires c κs = search needs
@@ -97,8 +99,17 @@ slice-aggregate-put-tables-2 c = search needs
 
 put-tables-requires : tie.Need-put-tables-requires Inv-loop μ-loop
 put-tables-requires c κs =
-    let d = read-dumpable (c .before .before .before .before .before .before .before .before .before .before .load-in .ensures) (c .before .before .if5 .taken) in
-    (d .0, d .1, omega (arith, c .before .before .before .before .before .before .print-verdict .ensures, c .before .before .before .before .before .before .before .before .before .before .before .before .before .before .before .before .large-buffer .ensures))
+    let d = read-dumpable (c .before .before .before .before .before .before .before .before .before .before .load-in .ensures)
+    (c .before .before .if5 .taken) in (
+      d .0,
+      d .1,
+      omega (
+        arith,
+        c .before .before .before .before .before .before .print-verdict .ensures,
+        c .before .before .before .before .before .before .before .before .before .before .before .before .before .before .before .before
+            .large-buffer .ensures,
+      ),
+    )
 
 slice-aggregate-print : tie.Need-slice-aggregate-print Inv-loop μ-loop
 slice-aggregate-print c = search needs

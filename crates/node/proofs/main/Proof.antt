@@ -29,7 +29,8 @@ begin-requires : tie.Need-begin-requires Inv-loop μ-loop
 begin-requires c κs = search needs
 
 loop-holds : tie.Need-loop-holds Inv-loop μ-loop
-loop-holds c = going-starts (c .before .begin .ensures) (search needs) (sym (c .before .before .before .before .input-buffer .ensures)) (sym (c .before .before .before .large-buffer .ensures)) (omega arith)
+loop-holds c = going-starts (c .before .begin .ensures) (search needs) (sym (c .before .before .before .before .input-buffer .ensures))
+    (sym (c .before .before .before .large-buffer .ensures)) (omega arith)
 
 sub-rounds : tie.Need-sub-rounds Inv-loop μ-loop
 sub-rounds c = search needs
@@ -59,7 +60,9 @@ slice-aggregate-print : tie.Need-slice-aggregate-print Inv-loop μ-loop
 slice-aggregate-print c = search needs
 
 print-requires : tie.Need-print-requires Inv-loop μ-loop
-print-requires c κs = round-within (c .before .before .before .before .before .before .before .before .before .before .before .before .loop .inv) (c .before .before .before .before .before .round .ensures) (search needs)
+print-requires c κs = round-within
+    (c .before .before .before .before .before .before .before .before .before .before .before .before .loop .inv)
+    (c .before .before .before .before .before .round .ensures) (search needs)
 
 returns-2 : tie.Need-returns-2 Inv-loop μ-loop
 returns-2 c = search needs
@@ -68,7 +71,9 @@ loop-less : tie.Need-loop-less Inv-loop μ-loop
 loop-less c = omega arith
 
 loop-again : tie.Need-loop-again Inv-loop μ-loop
-loop-again c = going-on (c .before .before .before .before .before .before .before .before .before .before .before .before .before .before .loop .inv) (c .before .before .before .before .before .before .before .round .ensures) (search needs) (search needs) (omega arith)
+loop-again c =
+    going-on (c .before .before .before .before .before .before .before .before .before .before .before .before .before .before .loop .inv)
+    (c .before .before .before .before .before .before .before .round .ensures) (search needs) (search needs) (omega arith)
 
 slice-aggregate-serve : tie.Need-slice-aggregate-serve Inv-loop μ-loop
 slice-aggregate-serve c = search needs
@@ -86,7 +91,8 @@ slice-aggregate-print-2 : tie.Need-slice-aggregate-print-2 Inv-loop μ-loop
 slice-aggregate-print-2 c = search needs
 
 print-requires-2 : tie.Need-print-requires-2 Inv-loop μ-loop
-print-requires-2 c κs = end-within (c .before .before .before .before .before .before .before .before .loop .inv) (c .before .before .before .serve .ensures) (search needs)
+print-requires-2 c κs = end-within (c .before .before .before .before .before .before .before .before .loop .inv)
+    (c .before .before .before .serve .ensures) (search needs)
 
 slice-aggregate-put-last : tie.Need-slice-aggregate-put-last Inv-loop μ-loop
 slice-aggregate-put-last c = search needs
@@ -95,7 +101,11 @@ slice-aggregate-put-last-2 : tie.Need-slice-aggregate-put-last-2 Inv-loop μ-loo
 slice-aggregate-put-last-2 c = search needs
 
 put-last-requires : tie.Need-put-last-requires Inv-loop μ-loop
-put-last-requires c κs = (ends-right (c .before .before .before .before .before .before .before .before .before .before .before .before .loop .inv) (c .before .before .before .before .before .before .before .serve .ensures) .standing .at-rest .holding .shaped, omega arith)
+put-last-requires c κs = (
+  ends-right (c .before .before .before .before .before .before .before .before .before .before .before .before .loop .inv)
+      (c .before .before .before .before .before .before .before .serve .ensures) .standing .at-rest .holding .shaped,
+  omega arith,
+)
 
 slice-aggregate-print-3 : tie.Need-slice-aggregate-print-3 Inv-loop μ-loop
 slice-aggregate-print-3 c = search needs

@@ -1,4 +1,5 @@
--- `main` is safe and ends: the rounds that are left go down, and between two of them all is as `Going` says. At the end the tables can be dumped.
+-- `main` is safe and ends: the rounds that are left go down, and between two of them all is as `Going` says. At the end the tables can be
+-- dumped.
 use mathlib.Core.Path.{sym}
 use native.Mathlib.Omega.{arith}
 use borrow.Author.Needs.{needs}
@@ -31,7 +32,8 @@ begin-requires : tie.Need-begin-requires Inv-loop μ-loop
 begin-requires c κs = search needs
 
 loop-holds : tie.Need-loop-holds Inv-loop μ-loop
-loop-holds c = going-starts (c .before .begin .ensures) (search needs) (sym (c .before .before .before .before .input-buffer .ensures)) (sym (c .before .before .before .large-buffer .ensures)) (omega arith)
+loop-holds c = going-starts (c .before .begin .ensures) (search needs) (sym (c .before .before .before .before .input-buffer .ensures))
+    (sym (c .before .before .before .large-buffer .ensures)) (omega arith)
 
 sub-rounds : tie.Need-sub-rounds Inv-loop μ-loop
 sub-rounds c = search needs
@@ -61,7 +63,8 @@ loop-less : tie.Need-loop-less Inv-loop μ-loop
 loop-less c = omega arith
 
 loop-again : tie.Need-loop-again Inv-loop μ-loop
-loop-again c = going-on (c .before .before .before .before .before .before .before .before .before .before .before .loop .inv) (c .before .before .before .before .round .ensures) (search needs) (search needs) (omega arith)
+loop-again c = going-on (c .before .before .before .before .before .before .before .before .before .before .before .loop .inv)
+    (c .before .before .before .before .round .ensures) (search needs) (search needs) (omega arith)
 
 slice-aggregate-serve : tie.Need-slice-aggregate-serve Inv-loop μ-loop
 slice-aggregate-serve c = search needs
@@ -83,7 +86,8 @@ slice-aggregate-write-dump-2 c = search needs
 
 write-dump-requires : tie.Need-write-dump-requires Inv-loop μ-loop
 write-dump-requires c κs =
-    let s = ends-right (c .before .before .before .before .before .before .before .before .before .loop .inv) (c .before .before .before .before .serve .ensures) .standing in
+    let s = ends-right (c .before .before .before .before .before .before .before .before .before .loop .inv)
+    (c .before .before .before .before .serve .ensures) .standing in
     let w = writable _ (passes _ (s .at-rest) (s .small)) in
     (w .0, omega (arith, w .1))
 

@@ -17,10 +17,21 @@ is-nothing-requires : tie.Need-is-nothing-requires
 is-nothing-requires c κs = search needs
 
 returns-2 : tie.Need-returns-2
-returns-2 c = rw (← c .before .before .before .answer-in-range .ensures, not-false (c .before .before .before .answer-in-range .result) (c .before .before .if1 .left), ← c .before .is-ready .ensures, c .if2 .taken)
+returns-2 c = rw (
+  ← c .before .before .before .answer-in-range .ensures,
+  not-false (c .before .before .before .answer-in-range .result)
+      (c .before .before .if1 .left),
+  ← c .before .is-ready .ensures,
+  c .if2 .taken,
+)
 
 returns-3 : tie.Need-returns-3
-returns-3 c = rw (← c .before .before .before .before .answer-in-range .ensures, not-false (c .before .before .before .before .answer-in-range .result) (c .before .before .before .if1 .left), ← c .before .before .is-ready .ensures, c .before .if2 .left) (c .is-nothing .ensures)
+returns-3 c = rw (
+  ← c .before .before .before .before .answer-in-range .ensures,
+  not-false (c .before .before .before .before .answer-in-range .result) (c .before .before .before .if1 .left),
+  ← c .before .before .is-ready .ensures,
+  c .before .if2 .left,
+) (c .is-nothing .ensures)
 
 pub answer-right-spec : {M : Type 1} → statement M
 answer-right-spec =

@@ -15,7 +15,8 @@ use Rattle.agreeing.proofs.answers.answers_right.Statement.{statement}
 use Rattle.agreeing.proofs.answers.answers_right.Tie as tie
 
 abbrev Inv-loop : tie.InvT-loop
-Inv-loop m n i₀ i = Over (λ (t : Thread). answer-in-range (t .answer) && (is-ready (t .state) || is-nothing (t .answer))) (rows-of m .count) (rows-of m .threads) n i
+Inv-loop m n i₀ i = Over (λ (t : Thread). answer-in-range (t .answer) && (is-ready (t .state) || is-nothing (t .answer))) (rows-of m .count)
+    (rows-of m .threads) n i
 
 abbrev μ-loop : tie.MeasureT-loop
 μ-loop m n i₀ i = n - i
@@ -27,10 +28,13 @@ loop-holds : tie.Need-loop-holds Inv-loop μ-loop
 loop-holds c = over-starts _ _ _ _ (threads-whole (c .before .before .args .m .now) (c .before .before .pre)) (c .count .ensures)
 
 state-at-requires : tie.Need-state-at-requires Inv-loop μ-loop
-state-at-requires c κs = thread-reach (c .before .before .before .before .args .m .now) (c .before .before .before .before .pre) _ (c .before .loop .i) _ (c .before .loop .inv .same) (omega arith) (c .loop-test .taken)
+state-at-requires c κs = thread-reach (c .before .before .before .before .args .m .now) (c .before .before .before .before .pre) _
+    (c .before .loop .i) _ (c .before .loop .inv .same) (omega arith) (c .loop-test .taken)
 
 answer-at-requires : tie.Need-answer-at-requires Inv-loop μ-loop
-answer-at-requires c κs = thread-reach (c .before .before .before .before .before .args .m .now) (c .before .before .before .before .before .pre) _ (c .before .before .loop .i) _ (c .before .before .loop .inv .same) (omega arith) (c .before .loop-test .taken)
+answer-at-requires c κs = thread-reach (c .before .before .before .before .before .args .m .now)
+    (c .before .before .before .before .before .pre) _ (c .before .before .loop .i) _ (c .before .before .loop .inv .same) (omega arith)
+    (c .before .loop-test .taken)
 
 answer-right-requires : tie.Need-answer-right-requires Inv-loop μ-loop
 answer-right-requires c κs = search needs
@@ -43,14 +47,18 @@ loop-less c = omega (arith, c .before .before .before .before .loop-test .taken)
 
 loop-again : tie.Need-loop-again Inv-loop μ-loop
 loop-again c =
-    let e = ap₂ (λ (s : State) (a : Answer). answer-in-range a && (is-ready s || is-nothing a)) (sym (c .before .before .before .state-at .ensures)) (sym (c .before .before .answer-at .ensures)) in
-    over-next _ _ _ _ _ _ no-thread (c .before .before .before .before .before .loop .inv) (c .before .before .before .before .loop-test .taken) refl (e ∙ (sym (c .before .answer-right .ensures) ∙ c .if1 .taken))
+    let e = ap₂ (λ (s : State) (a : Answer). answer-in-range a && (is-ready s || is-nothing a))
+    (sym (c .before .before .before .state-at .ensures)) (sym (c .before .before .answer-at .ensures)) in
+    over-next _ _ _ _ _ _ no-thread (c .before .before .before .before .before .loop .inv)
+    (c .before .before .before .before .loop-test .taken) refl (e ∙ (sym (c .before .answer-right .ensures) ∙ c .if1 .taken))
 
 returns : tie.Need-returns Inv-loop μ-loop
 unfolding tables
 returns c =
-    let e = ap₂ (λ (s : State) (a : Answer). answer-in-range a && (is-ready s || is-nothing a)) (sym (c .before .before .before .state-at .ensures)) (sym (c .before .before .answer-at .ensures)) in
-    over-fails _ _ _ _ _ _ no-thread (c .before .before .before .before .before .loop .inv) (c .before .before .before .before .loop-test .taken) refl (e ∙ (sym (c .before .answer-right .ensures) ∙ c .if1 .left))
+    let e = ap₂ (λ (s : State) (a : Answer). answer-in-range a && (is-ready s || is-nothing a))
+    (sym (c .before .before .before .state-at .ensures)) (sym (c .before .before .answer-at .ensures)) in
+    over-fails _ _ _ _ _ _ no-thread (c .before .before .before .before .before .loop .inv)
+    (c .before .before .before .before .loop-test .taken) refl (e ∙ (sym (c .before .answer-right .ensures) ∙ c .if1 .left))
 
 returns-2 : tie.Need-returns-2 Inv-loop μ-loop
 unfolding tables

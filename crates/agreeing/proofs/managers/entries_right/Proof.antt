@@ -17,7 +17,9 @@ entry-right-requires c κs = search needs
 
 returns : tie.Need-returns
 unfolding manager
-returns c = λ T I e. rw (failed (entry-read T (c .before .before .before .name-at .ensures) (c .before .before .manager-at .ensures) (c .before .entry-right .ensures _ I e)) (c .if1 .taken))
+returns c =
+    λ T I e. rw (failed (entry-read T (c .before .before .before .name-at .ensures) (c .before .before .manager-at .ensures)
+    (c .before .entry-right .ensures _ I e)) (c .if1 .taken))
 
 manager-at-requires-2 : tie.Need-manager-at-requires-2
 manager-at-requires-2 c κs = c .before .before .before .before .before .pre
@@ -28,7 +30,13 @@ entry-right-requires-2 c κs = search needs
 returns-2 : tie.Need-returns-2
 unfolding manager
 returns-2 c = λ T I e.
-    rw (passed (entry-read T (c .before .before .before .before .before .before .name-at .ensures) (c .before .before .before .before .before .manager-at .ensures) (c .before .before .before .before .entry-right .ensures _ I e)) (c .before .before .before .if1 .left), failed (entry-read T (c .before .before .before .before .before .before .name-at .ensures) (c .before .before .manager-at2 .ensures) (c .before .entry-right2 .ensures _ I e)) (c .if2 .taken))
+    rw (
+      passed (entry-read T (c .before .before .before .before .before .before .name-at .ensures)
+          (c .before .before .before .before .before .manager-at .ensures) (c .before .before .before .before .entry-right .ensures _ I e))
+          (c .before .before .before .if1 .left),
+      failed (entry-read T (c .before .before .before .before .before .before .name-at .ensures) (c .before .before .manager-at2 .ensures)
+          (c .before .entry-right2 .ensures _ I e)) (c .if2 .taken),
+    )
 
 manager-at-requires-3 : tie.Need-manager-at-requires-3
 manager-at-requires-3 c κs = c .before .before .before .before .before .before .before .before .pre
@@ -39,7 +47,16 @@ entry-right-requires-3 c κs = search needs
 returns-3 : tie.Need-returns-3
 unfolding manager
 returns-3 c = λ T I e.
-    rw (passed (entry-read T (c .before .before .before .before .before .before .before .before .name-at .ensures) (c .before .before .before .before .before .before .before .manager-at .ensures) (c .before .before .before .before .before .before .entry-right .ensures _ I e)) (c .before .before .before .before .before .if1 .left), passed (entry-read T (c .before .before .before .before .before .before .before .before .name-at .ensures) (c .before .before .before .before .manager-at2 .ensures) (c .before .before .before .entry-right2 .ensures _ I e)) (c .before .before .if2 .left)) (entry-read T (c .before .before .before .before .before .before .before .before .name-at .ensures) (c .before .manager-at3 .ensures) (c .entry-right3 .ensures _ I e))
+    rw (
+      passed (entry-read T (c .before .before .before .before .before .before .before .before .name-at .ensures)
+          (c .before .before .before .before .before .before .before .manager-at .ensures)
+          (c .before .before .before .before .before .before .entry-right .ensures _ I e))
+          (c .before .before .before .before .before .if1 .left),
+      passed (entry-read T (c .before .before .before .before .before .before .before .before .name-at .ensures)
+          (c .before .before .before .before .manager-at2 .ensures) (c .before .before .before .entry-right2 .ensures _ I e))
+          (c .before .before .if2 .left),
+    ) (entry-read T (c .before .before .before .before .before .before .before .before .name-at .ensures) (c .before .manager-at3 .ensures)
+    (c .entry-right3 .ensures _ I e))
 
 pub entries-right-spec : {M : Type 1} → statement M
 entries-right-spec =

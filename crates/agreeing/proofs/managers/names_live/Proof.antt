@@ -15,7 +15,8 @@ use Rattle.agreeing.proofs.managers.names_live.Statement.{statement}
 use Rattle.agreeing.proofs.managers.names_live.Tie as tie
 
 abbrev Inv-loop : tie.InvT-loop
-Inv-loop m at n i₀ i = Over (λ (t : Thread). wanted-live (view (rows-of m)) (t .state) && entries-right (view (rows-of m)) t) (rows-of m .count) (rows-of m .threads) n i
+Inv-loop m at n i₀ i = Over (λ (t : Thread). wanted-live (view (rows-of m)) (t .state) && entries-right (view (rows-of m)) t)
+    (rows-of m .count) (rows-of m .threads) n i
 
 abbrev μ-loop : tie.MeasureT-loop
 μ-loop m at n i₀ i = n - i
@@ -27,7 +28,8 @@ loop-holds : tie.Need-loop-holds Inv-loop μ-loop
 loop-holds c = over-starts _ _ _ _ (threads-whole (c .before .before .args .m .now) (c .before .before .pre .0)) (c .count .ensures)
 
 state-at-requires : tie.Need-state-at-requires Inv-loop μ-loop
-state-at-requires c κs = thread-reach (c .before .before .before .before .args .m .now) (c .before .before .before .before .pre .0) _ (c .before .loop .i) _ (c .before .loop .inv .same) (omega arith) (c .loop-test .taken)
+state-at-requires c κs = thread-reach (c .before .before .before .before .args .m .now) (c .before .before .before .before .pre .0) _
+    (c .before .loop .i) _ (c .before .loop .inv .same) (omega arith) (c .loop-test .taken)
 
 wanted-live-requires : tie.Need-wanted-live-requires Inv-loop μ-loop
 wanted-live-requires c κs = search needs
@@ -35,11 +37,18 @@ wanted-live-requires c κs = search needs
 returns : tie.Need-returns Inv-loop μ-loop
 unfolding tables wanted-live
 returns c =
-    let l = read-length (c .before .before .before .before .before .before .before .args .m .now) (c .before .before .before .before .before .before .before .pre .0) _ (c .before .before .before .before .before .count .ensures) in
-    over-fails _ _ _ _ _ _ no-thread (c .before .before .before .before .loop .inv) (c .before .before .before .loop-test .taken) refl (fails-first _ (ap (λ (s : State). wanted-live (view (rows-of (c .before .before .before .before .before .before .before .args .m .now))) s) (sym (c .before .before .state-at .ensures)) ∙ failed (c .before .wanted-live .ensures _ (c .before .before .before .before .before .before .before .pre .1) l) (c .if1 .taken)))
+    let l = read-length (c .before .before .before .before .before .before .before .args .m .now)
+    (c .before .before .before .before .before .before .before .pre .0) _ (c .before .before .before .before .before .count .ensures) in
+    over-fails _ _ _ _ _ _ no-thread (c .before .before .before .before .loop .inv) (c .before .before .before .loop-test .taken) refl
+    (fails-first _
+    (ap (λ (s : State). wanted-live (view (rows-of (c .before .before .before .before .before .before .before .args .m .now))) s)
+    (sym (c .before .before .state-at .ensures))
+    ∙ failed (c .before .wanted-live .ensures _ (c .before .before .before .before .before .before .before .pre .1) l) (c .if1 .taken)))
 
 entries-right-requires : tie.Need-entries-right-requires Inv-loop μ-loop
-entries-right-requires c κs = thread-reach (c .before .before .before .before .before .before .before .args .m .now) (c .before .before .before .before .before .before .before .pre .0) _ (c .before .before .before .before .loop .i) _ (c .before .before .before .before .loop .inv .same) (omega arith) (c .before .before .before .loop-test .taken)
+entries-right-requires c κs = thread-reach (c .before .before .before .before .before .before .before .args .m .now)
+    (c .before .before .before .before .before .before .before .pre .0) _ (c .before .before .before .before .loop .i) _
+    (c .before .before .before .before .loop .inv .same) (omega arith) (c .before .before .before .loop-test .taken)
 
 add-i : tie.Need-add-i Inv-loop μ-loop
 add-i c = omega (arith, c .before .before .before .before .before .loop-test .taken)
@@ -50,16 +59,38 @@ loop-less c = omega (arith, c .before .before .before .before .before .loop-test
 loop-again : tie.Need-loop-again Inv-loop μ-loop
 unfolding tables wanted-live
 loop-again c =
-    let l = read-length (c .before .before .before .before .before .before .before .before .before .args .m .now) (c .before .before .before .before .before .before .before .before .before .pre .0) _ (c .before .before .before .before .before .before .before .count .ensures) in
-    let w = ap (λ (s : State). wanted-live (view (rows-of (c .before .before .before .before .before .before .before .before .before .args .m .now))) s) (sym (c .before .before .before .before .state-at .ensures)) ∙ passed (c .before .before .before .wanted-live .ensures _ (c .before .before .before .before .before .before .before .before .before .pre .1) l) (c .before .before .if1 .left) in
-    over-next _ _ _ _ _ _ no-thread (c .before .before .before .before .before .before .loop .inv) (c .before .before .before .before .before .loop-test .taken) refl (and-then w (sym (c .before .entries-right .ensures (tables (c .before .before .before .before .before .before .before .before .before .args .m .now)) (c .before .before .before .before .before .before .before .before .before .pre .1) l) ∙ c .if2 .taken))
+    let l = read-length (c .before .before .before .before .before .before .before .before .before .args .m .now)
+    (c .before .before .before .before .before .before .before .before .before .pre .0) _
+    (c .before .before .before .before .before .before .before .count .ensures) in
+    let w = ap (λ (s : State). wanted-live
+    (view (rows-of (c .before .before .before .before .before .before .before .before .before .args .m .now))) s)
+    (sym (c .before .before .before .before .state-at .ensures))
+    ∙ passed (c .before .before .before .wanted-live .ensures _
+    (c .before .before .before .before .before .before .before .before .before .pre .1) l) (c .before .before .if1 .left) in
+    over-next _ _ _ _ _ _ no-thread (c .before .before .before .before .before .before .loop .inv)
+    (c .before .before .before .before .before .loop-test .taken) refl
+    (and-then w
+    (sym (c .before .entries-right .ensures
+    (tables (c .before .before .before .before .before .before .before .before .before .args .m .now))
+    (c .before .before .before .before .before .before .before .before .before .pre .1) l) ∙ c .if2 .taken))
 
 returns-2 : tie.Need-returns-2 Inv-loop μ-loop
 unfolding tables wanted-live
 returns-2 c =
-    let l = read-length (c .before .before .before .before .before .before .before .before .before .args .m .now) (c .before .before .before .before .before .before .before .before .before .pre .0) _ (c .before .before .before .before .before .before .before .count .ensures) in
-    let w = ap (λ (s : State). wanted-live (view (rows-of (c .before .before .before .before .before .before .before .before .before .args .m .now))) s) (sym (c .before .before .before .before .state-at .ensures)) ∙ passed (c .before .before .before .wanted-live .ensures _ (c .before .before .before .before .before .before .before .before .before .pre .1) l) (c .before .before .if1 .left) in
-    over-fails _ _ _ _ _ _ no-thread (c .before .before .before .before .before .before .loop .inv) (c .before .before .before .before .before .loop-test .taken) refl (and-then w (sym (c .before .entries-right .ensures (tables (c .before .before .before .before .before .before .before .before .before .args .m .now)) (c .before .before .before .before .before .before .before .before .before .pre .1) l) ∙ c .if2 .left))
+    let l = read-length (c .before .before .before .before .before .before .before .before .before .args .m .now)
+    (c .before .before .before .before .before .before .before .before .before .pre .0) _
+    (c .before .before .before .before .before .before .before .count .ensures) in
+    let w = ap (λ (s : State). wanted-live
+    (view (rows-of (c .before .before .before .before .before .before .before .before .before .args .m .now))) s)
+    (sym (c .before .before .before .before .state-at .ensures))
+    ∙ passed (c .before .before .before .wanted-live .ensures _
+    (c .before .before .before .before .before .before .before .before .before .pre .1) l) (c .before .before .if1 .left) in
+    over-fails _ _ _ _ _ _ no-thread (c .before .before .before .before .before .before .loop .inv)
+    (c .before .before .before .before .before .loop-test .taken) refl
+    (and-then w
+    (sym (c .before .entries-right .ensures
+    (tables (c .before .before .before .before .before .before .before .before .before .args .m .now))
+    (c .before .before .before .before .before .before .before .before .before .pre .1) l) ∙ c .if2 .left))
 
 returns-3 : tie.Need-returns-3 Inv-loop μ-loop
 unfolding tables

@@ -25,10 +25,13 @@ loop-holds : tie.Need-loop-holds Inv-loop μ-loop
 loop-holds c = over-starts _ _ _ _ (threads-whole (c .before .before .args .m .now) (c .before .before .pre)) (c .count .ensures)
 
 state-at-requires : tie.Need-state-at-requires Inv-loop μ-loop
-state-at-requires c κs = thread-reach (c .before .before .before .before .args .m .now) (c .before .before .before .before .pre) _ (c .before .loop .i) _ (c .before .loop .inv .same) (omega arith) (c .loop-test .taken)
+state-at-requires c κs = thread-reach (c .before .before .before .before .args .m .now) (c .before .before .before .before .pre) _
+    (c .before .loop .i) _ (c .before .loop .inv .same) (omega arith) (c .loop-test .taken)
 
 manager-set-requires : tie.Need-manager-set-requires Inv-loop μ-loop
-manager-set-requires c κs = thread-reach (c .before .before .before .before .before .args .m .now) (c .before .before .before .before .before .pre) _ (c .before .before .loop .i) _ (c .before .before .loop .inv .same) (omega arith) (c .before .loop-test .taken)
+manager-set-requires c κs = thread-reach (c .before .before .before .before .before .args .m .now)
+    (c .before .before .before .before .before .pre) _ (c .before .before .loop .i) _ (c .before .before .loop .inv .same) (omega arith)
+    (c .before .loop-test .taken)
 
 add-i : tie.Need-add-i Inv-loop μ-loop
 add-i c = omega (arith, c .before .before .before .loop-test .taken)
@@ -38,14 +41,20 @@ loop-less c = omega (arith, c .before .before .before .loop-test .taken)
 
 loop-again : tie.Need-loop-again Inv-loop μ-loop
 loop-again c =
-    let e = ap (λ (s : State). manager-set (getD (rows-of (c .before .before .before .before .before .before .before .args .m .now) .threads) (c .before .before .before .before .loop .i) no-thread .managers) s) (sym (c .before .before .state-at .ensures)) in
-    over-next _ _ _ _ _ _ no-thread (c .before .before .before .before .loop .inv) (c .before .before .before .loop-test .taken) refl (e ∙ (sym (c .before .manager-set .ensures) ∙ c .if1 .taken))
+    let e = ap (λ (s : State). manager-set
+    (getD (rows-of (c .before .before .before .before .before .before .before .args .m .now) .threads)
+    (c .before .before .before .before .loop .i) no-thread .managers) s) (sym (c .before .before .state-at .ensures)) in
+    over-next _ _ _ _ _ _ no-thread (c .before .before .before .before .loop .inv) (c .before .before .before .loop-test .taken) refl
+    (e ∙ (sym (c .before .manager-set .ensures) ∙ c .if1 .taken))
 
 returns : tie.Need-returns Inv-loop μ-loop
 unfolding tables
 returns c =
-    let e = ap (λ (s : State). manager-set (getD (rows-of (c .before .before .before .before .before .before .before .args .m .now) .threads) (c .before .before .before .before .loop .i) no-thread .managers) s) (sym (c .before .before .state-at .ensures)) in
-    over-fails _ _ _ _ _ _ no-thread (c .before .before .before .before .loop .inv) (c .before .before .before .loop-test .taken) refl (e ∙ (sym (c .before .manager-set .ensures) ∙ c .if1 .left))
+    let e = ap (λ (s : State). manager-set
+    (getD (rows-of (c .before .before .before .before .before .before .before .args .m .now) .threads)
+    (c .before .before .before .before .loop .i) no-thread .managers) s) (sym (c .before .before .state-at .ensures)) in
+    over-fails _ _ _ _ _ _ no-thread (c .before .before .before .before .loop .inv) (c .before .before .before .loop-test .taken) refl
+    (e ∙ (sym (c .before .manager-set .ensures) ∙ c .if1 .left))
 
 returns-2 : tie.Need-returns-2 Inv-loop μ-loop
 unfolding tables

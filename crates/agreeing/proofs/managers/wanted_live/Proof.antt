@@ -40,7 +40,8 @@ returns-3 : tie.Need-returns-3
 returns-3 c = λ ts I e. rw (c .before .before .before .s .given .1, c .enum-told3 .given .1)
 
 returns-4 : tie.Need-returns-4
-returns-4 c = λ ts I e. rw (c .before .before .before .before .before .s .given .1, c .before .before .w .given .1) (c .is-live .ensures ts I e)
+returns-4 c =
+    λ ts I e. rw (c .before .before .before .before .before .s .given .1, c .before .before .w .given .1) (c .is-live .ensures ts I e)
 
 returns-5 : tie.Need-returns-5
 returns-5 c = λ ts I e. rw (c .enum-told4 .given .1)

@@ -17,7 +17,13 @@ one-if-requires-2 : tie.Need-one-if-requires-2
 one-if-requires-2 c κs = search needs
 
 returns : tie.Need-returns
-returns c = rw (← c .before .before .before .before .is-running .ensures, ← c .before .before .before .one-if .ensures, ← c .before .before .is-runner .ensures, ← c .before .one-if2 .ensures, ne-eqb _ _ (c .if1 .taken))
+returns c = rw (
+  ← c .before .before .before .before .is-running .ensures,
+  ← c .before .before .before .one-if .ensures,
+  ← c .before .before .is-runner .ensures,
+  ← c .before .one-if2 .ensures,
+  ne-eqb _ _ (c .if1 .taken),
+)
 
 is-ready-requires : tie.Need-is-ready-requires
 is-ready-requires c κs = search needs
@@ -26,7 +32,16 @@ one-if-requires-3 : tie.Need-one-if-requires-3
 one-if-requires-3 c κs = search needs
 
 returns-2 : tie.Need-returns-2
-returns-2 c = rw (← c .before .before .before .before .before .before .before .is-running .ensures, ← c .before .before .before .before .before .before .one-if .ensures, ← c .before .before .before .before .before .is-runner .ensures, ← c .before .before .before .before .one-if2 .ensures, eq-eqb _ _ (c .before .before .before .if1 .left), ← c .before .before .is-ready .ensures, ← c .before .one-if3 .ensures, ne-eqb _ _ (c .if2 .taken))
+returns-2 c = rw (
+  ← c .before .before .before .before .before .before .before .is-running .ensures,
+  ← c .before .before .before .before .before .before .one-if .ensures,
+  ← c .before .before .before .before .before .is-runner .ensures,
+  ← c .before .before .before .before .one-if2 .ensures,
+  eq-eqb _ _ (c .before .before .before .if1 .left),
+  ← c .before .before .is-ready .ensures,
+  ← c .before .one-if3 .ensures,
+  ne-eqb _ _ (c .if2 .taken),
+)
 
 on-clock-requires : tie.Need-on-clock-requires
 on-clock-requires c κs = search needs
@@ -35,7 +50,18 @@ one-if-requires-4 : tie.Need-one-if-requires-4
 one-if-requires-4 c κs = search needs
 
 returns-3 : tie.Need-returns-3
-returns-3 c = rw (← c .before .before .before .before .before .before .before .before .before .is-running .ensures, ← c .before .before .before .before .before .before .before .before .one-if .ensures, ← c .before .before .before .before .before .before .before .is-runner .ensures, ← c .before .before .before .before .before .before .one-if2 .ensures, eq-eqb _ _ (c .before .before .before .before .before .if1 .left), ← c .before .before .before .before .is-ready .ensures, ← c .before .before .before .one-if3 .ensures, eq-eqb _ _ (c .before .before .if2 .left), ← c .before .on-clock .ensures, ← c .one-if4 .ensures)
+returns-3 c = rw (
+  ← c .before .before .before .before .before .before .before .before .before .is-running .ensures,
+  ← c .before .before .before .before .before .before .before .before .one-if .ensures,
+  ← c .before .before .before .before .before .before .before .is-runner .ensures,
+  ← c .before .before .before .before .before .before .one-if2 .ensures,
+  eq-eqb _ _ (c .before .before .before .before .before .if1 .left),
+  ← c .before .before .before .before .is-ready .ensures,
+  ← c .before .before .before .one-if3 .ensures,
+  eq-eqb _ _ (c .before .before .if2 .left),
+  ← c .before .on-clock .ensures,
+  ← c .one-if4 .ensures,
+)
 
 pub agrees-spec : {M : Type 1} → statement M
 agrees-spec =

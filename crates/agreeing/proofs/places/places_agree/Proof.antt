@@ -26,32 +26,81 @@ runner-live-requires c κs = search needs
 returns-2 : tie.Need-returns-2
 unfolding tables
 returns-2 c =
-    let l = read-length (c .before .before .before .before .before .before .before .args .m .now) (c .before .before .before .before .before .before .before .pre .0) _ (c .before .before .before .count .ensures) in
-    rw (passed (c .before .before .before .before .before .all-agree .ensures) (c .before .before .before .before .if1 .left), failed (runner-read _ (c .before .before .runner .ensures) (c .before .runner-live .ensures _ (c .before .before .before .before .before .before .before .pre .1) l)) (c .if2 .taken))
+    let l = read-length (c .before .before .before .before .before .before .before .args .m .now)
+    (c .before .before .before .before .before .before .before .pre .0) _ (c .before .before .before .count .ensures) in
+    rw (
+      passed (c .before .before .before .before .before .all-agree .ensures) (c .before .before .before .before .if1 .left),
+      failed (runner-read _ (c .before .before .runner .ensures)
+          (c .before .runner-live .ensures _ (c .before .before .before .before .before .before .before .pre .1) l)) (c .if2 .taken),
+    )
 
 readies-requires : tie.Need-readies-requires
-readies-requires c κs = roomy (c .before .before .before .before .before .before .before .args .m .now) (c .before .before .before .before .before .before .before .pre .0)
+readies-requires c κs = roomy (c .before .before .before .before .before .before .before .args .m .now)
+    (c .before .before .before .before .before .before .before .pre .0)
 
 all-live-requires : tie.Need-all-live-requires
-all-live-requires c κs = (c .before .before .before .before .before .before .before .before .pre .0, omega (arith, c .readies .ensures, ready-counted (c .before .before .before .before .before .before .before .before .args .m .now) (c .before .before .before .before .before .before .before .before .pre .0)))
+all-live-requires c κs = (
+  c .before .before .before .before .before .before .before .before .pre .0,
+  omega (
+    arith,
+    c .readies .ensures,
+    ready-counted (c .before .before .before .before .before .before .before .before .args .m .now)
+        (c .before .before .before .before .before .before .before .before .pre .0),
+  ),
+)
 
 returns-3 : tie.Need-returns-3
 unfolding tables
 returns-3 c =
-    let l = read-length (c .before .before .before .before .before .before .before .before .before .before .args .m .now) (c .before .before .before .before .before .before .before .before .before .before .pre .0) _ (c .before .before .before .before .before .before .count .ensures) in
-    rw (passed (c .before .before .before .before .before .before .before .before .all-agree .ensures) (c .before .before .before .before .before .before .before .if1 .left), passed (runner-read _ (c .before .before .before .before .before .runner .ensures) (c .before .before .before .before .runner-live .ensures _ (c .before .before .before .before .before .before .before .before .before .before .pre .1) l)) (c .before .before .before .if2 .left), failed (queue-read _ _ (c .before .before .readies .ensures) (c .before .all-live .ensures _ (c .before .before .before .before .before .before .before .before .before .before .pre .1) l)) (c .if3 .taken))
+    let l = read-length (c .before .before .before .before .before .before .before .before .before .before .args .m .now)
+    (c .before .before .before .before .before .before .before .before .before .before .pre .0) _
+    (c .before .before .before .before .before .before .count .ensures) in
+    rw (
+      passed (c .before .before .before .before .before .before .before .before .all-agree .ensures)
+          (c .before .before .before .before .before .before .before .if1 .left),
+      passed (runner-read _ (c .before .before .before .before .before .runner .ensures)
+          (c .before .before .before .before .runner-live .ensures _
+          (c .before .before .before .before .before .before .before .before .before .before .pre .1) l))
+          (c .before .before .before .if2 .left),
+      failed (queue-read _ _ (c .before .before .readies .ensures)
+          (c .before .all-live .ensures _ (c .before .before .before .before .before .before .before .before .before .before .pre .1) l))
+          (c .if3 .taken),
+    )
 
 clocks-requires : tie.Need-clocks-requires
-clocks-requires c κs = roomy (c .before .before .before .before .before .before .before .before .before .before .args .m .now) (c .before .before .before .before .before .before .before .before .before .before .pre .0)
+clocks-requires c κs = roomy (c .before .before .before .before .before .before .before .before .before .before .args .m .now)
+    (c .before .before .before .before .before .before .before .before .before .before .pre .0)
 
 all-live-requires-2 : tie.Need-all-live-requires-2
-all-live-requires-2 c κs = (c .before .before .before .before .before .before .before .before .before .before .before .pre .0, omega (arith, c .clocks .ensures, clock-counted (c .before .before .before .before .before .before .before .before .before .before .before .args .m .now) (c .before .before .before .before .before .before .before .before .before .before .before .pre .0)))
+all-live-requires-2 c κs = (
+  c .before .before .before .before .before .before .before .before .before .before .before .pre .0,
+  omega (
+    arith,
+    c .clocks .ensures,
+    clock-counted (c .before .before .before .before .before .before .before .before .before .before .before .args .m .now)
+        (c .before .before .before .before .before .before .before .before .before .before .before .pre .0),
+  ),
+)
 
 returns-4 : tie.Need-returns-4
 unfolding tables
 returns-4 c =
-    let l = read-length (c .before .before .before .before .before .before .before .before .before .before .before .before .args .m .now) (c .before .before .before .before .before .before .before .before .before .before .before .before .pre .0) _ (c .before .before .before .before .before .before .before .before .count .ensures) in
-    rw (passed (c .before .before .before .before .before .before .before .before .before .before .all-agree .ensures) (c .before .before .before .before .before .before .before .before .before .if1 .left), passed (runner-read _ (c .before .before .before .before .before .before .before .runner .ensures) (c .before .before .before .before .before .before .runner-live .ensures _ (c .before .before .before .before .before .before .before .before .before .before .before .before .pre .1) l)) (c .before .before .before .before .before .if2 .left), passed (queue-read _ _ (c .before .before .before .before .readies .ensures) (c .before .before .before .all-live .ensures _ (c .before .before .before .before .before .before .before .before .before .before .before .before .pre .1) l)) (c .before .before .if3 .left)) (queue-read _ _ (c .before .clocks .ensures) (c .all-live2 .ensures _ (c .before .before .before .before .before .before .before .before .before .before .before .before .pre .1) l))
+    let l = read-length (c .before .before .before .before .before .before .before .before .before .before .before .before .args .m .now)
+    (c .before .before .before .before .before .before .before .before .before .before .before .before .pre .0) _
+    (c .before .before .before .before .before .before .before .before .count .ensures) in
+    rw (
+      passed (c .before .before .before .before .before .before .before .before .before .before .all-agree .ensures)
+          (c .before .before .before .before .before .before .before .before .before .if1 .left),
+      passed (runner-read _ (c .before .before .before .before .before .before .before .runner .ensures)
+          (c .before .before .before .before .before .before .runner-live .ensures _
+          (c .before .before .before .before .before .before .before .before .before .before .before .before .pre .1) l))
+          (c .before .before .before .before .before .if2 .left),
+      passed (queue-read _ _ (c .before .before .before .before .readies .ensures)
+          (c .before .before .before .all-live .ensures _
+          (c .before .before .before .before .before .before .before .before .before .before .before .before .pre .1) l))
+          (c .before .before .if3 .left),
+    ) (queue-read _ _ (c .before .clocks .ensures)
+    (c .all-live2 .ensures _ (c .before .before .before .before .before .before .before .before .before .before .before .before .pre .1) l))
 
 pub places-agree-spec : {M : Type 1} → statement M
 places-agree-spec =

@@ -28,7 +28,9 @@ returns c = rw (← c .before .before .before .before .runner .ensures, c .befor
 
 returns-2 : tie.Need-returns-2
 unfolding tables Shaped
-returns-2 c = rw (← c .before .before .before .runner .ensures, c .before .enum-told .given .1) (ap (λ (n : ℕ). n == 0) (c .readies .ensures ∙ sym (ready-count (c .before .before .before .before .before .args .m .now) _ (c .before .before .before .before .before .pre))))
+returns-2 c = rw (← c .before .before .before .runner .ensures, c .before .enum-told .given .1)
+    (ap (λ (n : ℕ). n == 0) (c .readies .ensures
+    ∙ sym (ready-count (c .before .before .before .before .before .args .m .now) _ (c .before .before .before .before .before .pre))))
 
 returns-3 : tie.Need-returns-3
 unfolding tables

@@ -19,7 +19,10 @@ loop-holds : tie.Need-loop-holds Inv-loop μ-loop
 loop-holds c = tally-starts _ _ (omega (arith, queue-long (c .before .args .m .now) (c .before .args .ready), c .before .pre .1))
 
 queued-at-requires : tie.Need-queued-at-requires Inv-loop μ-loop
-queued-at-requires c κs = (roomy (c .before .before .before .args .m .now) (c .before .before .before .pre .0), omega (arith, c .loop-test .taken, c .before .before .before .pre .1))
+queued-at-requires c κs = (
+  roomy (c .before .before .before .args .m .now) (c .before .before .before .pre .0),
+  omega (arith, c .loop-test .taken, c .before .before .before .pre .1),
+)
 
 cast-x : tie.Need-cast-x Inv-loop μ-loop
 cast-x c = search needs
@@ -28,7 +31,13 @@ array-read-c : tie.Need-array-read-c Inv-loop μ-loop
 array-read-c c = omega (arith, c .before .before .loop .inv .size)
 
 add-c : tie.Need-add-c Inv-loop μ-loop
-add-c c = omega (arith, tally-low _ _ _ _ (c .queued-at .result) (c .before .before .loop .inv) (omega arith), c .before .loop-test .taken, c .before .before .before .before .pre .1, few (c .before .before .before .before .args .m .now) (c .before .before .before .before .pre .0))
+add-c c = omega (
+  arith,
+  tally-low _ _ _ _ (c .queued-at .result) (c .before .before .loop .inv) (omega arith),
+  c .before .loop-test .taken,
+  c .before .before .before .before .pre .1,
+  few (c .before .before .before .before .args .m .now) (c .before .before .before .before .pre .0),
+)
 
 array-write-c : tie.Need-array-write-c Inv-loop μ-loop
 array-write-c c = omega (arith, c .before .before .loop .inv .size)

@@ -10,7 +10,8 @@ no-tables-requires : tie.Need-no-tables-requires
 no-tables-requires c κs = search needs
 
 returns : tie.Need-returns
-returns c = let entry = c .before .before .before .before in refused-11 (sym (entry .pre) ∙ not-true _ (c .before .if1 .taken)) (c .no-tables .ensures)
+returns c = let entry = c .before .before .before .before in
+    refused-11 (sym (entry .pre) ∙ not-true _ (c .before .if1 .taken)) (c .no-tables .ensures)
 
 step-requires : tie.Need-step-requires
 step-requires c κs = checked _ (sym (c .before .before .before .before .pre) ∙ not-false _ (c .before .if1 .left)) .0

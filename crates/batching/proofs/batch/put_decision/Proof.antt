@@ -19,13 +19,15 @@ cast-out-2 : tie.Need-cast-out-2
 cast-out-2 c = search needs
 
 slice-write-out-2 : tie.Need-slice-write-out-2
-slice-write-out-2 c = let a = c .before .before .before in let h : 1 < length (a .args .out .now) = omega (arith, a .pre) in search (needs, h)
+slice-write-out-2 c = let a = c .before .before .before in let h : 1 < length (a .args .out .now) = omega (arith, a .pre) in
+    search (needs, h)
 
 cast-out-3 : tie.Need-cast-out-3
 cast-out-3 c = search needs
 
 slice-write-out-3 : tie.Need-slice-write-out-3
-slice-write-out-3 c = let a = c .before .before .before .before in let h : 2 < length (a .args .out .now) = omega (arith, a .pre) in search (needs, h)
+slice-write-out-3 c = let a = c .before .before .before .before in let h : 2 < length (a .args .out .now) = omega (arith, a .pre) in
+    search (needs, h)
 
 kind-code-requires : tie.Need-kind-code-requires
 kind-code-requires c κs = search needs
@@ -34,7 +36,8 @@ cast-out-4 : tie.Need-cast-out-4
 cast-out-4 c = search needs
 
 slice-write-out-4 : tie.Need-slice-write-out-4
-slice-write-out-4 c = let a = c .before .before .before .before .before in let h : 3 < length (a .args .out .now) = omega (arith, a .pre) in search (needs, h)
+slice-write-out-4 c = let a = c .before .before .before .before .before in let h : 3 < length (a .args .out .now) = omega (arith, a .pre) in
+    search (needs, h)
 
 sender-code-requires : tie.Need-sender-code-requires
 sender-code-requires c κs = search needs
@@ -43,7 +46,8 @@ cast-out-5 : tie.Need-cast-out-5
 cast-out-5 c = search needs
 
 slice-write-out-5 : tie.Need-slice-write-out-5
-slice-write-out-5 c = let a = c .before .before .before .before .before .before in let h : 4 < length (a .args .out .now) = omega (arith, a .pre) in search (needs, h)
+slice-write-out-5 c = let a = c .before .before .before .before .before .before in let h : 4 < length (a .args .out .now) =
+    omega (arith, a .pre) in search (needs, h)
 
 word-code-requires : tie.Need-word-code-requires
 word-code-requires c κs = search needs

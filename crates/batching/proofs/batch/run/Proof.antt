@@ -1,5 +1,5 @@
--- `batch::run` meets its contract. Whenever the loop's test is reached, the events so far were run by single calls, and their decisions stand in the
--- buffer. The measure is how many are left.
+-- `batch::run` meets its contract. Whenever the loop's test is reached, the events so far were run by single calls, and their decisions
+-- stand in the buffer. The measure is how many are left.
 use Prim.Native.Nat.{_+_, _≤_}
 use mathlib.Core.Path.{_≡_, ap}
 use native.Mathlib.Omega.{arith}
@@ -19,7 +19,8 @@ abbrev μ-loop : tie.MeasureT-loop
 -- where the next field ends, and that it lies within the bytes
 found : (n : tie.After-cut-at Inv-loop μ-loop) →
     let used = n .before .before .loop .used in
-    n .cut-at .result .end ≡ used + field-size (drop used (n .before .before .before .before .before .before .before .before .args .events .now))
+    n .cut-at .result .end ≡ used + field-size
+    (drop used (n .before .before .before .before .before .before .before .before .args .events .now))
 found n = ap (λ (x : Cut). x .end) (n .cut-at .ensures)
 
 within : (n : tie.After-cut-at Inv-loop μ-loop) →
@@ -31,7 +32,8 @@ check-requires : tie.Need-check-requires Inv-loop μ-loop
 check-requires c κs = tt
 
 loop-holds : tie.Need-loop-holds Inv-loop μ-loop
-loop-holds c = let entry = c .before .before .before .before .before in running-starts _ _ _ _ _ (c .check .ensures) (entry .pre .0) (entry .pre .1)
+loop-holds c = let entry = c .before .before .before .before .before in
+    running-starts _ _ _ _ _ (c .check .ensures) (entry .pre .0) (entry .pre .1)
 
 cut-at-requires : tie.Need-cut-at-requires Inv-loop μ-loop
 cut-at-requires c κs = tt
@@ -63,7 +65,8 @@ part-put-decision-end : tie.Need-part-put-decision-end Inv-loop μ-loop
 part-put-decision-end c = omega arith
 
 put-decision-requires : tie.Need-put-decision-requires Inv-loop μ-loop
-put-decision-requires c κs = let at-test = c .before .before .before .before .before .before .before in has-room (at-test .before .loop .inv) (at-test .loop-test .taken)
+put-decision-requires c κs = let at-test = c .before .before .before .before .before .before .before in
+    has-room (at-test .before .loop .inv) (at-test .loop-test .taken)
 
 add-filled : tie.Need-add-filled Inv-loop μ-loop
 add-filled c =

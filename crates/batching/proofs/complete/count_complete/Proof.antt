@@ -1,5 +1,5 @@
--- `complete::count_complete` meets its contract. Whenever the loop's test is reached, the fields up to the place are counted. The measure is how many
--- bytes are left.
+-- `complete::count_complete` meets its contract. Whenever the loop's test is reached, the fields up to the place are counted. The measure
+-- is how many bytes are left.
 use Prim.Native.Nat.{_-_}
 use mathlib.Core.Path.{sym, _∙_}
 use lib.ListN.{length}

@@ -17,7 +17,14 @@ returns : tie.Need-returns
 unfolding report-of
 returns c =
     let d = c .before .before .before .args .d in
-    λ i. record { refusal = d .refusal; status = d .status; runner = d .runner; kind = c .before .before .kind-code .ensures i; sender = c .before .sender-code .ensures i; word = c .word-code .ensures i }
+    λ i. record {
+      refusal = d .refusal;
+      status = d .status;
+      runner = d .runner;
+      kind = c .before .before .kind-code .ensures i;
+      sender = c .before .sender-code .ensures i;
+      word = c .word-code .ensures i;
+    }
 
 pub report-spec : {M : Type 1} → statement M
 report-spec =

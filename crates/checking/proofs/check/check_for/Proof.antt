@@ -19,14 +19,17 @@ returns c = sym (fails-first _ (failed (c .before .shaped .ensures) (c .if1 .tak
 rules-met-requires : tie.Need-rules-met-requires
 rules-met-requires c κs =
     let L : Limits = record { threads = c .before .before .before .args .threads; blocks = c .before .before .before .args .blocks } in
-    shaped-right L (c .before .before .before .args .m .now) (passed (c .before .shaped .ensures) (c .if1 .left)) (c .before .before .before .pre .0) (c .before .before .before .pre .1)
+    shaped-right L (c .before .before .before .args .m .now) (passed (c .before .shaped .ensures) (c .if1 .left))
+    (c .before .before .before .pre .0) (c .before .before .before .pre .1)
 
 returns-2 : tie.Need-returns-2
 unfolding stands
 returns-2 c =
-    let L : Limits = record { threads = c .before .before .before .before .args .threads; blocks = c .before .before .before .before .args .blocks } in
+    let L : Limits =
+    record { threads = c .before .before .before .before .args .threads; blocks = c .before .before .before .before .args .blocks } in
     let e = passed (c .before .before .shaped .ensures) (c .before .if1 .left) in
-    c .rules-met .ensures ∙ (ap (λ (l : Limits). table-rules l (tables (c .before .before .before .before .args .m .now))) (own-limits L (c .before .before .before .before .args .m .now) e) ∙ sym (and-then e refl))
+    c .rules-met .ensures ∙ (ap (λ (l : Limits). table-rules l (tables (c .before .before .before .before .args .m .now)))
+    (own-limits L (c .before .before .before .before .args .m .now) e) ∙ sym (and-then e refl))
 
 pub check-for-spec : {M : Type 1} → statement M
 check-for-spec = tie.close (tie.spec shaped-requires returns rules-met-requires returns-2)

@@ -13,13 +13,19 @@ trapped-right-requires : tie.Need-trapped-right-requires
 trapped-right-requires c κs = c .before .before .before .pre .0
 
 returns-2 : tie.Need-returns-2
-returns-2 c = rw (passed (c .before .before .before .names-live .ensures) (c .before .before .if1 .left), failed (c .before .trapped-right .ensures) (c .if2 .taken))
+returns-2 c = rw (
+  passed (c .before .before .before .names-live .ensures) (c .before .before .if1 .left),
+  failed (c .before .trapped-right .ensures) (c .if2 .taken),
+)
 
 answers-right-requires : tie.Need-answers-right-requires
 answers-right-requires c κs = c .before .before .before .before .before .pre .0
 
 returns-3 : tie.Need-returns-3
-returns-3 c = rw (passed (c .before .before .before .before .names-live .ensures) (c .before .before .before .if1 .left), passed (c .before .before .trapped-right .ensures) (c .before .if2 .left)) (c .answers-right .ensures)
+returns-3 c = rw (
+  passed (c .before .before .before .before .names-live .ensures) (c .before .before .before .if1 .left),
+  passed (c .before .before .trapped-right .ensures) (c .before .if2 .left),
+) (c .answers-right .ensures)
 
 pub threads-right-spec : {M : Type 1} → statement M
 threads-right-spec =

@@ -26,15 +26,37 @@ returns-3 c = ⊎-elim
 returns-4 : tie.Need-returns-4
 unfolding answer-right
 returns-4 c = ⊎-elim
-    (λ z. rw (eq-eqb _ _ (z .0 .taken), z .1 .left, ne-eqb _ _ (c .before .before .if3 .left), ne-eqb _ _ (c .before .if4 .left), eq-eqb _ _ (c .if5 .taken)))
-    (λ z. rw (ne-eqb _ _ (z .left), ne-eqb _ _ (c .before .before .if3 .left), ne-eqb _ _ (c .before .if4 .left), eq-eqb _ _ (c .if5 .taken)))
+    (λ z. rw (
+      eq-eqb _ _ (z .0 .taken),
+      z .1 .left,
+      ne-eqb _ _ (c .before .before .if3 .left),
+      ne-eqb _ _ (c .before .if4 .left),
+      eq-eqb _ _ (c .if5 .taken),
+    ))
+    (λ z. rw (
+      ne-eqb _ _ (z .left),
+      ne-eqb _ _ (c .before .before .if3 .left),
+      ne-eqb _ _ (c .before .if4 .left),
+      eq-eqb _ _ (c .if5 .taken),
+    ))
     (c .before .before .before .if1 .came)
 
 returns-5 : tie.Need-returns-5
 unfolding answer-right
 returns-5 c = ⊎-elim
-    (λ z. rw (eq-eqb _ _ (z .0 .taken), z .1 .left, ne-eqb _ _ (c .before .before .if3 .left), ne-eqb _ _ (c .before .if4 .left), ne-eqb _ _ (c .if5 .left)))
-    (λ z. rw (ne-eqb _ _ (z .left), ne-eqb _ _ (c .before .before .if3 .left), ne-eqb _ _ (c .before .if4 .left), ne-eqb _ _ (c .if5 .left)))
+    (λ z. rw (
+      eq-eqb _ _ (z .0 .taken),
+      z .1 .left,
+      ne-eqb _ _ (c .before .before .if3 .left),
+      ne-eqb _ _ (c .before .if4 .left),
+      ne-eqb _ _ (c .if5 .left),
+    ))
+    (λ z. rw (
+      ne-eqb _ _ (z .left),
+      ne-eqb _ _ (c .before .before .if3 .left),
+      ne-eqb _ _ (c .before .if4 .left),
+      ne-eqb _ _ (c .if5 .left),
+    ))
     (c .before .before .before .if1 .came)
 
 pub answer-right-spec : {M : Type 1} → statement M

@@ -39,7 +39,12 @@ returns : tie.Need-returns
 returns c =
     let p2 = counted (c .before .before .before .before .before .before .put-two .ensures) 2 refl in
     said (counted (behind p2 (c .before .before .put-word .ensures)) 6 refl)
-    ((λ i. c .before .before .before .before .before .before .before .before .byte .ensures i ∷ c .before .before .before .before .before .before .before .sender-number .ensures i ∷ four-bytes (c .before .before .before .before .before .before .before .before .before .before .before .before .before .args .w)) ∙ answer-shown _ _ _ (sym (c .before .before .before .before .before .before .before .before .before .before .before .answer-right .ensures) ∙ c .before .before .before .before .before .before .before .before .before .before .if1 .taken))
+    ((λ i. c .before .before .before .before .before .before .before .before .byte .ensures i
+    ∷ c .before .before .before .before .before .before .before .sender-number .ensures i
+    ∷ four-bytes (c .before .before .before .before .before .before .before .before .before .before .before .before .before .args .w))
+    ∙ answer-shown _ _ _
+    (sym (c .before .before .before .before .before .before .before .before .before .before .before .answer-right .ensures)
+    ∙ c .before .before .before .before .before .before .before .before .before .before .if1 .taken))
 
 put-two-requires-2 : tie.Need-put-two-requires-2
 put-two-requires-2 c κs = search needs
@@ -62,7 +67,11 @@ same-length-2 c = search needs
 returns-2 : tie.Need-returns-2
 returns-2 c =
     let p2 = counted (c .before .before .before .before .before .before .put-two2 .ensures) 2 refl in
-    said (counted (behind p2 (c .before .before .put-word2 .ensures)) 6 refl) (answer-else _ _ _ (sym (c .before .before .before .before .before .before .before .before .before .answer-right .ensures) ∙ c .before .before .before .before .before .before .before .before .if1 .left))
+    said (counted (behind p2 (c .before .before .put-word2 .ensures)) 6 refl)
+    (answer-else _ _ _ (sym (c .before .before .before .before .before .before .before .before .before .answer-right .ensures)
+    ∙ c .before .before .before .before .before .before .before .before .if1 .left))
 
 pub write-answer-spec : {M : Type 1} → statement M
-write-answer-spec = tie.close (tie.spec answer-right-requires byte-requires sender-number-requires put-two-requires sub-put-word part-put-word-start part-put-word-end put-word-requires same-length returns put-two-requires-2 sub-put-word-2 part-put-word-start-2 part-put-word-end-2 put-word-requires-2 same-length-2 returns-2)
+write-answer-spec = tie.close (tie.spec answer-right-requires byte-requires sender-number-requires put-two-requires sub-put-word
+    part-put-word-start part-put-word-end put-word-requires same-length returns put-two-requires-2 sub-put-word-2 part-put-word-start-2
+    part-put-word-end-2 put-word-requires-2 same-length-2 returns-2)

@@ -27,13 +27,17 @@ same-length c = search needs
 
 returns : tie.Need-returns
 returns c = said (c .before .before .put-two .ensures)
-    ((λ i. c .before .before .before .before .byte .ensures i ∷ c .before .before .before .byte2 .ensures i ∷ []) ∙ state-shown _ _ (sym (c .before .before .before .before .before .before .before .state-right .ensures) ∙ c .before .before .before .before .before .before .if1 .taken))
+    ((λ i. c .before .before .before .before .byte .ensures i ∷ c .before .before .before .byte2 .ensures i ∷ [])
+    ∙ state-shown _ _ (sym (c .before .before .before .before .before .before .before .state-right .ensures)
+    ∙ c .before .before .before .before .before .before .if1 .taken))
 
 same-length-2 : tie.Need-same-length-2
 same-length-2 c = search needs
 
 returns-2 : tie.Need-returns-2
-returns-2 c = said (c .before .before .put-two2 .ensures) (state-else _ _ (sym (c .before .before .before .before .before .state-right .ensures) ∙ c .before .before .before .before .if1 .left))
+returns-2 c = said (c .before .before .put-two2 .ensures)
+    (state-else _ _ (sym (c .before .before .before .before .before .state-right .ensures) ∙ c .before .before .before .before .if1 .left))
 
 pub write-state-spec : {M : Type 1} → statement M
-write-state-spec = tie.close (tie.spec state-right-requires byte-requires byte-requires-2 put-two-requires put-two-requires-2 same-length returns same-length-2 returns-2)
+write-state-spec = tie.close (tie.spec state-right-requires byte-requires byte-requires-2 put-two-requires put-two-requires-2 same-length
+    returns same-length-2 returns-2)

@@ -23,7 +23,11 @@ count-word-requires : tie.Need-count-word-requires Inv-loop μ-loop
 count-word-requires c κs = (c .before .before .before .pre .shaped, c .loop-test .taken)
 
 add-n : tie.Need-add-n Inv-loop μ-loop
-add-n c = omega (arith, count-within (c .before .before .loop .inv) (c .before .loop-test .taken) (c .count-word .ensures), held-few (c .before .before .before .before .pre))
+add-n c = omega (
+  arith,
+  count-within (c .before .before .loop .inv) (c .before .loop-test .taken) (c .count-word .ensures),
+  held-few (c .before .before .before .before .pre),
+)
 
 add-d : tie.Need-add-d Inv-loop μ-loop
 add-d c = search needs

@@ -22,19 +22,34 @@ long : (s : tie.Start) → Lengths (shown s)
 long s = lengths (shown s)
 
 -- ---- what stands at the front after each part
-abbrev head-put : (w : tie.After-write-head) → Front (field 1 (head-value (shown (w .before .before .before .before)))) (lent (w .before .before .before .before))
+abbrev head-put : (w : tie.After-write-head) →
+    Front (field 1 (head-value (shown (w .before .before .before .before)))) (lent (w .before .before .before .before))
 head-put w = front (w .write-head .ensures)
 
-abbrev threads-put : (w : tie.After-write-threads) → Front (to-threads (shown (w .before .before .before .before .before .before .before .before))) (lent (w .before .before .before .before .before .before .before .before))
+abbrev threads-put : (w : tie.After-write-threads) →
+    Front (to-threads (shown (w .before .before .before .before .before .before .before .before)))
+    (lent (w .before .before .before .before .before .before .before .before))
 threads-put w = after (head-put (w .before .before .before .before)) (w .write-threads .ensures)
 
-abbrev ready-put : (w : tie.After-write-ready) → Front (to-ready (shown (w .before .before .before .before .before .before .before .before .before .before .before .before))) (lent (w .before .before .before .before .before .before .before .before .before .before .before .before))
+abbrev ready-put : (w : tie.After-write-ready) →
+    Front (to-ready (shown (w .before .before .before .before .before .before .before .before .before .before .before .before)))
+    (lent (w .before .before .before .before .before .before .before .before .before .before .before .before))
 ready-put w = after (threads-put (w .before .before .before .before)) (w .write-ready .ensures)
 
-abbrev clock-put : (w : tie.After-write-clock) → Front (to-clock (shown (w .before .before .before .before .before .before .before .before .before .before .before .before .before .before .before .before))) (lent (w .before .before .before .before .before .before .before .before .before .before .before .before .before .before .before .before))
+abbrev clock-put : (w : tie.After-write-clock) →
+    Front (to-clock
+    (shown (w .before .before .before .before .before .before .before .before .before .before .before .before .before .before .before
+    .before)))
+    (lent (w .before .before .before .before .before .before .before .before .before .before .before .before .before .before .before
+    .before))
 clock-put w = after (ready-put (w .before .before .before .before)) (w .write-clock .ensures)
 
-abbrev messages-put : (w : tie.After-write-messages) → Front (to-messages (shown (w .before .before .before .before .before .before .before .before .before .before .before .before .before .before .before .before .before .before .before .before))) (lent (w .before .before .before .before .before .before .before .before .before .before .before .before .before .before .before .before .before .before .before .before))
+abbrev messages-put : (w : tie.After-write-messages) →
+    Front (to-messages
+    (shown (w .before .before .before .before .before .before .before .before .before .before .before .before .before .before .before
+    .before .before .before .before .before)))
+    (lent (w .before .before .before .before .before .before .before .before .before .before .before .before .before .before .before .before
+    .before .before .before .before))
 messages-put w = after (clock-put (w .before .before .before .before)) (w .write-messages .ensures)
 
 write-head-requires : tie.Need-write-head-requires
@@ -99,7 +114,8 @@ write-clock-requires c κs =
 
 add-at-3 : tie.Need-add-at-3
 add-at-3 c =
-    let s = c .before .before .before .before .before .before .before .before .before .before .before .before .before .before .before .before .before .before in
+    let s = c .before .before .before .before .before .before .before .before .before .before .before .before .before .before .before
+    .before .before .before in
     omega (arith, clock-put (c .before .before) .so .counts, long s .clock, long s .whole, s .pre .1)
 
 sub-write-messages : tie.Need-sub-write-messages
@@ -113,13 +129,15 @@ part-write-messages-end c = search needs
 
 write-messages-requires : tie.Need-write-messages-requires
 write-messages-requires c κs =
-    let s = c .before .before .before .before .before .before .before .before .before .before .before .before .before .before .before .before .before .before .before in
+    let s = c .before .before .before .before .before .before .before .before .before .before .before .before .before .before .before
+    .before .before .before .before in
     let p = clock-put (c .before .before .before) .so in
     (s .pre .0 .shaped, omega (arith, room p, p .counts, long s .clock, long s .whole, s .pre .1))
 
 add-at-4 : tie.Need-add-at-4
 add-at-4 c =
-    let s = c .before .before .before .before .before .before .before .before .before .before .before .before .before .before .before .before .before .before .before .before .before .before in
+    let s = c .before .before .before .before .before .before .before .before .before .before .before .before .before .before .before
+    .before .before .before .before .before .before .before in
     omega (arith, messages-put (c .before .before) .so .counts, long s .messages, long s .whole, s .pre .1)
 
 sub-write-held : tie.Need-sub-write-held
@@ -133,15 +151,23 @@ part-write-held-end c = search needs
 
 write-held-requires : tie.Need-write-held-requires
 write-held-requires c κs =
-    let s = c .before .before .before .before .before .before .before .before .before .before .before .before .before .before .before .before .before .before .before .before .before .before .before in
+    let s = c .before .before .before .before .before .before .before .before .before .before .before .before .before .before .before
+    .before .before .before .before .before .before .before .before in
     let p = messages-put (c .before .before .before) .so in
     (s .pre .0, omega (arith, room p, p .counts, long s .messages, long s .whole, s .pre .1))
 
 add-at-5 : tie.Need-add-at-5
 unfolding dump
 add-at-5 c =
-    let s = c .before .before .before .before .before .before .before .before .before .before .before .before .before .before .before .before .before .before .before .before .before .before .before .before .before .before in
-    omega (arith, after (messages-put (c .before .before .before .before .before .before)) (c .before .before .write-held .ensures) .so .counts, long s .whole, s .pre .1)
+    let s = c .before .before .before .before .before .before .before .before .before .before .before .before .before .before .before
+    .before .before .before .before .before .before .before .before .before .before .before in
+    omega (
+      arith,
+      after (messages-put (c .before .before .before .before .before .before))
+          (c .before .before .write-held .ensures) .so .counts,
+      long s .whole,
+      s .pre .1,
+    )
 
 same-length : tie.Need-same-length
 same-length c = search needs

@@ -86,11 +86,25 @@ same-length c = search needs
 
 returns : tie.Need-returns
 returns c =
-    let p3 = counted (c .before .before .before .before .before .before .before .before .before .before .before .before .before .before .before .before .before .before .before .before .before .before .before .before .before .before .put-head .ensures) 3 refl in
-    let p5 = counted (behind p3 (c .before .before .before .before .before .before .before .before .before .before .before .before .before .before .before .before .before .before .put-two .ensures)) 5 refl in
-    let p7 = counted (behind p5 (c .before .before .before .before .before .before .before .before .before .before .before .before .write-state .ensures)) 7 refl in
+    let p3 = counted
+    (c .before .before .before .before .before .before .before .before .before .before .before .before .before .before .before .before
+    .before .before .before .before .before .before .before .before .before .before .put-head .ensures) 3 refl in
+    let p5 = counted
+    (behind p3
+    (c .before .before .before .before .before .before .before .before .before .before .before .before .before .before .before .before
+    .before .before .put-two .ensures)) 5 refl in
+    let p7 = counted
+    (behind p5 (c .before .before .before .before .before .before .before .before .before .before .before .before .write-state .ensures)) 7
+    refl in
     said (counted (behind p7 (c .before .before .put-three .ensures)) 10 refl)
-    (front-bytes (c .before .before .before .before .before .before .before .before .before .before .before .before .before .before .before .before .before .before .before .before .before .before .before .before .before .before .before .before .before .before .args .w .now) (c .before .before .before .before .before .before .before .before .before .before .before .before .before .before .before .before .before .before .before .before .before .byte .ensures) (c .before .before .before .before .before .before .before .before .before .before .before .before .before .before .before .before .before .before .before .byte2 .ensures) (c .before .before .before .before .before .before .before .manager-number .ensures) (c .before .before .before .before .before .manager-number2 .ensures) (c .before .before .before .manager-number3 .ensures))
+    (front-bytes
+    (c .before .before .before .before .before .before .before .before .before .before .before .before .before .before .before .before
+    .before .before .before .before .before .before .before .before .before .before .before .before .before .before .args .w .now)
+    (c .before .before .before .before .before .before .before .before .before .before .before .before .before .before .before .before
+    .before .before .before .before .before .byte .ensures)
+    (c .before .before .before .before .before .before .before .before .before .before .before .before .before .before .before .before
+    .before .before .before .byte2 .ensures) (c .before .before .before .before .before .before .before .manager-number .ensures)
+    (c .before .before .before .before .before .manager-number2 .ensures) (c .before .before .before .manager-number3 .ensures))
 
 pub write-front-spec : {M : Type 1} → statement M
 write-front-spec =

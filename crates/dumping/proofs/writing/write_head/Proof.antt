@@ -77,17 +77,36 @@ same-length c = search needs
 
 returns : tie.Need-returns
 returns c =
-    let p3 = counted (c .before .before .before .before .before .before .before .before .before .before .before .before .before .before .put-head .ensures) 3 refl in
-    let p6 = counted (behind p3 (c .before .before .before .before .before .before .before .before .before .before .put-three .ensures)) 6 refl in
+    let p3 = counted
+    (c .before .before .before .before .before .before .before .before .before .before .before .before .before .before .put-head .ensures) 3
+    refl in
+    let p6 = counted (behind p3 (c .before .before .before .before .before .before .before .before .before .before .put-three .ensures)) 6
+    refl in
     let p8 = counted (behind p6 (c .before .before .before .before .before .before .put-two .ensures)) 8 refl in
     said (counted (behind p8 (c .before .before .put-word .ensures)) 12 refl)
-    (head-bytes (tables (c .before .before .before .before .before .before .before .before .before .before .before .before .before .before .before .before .before .before .before .before .before .before .before .before .before .before .args .m .now))
-    (c .before .before .before .before .before .before .before .before .before .before .before .before .before .before .before .before .before .before .before .before .before .status-code .ensures ∙ ap status-code (c .before .before .before .before .before .before .before .before .before .before .before .before .before .before .before .before .before .before .before .before .before .before .before .status .ensures))
-    (c .before .before .before .before .before .before .before .before .before .before .before .before .before .before .before .before .before .before .last .ensures)
-    (c .before .before .before .before .before .before .before .before .before .before .before .before .before .before .before .before .before .before .before .before .runner-code .ensures ∙ ap me (c .before .before .before .before .before .before .before .before .before .before .before .before .before .before .before .before .before .before .before .before .before .before .runner .ensures))
-    (c .before .before .before .before .before .before .before .before .before .before .before .before .before .before .before .before .before .before .before .slice-code .ensures ∙ ap slice-code (c .before .before .before .before .before .before .before .before .before .before .before .before .before .before .before .before .before .before .before .before .before .before .runner .ensures))
-    (c .before .before .before .before .before .before .before .before .before .before .before .before .before .before .before .before .before .since .ensures)
-    (c .before .before .before .before .before .before .before .before .before .before .before .before .before .before .before .before .beats .ensures))
+    (head-bytes
+    (tables (c .before .before .before .before .before .before .before .before .before .before .before .before .before .before .before
+    .before .before .before .before .before .before .before .before .before .before .before .args .m .now))
+    (c .before .before .before .before .before .before .before .before .before .before .before .before .before .before .before .before
+    .before .before .before .before .before .status-code .ensures
+    ∙ ap status-code
+    (c .before .before .before .before .before .before .before .before .before .before .before .before .before .before .before .before
+    .before .before .before .before .before .before .before .status .ensures))
+    (c .before .before .before .before .before .before .before .before .before .before .before .before .before .before .before .before
+    .before .before .last .ensures)
+    (c .before .before .before .before .before .before .before .before .before .before .before .before .before .before .before .before
+    .before .before .before .before .runner-code .ensures
+    ∙ ap me (c .before .before .before .before .before .before .before .before .before .before .before .before .before .before .before
+    .before .before .before .before .before .before .before .runner .ensures))
+    (c .before .before .before .before .before .before .before .before .before .before .before .before .before .before .before .before
+    .before .before .before .slice-code .ensures
+    ∙ ap slice-code
+    (c .before .before .before .before .before .before .before .before .before .before .before .before .before .before .before .before
+    .before .before .before .before .before .before .runner .ensures))
+    (c .before .before .before .before .before .before .before .before .before .before .before .before .before .before .before .before
+    .before .since .ensures)
+    (c .before .before .before .before .before .before .before .before .before .before .before .before .before .before .before .before
+    .beats .ensures))
 
 pub write-head-spec : {M : Type 1} → statement M
 write-head-spec =

@@ -6,14 +6,16 @@ use Rattle.laws.proofs.DumpLength.{held-length}
 use Rattle.store.specs.Store.{tables}
 use Rattle.dumping.specs.Dumping.{held-at}
 use Rattle.dumping.proofs.Walks.{below, walk-held}
-use Rattle.dumping.proofs.Puttings.{Written, write-starts, written-long, write-room, write-fits, write-within, write-next, write-ends}
+use Rattle.dumping.proofs.Puttings.{Written, write-starts, written-long, write-room, write-fits, write-within, write-next}
+use Rattle.dumping.proofs.Puttings.{write-ends}
 use native.Mathlib.Omega.{arith}
 use borrow.Author.Needs.{needs}
 use Rattle.dumping.proofs.writing.write_held.Statement.{statement}
 use Rattle.dumping.proofs.writing.write_held.Tie as tie
 
 abbrev Inv-loop : tie.InvT-loop
-Inv-loop m out₀ at₀ d₀ out at d = Written (λ h. field 6 (held-value h)) 8 (tables m .held) (λ e. below e (tables m .held)) (λ e. held-at e (tables m .held)) devices out₀ out at d
+Inv-loop m out₀ at₀ d₀ out at d = Written (λ h. field 6 (held-value h)) 8 (tables m .held) (λ e. below e (tables m .held))
+    (λ e. held-at e (tables m .held)) devices out₀ out at d
 
 abbrev μ-loop : tie.MeasureT-loop
 μ-loop m out₀ at₀ d₀ out at d = devices - d
@@ -31,10 +33,18 @@ part-write-word-end : tie.Need-part-write-word-end Inv-loop μ-loop
 part-write-word-end c = search needs
 
 write-word-requires : tie.Need-write-word-requires Inv-loop μ-loop
-write-word-requires c κs = (c .before .before .before .before .before .pre .0 .shaped, c .before .loop-test .taken, write-fits (c .before .before .loop .inv) (c .before .loop-test .taken))
+write-word-requires c κs = (
+  c .before .before .before .before .before .pre .0 .shaped,
+  c .before .loop-test .taken,
+  write-fits (c .before .before .loop .inv) (c .before .loop-test .taken),
+)
 
 add-at : tie.Need-add-at Inv-loop μ-loop
-add-at c = omega (arith, write-within (c .before .before .before .before .before .loop .inv) (c .before .before .before .before .loop-test .taken) (c .before .before .write-word .ensures))
+add-at c = omega (
+  arith,
+  write-within (c .before .before .before .before .before .loop .inv)
+      (c .before .before .before .before .loop-test .taken) (c .before .before .write-word .ensures),
+)
 
 add-d : tie.Need-add-d Inv-loop μ-loop
 add-d c = search needs
@@ -43,7 +53,8 @@ loop-less : tie.Need-loop-less Inv-loop μ-loop
 loop-less c = search needs
 
 loop-again : tie.Need-loop-again Inv-loop μ-loop
-loop-again c = write-next (c .before .before .before .before .before .loop .inv) (c .before .before .before .before .loop-test .taken) (c .before .before .write-word .ensures)
+loop-again c = write-next (c .before .before .before .before .before .loop .inv) (c .before .before .before .before .loop-test .taken)
+    (c .before .before .write-word .ensures)
 
 same-length : tie.Need-same-length Inv-loop μ-loop
 same-length c = written-long (c .before .loop .inv)

@@ -42,9 +42,11 @@ same-length c = search needs
 returns : tie.Need-returns
 unfolding message-value
 returns c =
-    let p3 = counted (c .before .before .before .before .before .before .before .before .before .before .before .put-head .ensures) 3 refl in
+    let p3 = counted (c .before .before .before .before .before .before .before .before .before .before .before .put-head .ensures) 3
+    refl in
     let p6 = counted (behind p3 (c .before .before .before .before .before .before .put-three .ensures)) 6 refl in
-    rw (← c .before .before .before .before .before .before .before .message-code .ensures) (counted (behind p6 (c .before .before .put-word .ensures)) 10 refl)
+    rw (← c .before .before .before .before .before .before .before .message-code .ensures)
+    (counted (behind p6 (c .before .before .put-word .ensures)) 10 refl)
 
 pub write-message-spec : {M : Type 1} → statement M
 write-message-spec =

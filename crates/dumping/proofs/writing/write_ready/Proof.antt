@@ -21,22 +21,32 @@ ready-count-requires : tie.Need-ready-count-requires Inv-loop μ-loop
 ready-count-requires c κs = c .before .before .pre .0
 
 cast-put-head : tie.Need-cast-put-head Inv-loop μ-loop
-cast-put-head c = omega (arith, ready-limit (c .before .before .before .before .args .m .now) (c .before .before .before .before .pre .0), names-left (c .before .before .before .before .args .m .now) (c .before .before .before .before .pre .0), c .before .ready-count .ensures)
+cast-put-head c = omega (
+  arith,
+  ready-limit (c .before .before .before .before .args .m .now) (c .before .before .before .before .pre .0),
+  names-left (c .before .before .before .before .args .m .now) (c .before .before .before .before .pre .0),
+  c .before .ready-count .ensures,
+)
 
 put-head-requires : tie.Need-put-head-requires Inv-loop μ-loop
 put-head-requires c κs = search needs
 
 loop-holds : tie.Need-loop-holds Inv-loop μ-loop
-loop-holds c = name-starts (c .before .before .put-head .ensures) (c .before .before .before .before .ready-count .ensures) (c .before .before .before .before .before .before .before .pre .1)
+loop-holds c = name-starts (c .before .before .put-head .ensures) (c .before .before .before .before .ready-count .ensures)
+    (c .before .before .before .before .before .before .before .pre .1)
 
 ready-at-requires : tie.Need-ready-at-requires Inv-loop μ-loop
-ready-at-requires c κs = (c .before .before .before .before .before .before .before .before .before .pre .0, name-there (c .before .loop .inv) (c .loop-test .taken))
+ready-at-requires c κs = (
+  c .before .before .before .before .before .before .before .before .before .pre .0,
+  name-there (c .before .loop .inv) (c .loop-test .taken),
+)
 
 add-out : tie.Need-add-out Inv-loop μ-loop
 add-out c = omega (arith, name-room (c .before .before .loop .inv) (c .before .loop-test .taken))
 
 slice-write-out : tie.Need-slice-write-out Inv-loop μ-loop
-slice-write-out c = omega (arith, named-long (c .before .before .loop .inv), name-room (c .before .before .loop .inv) (c .before .loop-test .taken))
+slice-write-out c =
+    omega (arith, named-long (c .before .before .loop .inv), name-room (c .before .before .loop .inv) (c .before .loop-test .taken))
 
 add-i : tie.Need-add-i Inv-loop μ-loop
 add-i c = search needs
@@ -51,7 +61,9 @@ add-result : tie.Need-add-result Inv-loop μ-loop
 add-result c = omega (arith, c .before .loop .inv .whole, c .before .loop .inv .enough)
 
 same-length : tie.Need-same-length Inv-loop μ-loop
-same-length c = named-long (c .before .loop .inv) ∙ stays-long (c .before .before .before .before .put-head .ensures) (omega (arith, c .before .before .before .before .before .before .before .before .before .pre .1))
+same-length c = named-long (c .before .loop .inv)
+    ∙ stays-long (c .before .before .before .before .put-head .ensures)
+    (omega (arith, c .before .before .before .before .before .before .before .before .before .pre .1))
 
 returns : tie.Need-returns Inv-loop μ-loop
 returns c = name-ends (c .before .loop .inv) (c .before .before .before .before .put-head .ensures) (c .loop-test .left)

@@ -52,8 +52,11 @@ same-length c = search needs
 returns : tie.Need-returns
 unfolding thread-front
 returns c =
-    let w = c .before .before .before .before .before .before .before .before .before .before .before .before .before .before .before .before .before .before .args .w .now in
-    let p10 = counted (c .before .before .before .before .before .before .before .before .before .before .before .before .before .before .write-front .ensures) 10 refl in
+    let w = c .before .before .before .before .before .before .before .before .before .before .before .before .before .before .before
+    .before .before .before .args .w .now in
+    let p10 =
+    counted (c .before .before .before .before .before .before .before .before .before .before .before .before .before .before .write-front
+    .ensures) 10 refl in
     let p14 = counted (behind p10 (c .before .before .before .before .before .before .before .before .before .put-word .ensures)) 14 refl in
     said (counted (behind p14 (c .before .before .write-answer .ensures)) 20 refl) (thread-bytes w)
 

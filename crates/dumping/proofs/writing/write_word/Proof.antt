@@ -15,11 +15,17 @@ use Rattle.dumping.proofs.writing.write_word.Statement.{statement}
 use Rattle.dumping.proofs.writing.write_word.Tie as tie
 
 -- a word is held, so there is room for its field
-held-now : (w : tie.Else1) → any (held-for (w .before .before .before .before .args .d)) (tables (w .before .before .before .before .args .m .now) .held) ≡ true
+held-now : (w : tie.Else1) → any (held-for (w .before .before .before .before .args .d))
+    (tables (w .before .before .before .before .args .m .now) .held) ≡ true
 held-now w = sym (w .before .is-held .ensures) ∙ not-false _ (w .if1 .left)
 
 fits-word : (w : tie.Else1) → 8 ≤ length (w .before .before .before .before .args .out .now)
-fits-word w = omega (arith, one-length (w .before .before .before .before .args .d) (tables (w .before .before .before .before .args .m .now) .held) (held-now w), w .before .before .before .before .pre .2)
+fits-word w = omega (
+  arith,
+  one-length (w .before .before .before .before .args .d)
+      (tables (w .before .before .before .before .args .m .now) .held) (held-now w),
+  w .before .before .before .before .pre .2,
+)
 
 is-held-requires : tie.Need-is-held-requires
 is-held-requires c κs = (c .before .before .pre .0, c .before .before .pre .1)
@@ -49,7 +55,10 @@ same-length : tie.Need-same-length
 same-length c = search needs
 
 returns-2 : tie.Need-returns-2
-returns-2 c = one-word _ _ (held-now (c .before .before .before .before .before .before .before .before .before)) (c .before .before .before .before .before .before .before .before .held-word .ensures) (counted (behind (counted (c .before .before .before .before .before .before .put-four .ensures) 4 refl) (c .before .before .put-word .ensures)) 8 refl)
+returns-2 c = one-word _ _ (held-now (c .before .before .before .before .before .before .before .before .before))
+    (c .before .before .before .before .before .before .before .before .held-word .ensures)
+    (counted (behind (counted (c .before .before .before .before .before .before .put-four .ensures) 4 refl)
+    (c .before .before .put-word .ensures)) 8 refl)
 
 pub write-word-spec : {M : Type 1} → statement M
 write-word-spec =

@@ -17,25 +17,42 @@ form-pass-requires-2 : tie.Need-form-pass-requires-2
 form-pass-requires-2 c κs = search needs
 
 returns-3 : tie.Need-returns-3
-returns-3 c = found-16 (c .before .before .before .before .form-pass .ensures) (c .before .before .before .if1 .left) (c .before .before .if2 .left) (c .before .form-pass2 .ensures) (c .if3 .taken)
+returns-3 c = found-16 (c .before .before .before .before .form-pass .ensures) (c .before .before .before .if1 .left)
+    (c .before .before .if2 .left) (c .before .form-pass2 .ensures) (c .if3 .taken)
 
 value-pass-requires : tie.Need-value-pass-requires
 value-pass-requires c κs = search needs
 
 returns-4 : tie.Need-returns-4
-returns-4 c = found-17 (c .before .before .before .before .before .before .before .form-pass .ensures) (c .before .before .before .before .before .before .if1 .left) (c .before .before .before .before .before .if2 .left) (c .before .before .before .before .form-pass2 .ensures) (c .before .before .before .if3 .left) (c .before .value-pass .ensures) (c .if4 .taken)
+returns-4 c = found-17 (c .before .before .before .before .before .before .before .form-pass .ensures)
+    (c .before .before .before .before .before .before .if1 .left) (c .before .before .before .before .before .if2 .left)
+    (c .before .before .before .before .form-pass2 .ensures) (c .before .before .before .if3 .left) (c .before .value-pass .ensures)
+    (c .if4 .taken)
 
 live-names-requires : tie.Need-live-names-requires
-live-names-requires c κs = lengths-right (c .before .before .before .before .before .before .before .form-pass .ensures) (c .before .before .before .before .before .before .if1 .left)
+live-names-requires c κs = lengths-right (c .before .before .before .before .before .before .before .form-pass .ensures)
+    (c .before .before .before .before .before .before .if1 .left)
 
 value-pass-requires-2 : tie.Need-value-pass-requires-2
 value-pass-requires-2 c κs = search needs
 
 returns-5 : tie.Need-returns-5
-returns-5 c = found-18 (c .before .before .before .before .before .before .before .before .before .before .before .form-pass .ensures) (c .before .before .before .before .before .before .before .before .before .before .if1 .left) (c .before .before .before .before .before .before .before .before .before .if2 .left) (c .before .before .before .before .before .before .before .before .form-pass2 .ensures) (c .before .before .before .before .before .before .before .if3 .left) (c .before .before .before .before .before .value-pass .ensures) (c .before .before .before .before .if4 .left) (c .before .before .before .live-names .ensures) (c .before .value-pass2 .ensures) (c .if5 .taken)
+returns-5 c = found-18 (c .before .before .before .before .before .before .before .before .before .before .before .form-pass .ensures)
+    (c .before .before .before .before .before .before .before .before .before .before .if1 .left)
+    (c .before .before .before .before .before .before .before .before .before .if2 .left)
+    (c .before .before .before .before .before .before .before .before .form-pass2 .ensures)
+    (c .before .before .before .before .before .before .before .if3 .left) (c .before .before .before .before .before .value-pass .ensures)
+    (c .before .before .before .before .if4 .left) (c .before .before .before .live-names .ensures) (c .before .value-pass2 .ensures)
+    (c .if5 .taken)
 
 returns-6 : tie.Need-returns-6
-returns-6 c = none-found (c .before .before .before .before .before .before .before .before .before .before .before .form-pass .ensures) (c .before .before .before .before .before .before .before .before .before .before .if1 .left) (c .before .before .before .before .before .before .before .before .before .if2 .left) (c .before .before .before .before .before .before .before .before .form-pass2 .ensures) (c .before .before .before .before .before .before .before .if3 .left) (c .before .before .before .before .before .value-pass .ensures) (c .before .before .before .before .if4 .left) (c .before .before .before .live-names .ensures) (c .before .value-pass2 .ensures) (c .if5 .left)
+returns-6 c = none-found (c .before .before .before .before .before .before .before .before .before .before .before .form-pass .ensures)
+    (c .before .before .before .before .before .before .before .before .before .before .if1 .left)
+    (c .before .before .before .before .before .before .before .before .before .if2 .left)
+    (c .before .before .before .before .before .before .before .before .form-pass2 .ensures)
+    (c .before .before .before .before .before .before .before .if3 .left) (c .before .before .before .before .before .value-pass .ensures)
+    (c .before .before .before .before .if4 .left) (c .before .before .before .live-names .ensures) (c .before .value-pass2 .ensures)
+    (c .if5 .left)
 
 pub find-spec : {M : Type 1} → statement M
 find-spec =

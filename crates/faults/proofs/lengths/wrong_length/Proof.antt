@@ -24,7 +24,13 @@ wide-requires c κs = search needs
 
 returns-2 : tie.Need-returns-2
 unfolding wrong-length-of
-returns-2 c = rw (← c .before .before .before .dump-facts .ensures, not-false (c .before .before .before .dump-facts .result .sized) (c .before .if1 .left), length-drop 3 (c .before .before .before .before .before .before .args .field .now), c .wide .ensures .0)
+returns-2 c = rw (
+  ← c .before .before .before .dump-facts .ensures,
+  not-false (c .before .before .before .dump-facts .result .sized)
+      (c .before .if1 .left),
+  length-drop 3 (c .before .before .before .before .before .before .args .field .now),
+  c .wide .ensures .0,
+)
 
 pub wrong-length-spec : {M : Type 1} → statement M
 wrong-length-spec =

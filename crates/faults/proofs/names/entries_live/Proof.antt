@@ -15,13 +15,21 @@ entry-lives-requires-2 : tie.Need-entry-lives-requires-2
 entry-lives-requires-2 c κs = search needs
 
 returns-2 : tie.Need-returns-2
-returns-2 c = rw (sym (c .before .before .before .entry-lives .ensures) ∙ not-false _ (c .before .before .if1 .left), sym (c .before .entry-lives2 .ensures) ∙ not-true _ (c .if2 .taken))
+returns-2 c = rw (
+  sym (c .before .before .before .entry-lives .ensures)
+      ∙ not-false _ (c .before .before .if1 .left),
+  sym (c .before .entry-lives2 .ensures) ∙ not-true _ (c .if2 .taken),
+)
 
 entry-lives-requires-3 : tie.Need-entry-lives-requires-3
 entry-lives-requires-3 c κs = search needs
 
 returns-3 : tie.Need-returns-3
-returns-3 c = rw (sym (c .before .before .before .before .entry-lives .ensures) ∙ not-false _ (c .before .before .before .if1 .left), sym (c .before .before .entry-lives2 .ensures) ∙ not-false _ (c .before .if2 .left)) (c .entry-lives3 .ensures)
+returns-3 c = rw (
+  sym (c .before .before .before .before .entry-lives .ensures)
+      ∙ not-false _ (c .before .before .before .if1 .left),
+  sym (c .before .before .entry-lives2 .ensures) ∙ not-false _ (c .before .if2 .left),
+) (c .entry-lives3 .ensures)
 
 pub entries-live-spec : {M : Type 1} → statement M
 entries-live-spec =

@@ -53,7 +53,8 @@ returns-5 c = search needs
 
 returns-6 : tie.Need-returns-6
 unfolding manager-set-of
-returns-6 c = rw (c .before .before .before .s .given .1) (c .is-set .ensures ∙ ap (λ m. by-manager false (λ n. true) m) (c .before .entry .ensures))
+returns-6 c =
+    rw (c .before .before .before .s .given .1) (c .is-set .ensures ∙ ap (λ m. by-manager false (λ n. true) m) (c .before .entry .ensures))
 
 pub manager-set-spec : {M : Type 1} → statement M
 manager-set-spec =

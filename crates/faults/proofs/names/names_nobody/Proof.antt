@@ -33,13 +33,16 @@ part-value-lives-end c = search needs
 value-lives-requires : tie.Need-value-lives-requires
 value-lives-requires c κs =
     let f = c .before .before .before .before .before .args .field .now in
-    ap (λ (v : List ℕ). wrong-length (record { tag = getD f 0 0; value = v })) (value-is f) ∙ (sym (c .before .before .before .wrong-length .ensures) ∙ c .before .before .if1 .left)
+    ap (λ (v : List ℕ). wrong-length (record { tag = getD f 0 0; value = v })) (value-is f)
+    ∙ (sym (c .before .before .before .wrong-length .ensures) ∙ c .before .before .if1 .left)
 
 returns-2 : tie.Need-returns-2
 unfolding names-nobody-of
 returns-2 c =
     let f = c .before .before .before .before .before .before .args .field .now in
-    rw (sym (c .before .before .before .before .wrong-length .ensures) ∙ c .before .before .before .if1 .left) (ap not (c .value-lives .ensures ∙ ap (value-lives (lives-in (c .before .before .before .before .before .before .args .names .now)) (getD f 0 0)) (value-is f)))
+    rw (sym (c .before .before .before .before .wrong-length .ensures) ∙ c .before .before .before .if1 .left)
+    (ap not (c .value-lives .ensures
+    ∙ ap (value-lives (lives-in (c .before .before .before .before .before .before .args .names .now)) (getD f 0 0)) (value-is f)))
 
 pub names-nobody-spec : {M : Type 1} → statement M
 names-nobody-spec =

@@ -34,7 +34,13 @@ wanted-lives-requires c κs = search needs
 
 returns-2 : tie.Need-returns-2
 unfolding thread-lives-of thread-from
-returns-2 c = rw (← c .before .before .before .before .before .before .before .parent-from .ensures, sym (c .before .before .before .before .before .before .parent-lives .ensures) ∙ not-false _ (c .before .before .before .before .before .if1 .left), ← c .before .before .state-from .ensures, sym (c .before .wanted-lives .ensures) ∙ not-true _ (c .if2 .taken))
+returns-2 c = rw (
+  ← c .before .before .before .before .before .before .before .parent-from .ensures,
+  sym (c .before .before .before .before .before .before .parent-lives .ensures)
+      ∙ not-false _ (c .before .before .before .before .before .if1 .left),
+  ← c .before .before .state-from .ensures,
+  sym (c .before .wanted-lives .ensures) ∙ not-true _ (c .if2 .taken),
+)
 
 shared-slice-read-manager-from : tie.Need-shared-slice-read-manager-from
 shared-slice-read-manager-from c = search needs
@@ -59,14 +65,43 @@ entries-live-requires c κs = search needs
 
 returns-3 : tie.Need-returns-3
 unfolding thread-lives-of thread-from
-returns-3 c = rw (← c .before .before .before .before .before .before .before .before .before .before .before .before .before .before .before .parent-from .ensures, sym (c .before .before .before .before .before .before .before .before .before .before .before .before .before .before .parent-lives .ensures) ∙ not-false _ (c .before .before .before .before .before .before .before .before .before .before .before .before .before .if1 .left), ← c .before .before .before .before .before .before .before .before .before .before .state-from .ensures, sym (c .before .before .before .before .before .before .before .before .before .wanted-lives .ensures) ∙ not-false _ (c .before .before .before .before .before .before .before .before .if2 .left), ← c .before .before .before .before .before .before .manager-from .ensures, ← c .before .before .before .before .manager-from2 .ensures, ← c .before .before .manager-from3 .ensures, sym (c .before .entries-live .ensures) ∙ not-true _ (c .if3 .taken))
+returns-3 c =
+    rw (
+      ← c .before .before .before .before .before .before .before .before .before .before .before .before .before .before .before
+          .parent-from .ensures,
+      sym (c .before .before .before .before .before .before .before .before .before .before .before .before .before .before .parent-lives
+          .ensures)
+          ∙ not-false _
+          (c .before .before .before .before .before .before .before .before .before .before .before .before .before .if1 .left),
+      ← c .before .before .before .before .before .before .before .before .before .before .state-from .ensures,
+      sym (c .before .before .before .before .before .before .before .before .before .wanted-lives .ensures)
+          ∙ not-false _ (c .before .before .before .before .before .before .before .before .if2 .left),
+      ← c .before .before .before .before .before .before .manager-from .ensures,
+      ← c .before .before .before .before .manager-from2 .ensures,
+      ← c .before .before .manager-from3 .ensures,
+      sym (c .before .entries-live .ensures) ∙ not-true _ (c .if3 .taken),
+    )
 
 manager-set-requires : tie.Need-manager-set-requires
 manager-set-requires c κs = search needs
 
 returns-4 : tie.Need-returns-4
 unfolding thread-lives-of thread-from
-returns-4 c = rw (← c .before .before .before .before .before .before .before .before .before .before .before .before .before .before .before .before .parent-from .ensures, sym (c .before .before .before .before .before .before .before .before .before .before .before .before .before .before .before .parent-lives .ensures) ∙ not-false _ (c .before .before .before .before .before .before .before .before .before .before .before .before .before .before .if1 .left), ← c .before .before .before .before .before .before .before .before .before .before .before .state-from .ensures, sym (c .before .before .before .before .before .before .before .before .before .before .wanted-lives .ensures) ∙ not-false _ (c .before .before .before .before .before .before .before .before .before .if2 .left), ← c .before .before .before .before .before .before .before .manager-from .ensures, ← c .before .before .before .before .before .manager-from2 .ensures, ← c .before .before .before .manager-from3 .ensures, sym (c .before .before .entries-live .ensures) ∙ not-false _ (c .before .if3 .left)) (c .manager-set .ensures)
+returns-4 c =
+    rw (
+      ← c .before .before .before .before .before .before .before .before .before .before .before .before .before .before .before .before
+          .parent-from .ensures,
+      sym (c .before .before .before .before .before .before .before .before .before .before .before .before .before .before .before
+          .parent-lives .ensures) ∙ not-false _
+          (c .before .before .before .before .before .before .before .before .before .before .before .before .before .before .if1 .left),
+      ← c .before .before .before .before .before .before .before .before .before .before .before .state-from .ensures,
+      sym (c .before .before .before .before .before .before .before .before .before .before .wanted-lives .ensures)
+          ∙ not-false _ (c .before .before .before .before .before .before .before .before .before .if2 .left),
+      ← c .before .before .before .before .before .before .before .manager-from .ensures,
+      ← c .before .before .before .before .before .manager-from2 .ensures,
+      ← c .before .before .before .manager-from3 .ensures,
+      sym (c .before .before .entries-live .ensures) ∙ not-false _ (c .before .if3 .left),
+    ) (c .manager-set .ensures)
 
 pub thread-lives-spec : {M : Type 1} → statement M
 thread-lives-spec =

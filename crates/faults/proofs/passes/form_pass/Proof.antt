@@ -11,7 +11,8 @@ use Rattle.fields.proofs.Sizes.{Inside, inside}
 use Rattle.faults.specs.declared.Before.{Before}
 use Rattle.faults.specs.Order.{after as after-of}
 use Rattle.faults.specs.Passes.{form-behind}
-use Rattle.faults.proofs.Walking.{FormWalked, form-starts, form-next, form-finds, form-cut, form-ends, ends-within, first-long, cut-out, tag-there}
+use Rattle.faults.proofs.Walking.{FormWalked, form-starts, form-next, form-finds, form-cut, form-ends, ends-within, first-long}
+use Rattle.faults.proofs.Walking.{cut-out, tag-there}
 use Rattle.faults.proofs.passes.form_pass.Statement.{statement}
 use Rattle.faults.proofs.passes.form_pass.Tie as tie
 
@@ -22,7 +23,8 @@ abbrev μ-loop : tie.MeasureT-loop
 μ-loop number bytes b₀ at₀ b at = length bytes - at
 
 -- the field that `cut_at` finds lies inside the bytes
-found : (n : tie.After-cut-at Inv-loop μ-loop) → Inside (n .before .before .before .before .before .args .bytes .now) (n .before .before .loop .at) (n .cut-at .result)
+found : (n : tie.After-cut-at Inv-loop μ-loop) →
+    Inside (n .before .before .before .before .before .args .bytes .now) (n .before .before .loop .at) (n .cut-at .result)
 found n = inside _ _ _ (n .before .loop-test .taken) (n .cut-at .ensures)
 
 nothing-before-requires : tie.Need-nothing-before-requires Inv-loop μ-loop
@@ -35,7 +37,8 @@ cut-at-requires : tie.Need-cut-at-requires Inv-loop μ-loop
 cut-at-requires c κs = search needs
 
 returns : tie.Need-returns Inv-loop μ-loop
-returns c = form-cut _ _ (c .before .before .before .before .loop .inv) (c .before .before .before .loop-test .taken) (sym (found (c .before .before) .all-there) ∙ not-true _ (c .if1 .taken))
+returns c = form-cut _ _ (c .before .before .before .before .loop .inv) (c .before .before .before .loop-test .taken)
+    (sym (found (c .before .before) .all-there) ∙ not-true _ (c .if1 .taken))
 
 sub-form-faulty : tie.Need-sub-form-faulty Inv-loop μ-loop
 sub-form-faulty c = let f = found (c .before .before) in omega (arith, f .behind)
@@ -52,15 +55,25 @@ form-faulty-requires c κs =
     let w = sym (f .all-there) ∙ not-false _ (c .before .if1 .left) in
     let bytes = c .before .before .before .before .before .before .before .before .args .bytes .now in
     let at = c .before .before .before .before .before .loop .at in
-    omega (arith, ends-within bytes at _ w (f .ends) .0, ap length (cut-out bytes at _ w (f .ends)), first-long bytes at _ w (f .ends), f .ends)
+    omega (
+      arith,
+      ends-within bytes at _ w (f .ends) .0,
+      ap length (cut-out bytes at _ w (f .ends)),
+      first-long bytes at _ w (f .ends),
+      f .ends,
+    )
 
 returns-2 : tie.Need-returns-2 Inv-loop μ-loop
 returns-2 c =
     let f = found (c .before .before .before .before .before) in
     let w = sym (f .all-there) ∙ not-false _ (c .before .before .before .if1 .left) in
-    let cut = cut-out (c .before .before .before .before .before .before .before .before .before .before .args .bytes .now) (c .before .before .before .before .before .before .before .loop .at) _ w (f .ends) in
-    let here = ap (λ (l : List ℕ). form-behind (c .before .before .before .before .before .before .before .before .before .before .args .number) (c .before .before .before .before .before .before .before .loop .b) (as-field l)) (sym cut) in
-    form-finds _ _ (c .before .before .before .before .before .before .before .loop .inv) _ w (f .ends) (here ∙ (sym (c .before .form-faulty .ensures) ∙ c .if2 .taken))
+    let cut = cut-out (c .before .before .before .before .before .before .before .before .before .before .args .bytes .now)
+    (c .before .before .before .before .before .before .before .loop .at) _ w (f .ends) in
+    let here =
+    ap (λ (l : List ℕ). form-behind (c .before .before .before .before .before .before .before .before .before .before .args .number)
+    (c .before .before .before .before .before .before .before .loop .b) (as-field l)) (sym cut) in
+    form-finds _ _ (c .before .before .before .before .before .before .before .loop .inv) _ w (f .ends) (here
+    ∙ (sym (c .before .form-faulty .ensures) ∙ c .if2 .taken))
 
 shared-slice-read-after : tie.Need-shared-slice-read-after Inv-loop μ-loop
 shared-slice-read-after c = omega (arith, c .before .before .before .before .before .before .before .loop-test .taken)
@@ -80,10 +93,16 @@ loop-again c =
     let bytes = c .before .before .before .before .before .before .before .before .before .before .before .before .args .bytes .now in
     let at = c .before .before .before .before .before .before .before .before .before .loop .at in
     let b = c .before .before .before .before .before .before .before .before .before .loop .b in
-    let here = ap (λ (l : List ℕ). form-behind (c .before .before .before .before .before .before .before .before .before .before .before .before .args .number) b (as-field l)) (sym (cut-out bytes at _ w (f .ends))) in
-    let next = form-next _ _ (c .before .before .before .before .before .before .before .before .before .loop .inv) _ w (f .ends) (here ∙ (sym (c .before .before .before .form-faulty .ensures) ∙ c .before .before .if2 .left)) in
+    let here =
+    ap (λ (l : List ℕ). form-behind
+    (c .before .before .before .before .before .before .before .before .before .before .before .before .args .number) b (as-field l))
+    (sym (cut-out bytes at _ w (f .ends))) in
+    let next = form-next _ _ (c .before .before .before .before .before .before .before .before .before .loop .inv) _ w (f .ends) (here
+    ∙ (sym (c .before .before .before .form-faulty .ensures) ∙ c .before .before .if2 .left)) in
     let kept = ap (after-of b) (tag-there bytes at _ w (f .ends)) ∙ sym (c .after .ensures) in
-    subst (λ (x : Before). FormWalked (c .before .before .before .before .before .before .before .before .before .before .before .before .args .number) bytes (c .before .before .before .before .before .before .before .cut-at .result .end) x) kept next
+    subst (λ (x : Before). FormWalked
+    (c .before .before .before .before .before .before .before .before .before .before .before .before .args .number) bytes
+    (c .before .before .before .before .before .before .before .cut-at .result .end) x) kept next
 
 missing-requires : tie.Need-missing-requires Inv-loop μ-loop
 missing-requires c κs = search needs

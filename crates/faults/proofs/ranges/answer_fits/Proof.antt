@@ -22,21 +22,36 @@ sender-code-requires c κs = search needs
 
 returns-2 : tie.Need-returns-2
 unfolding answer-fits-of
-returns-2 c = rw (← c .before .before .before .before .answer-from .ensures, eq-eqb _ _ (c .before .before .if1 .left ∙ c .before .before .before .kind-code .ensures), ne-eqb _ _ (λ e. c .if2 .taken (e ∙ sym (c .before .sender-code .ensures))))
+returns-2 c = rw (
+  ← c .before .before .before .before .answer-from .ensures,
+  eq-eqb _ _ (c .before .before .if1 .left
+      ∙ c .before .before .before .kind-code .ensures),
+  ne-eqb _ _ (λ e. c .if2 .taken (e ∙ sym (c .before .sender-code .ensures))),
+)
 
 word-code-requires : tie.Need-word-code-requires
 word-code-requires c κs = search needs
 
 returns-3 : tie.Need-returns-3
 unfolding answer-fits-of
-returns-3 c = rw (← c .before .before .before .before .before .before .answer-from .ensures, eq-eqb _ _ (c .before .before .before .before .if1 .left ∙ c .before .before .before .before .before .kind-code .ensures), eq-eqb _ _ (c .before .before .if2 .left ∙ c .before .before .before .sender-code .ensures), ne-eqb _ _ (λ e. c .if3 .taken (e ∙ sym (c .before .word-code .ensures))))
+returns-3 c = rw (
+  ← c .before .before .before .before .before .before .answer-from .ensures,
+  eq-eqb _ _ (c .before .before .before .before .if1 .left ∙ c .before .before .before .before .before .kind-code .ensures),
+  eq-eqb _ _ (c .before .before .if2 .left ∙ c .before .before .before .sender-code .ensures),
+  ne-eqb _ _ (λ e. c .if3 .taken (e ∙ sym (c .before .word-code .ensures))),
+)
 
 answer-right-requires : tie.Need-answer-right-requires
 answer-right-requires c κs = search needs
 
 returns-4 : tie.Need-returns-4
 unfolding answer-fits-of
-returns-4 c = rw (← c .before .before .before .before .before .before .before .answer-from .ensures, eq-eqb _ _ (c .before .before .before .before .before .if1 .left ∙ c .before .before .before .before .before .before .kind-code .ensures), eq-eqb _ _ (c .before .before .before .if2 .left ∙ c .before .before .before .before .sender-code .ensures), eq-eqb _ _ (c .before .if3 .left ∙ c .before .before .word-code .ensures)) (c .answer-right .ensures (omega (arith, c .before .if3 .left, c .before .before .word-code .ensures)))
+returns-4 c = rw (
+  ← c .before .before .before .before .before .before .before .answer-from .ensures,
+  eq-eqb _ _ (c .before .before .before .before .before .if1 .left ∙ c .before .before .before .before .before .before .kind-code .ensures),
+  eq-eqb _ _ (c .before .before .before .if2 .left ∙ c .before .before .before .before .sender-code .ensures),
+  eq-eqb _ _ (c .before .if3 .left ∙ c .before .before .word-code .ensures),
+) (c .answer-right .ensures (omega (arith, c .before .if3 .left, c .before .before .word-code .ensures)))
 
 pub answer-fits-spec : {M : Type 1} → statement M
 answer-fits-spec =

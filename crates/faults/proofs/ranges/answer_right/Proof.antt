@@ -38,11 +38,13 @@ returns c = λ h. rw (c .enum-told .given .1)
 
 returns-2 : tie.Need-returns-2
 unfolding answer-in-range
-returns-2 c = λ h. rw (c .before .before .a .given .1, lt-ltb _ wrap (c .before .known-told .given .1 .0 .1)) (c .is-name .ensures ∙ sym (and-true _))
+returns-2 c =
+    λ h. rw (c .before .before .a .given .1, lt-ltb _ wrap (c .before .known-told .given .1 .0 .1)) (c .is-name .ensures ∙ sym (and-true _))
 
 returns-3 : tie.Need-returns-3
 unfolding answer-in-range
-returns-3 c = λ h. rw (c .before .before .a2 .given .1, lt-ltb _ wrap (c .before .known-told2 .given .1 .0 .1)) (c .is-name2 .ensures ∙ sym (and-true _))
+returns-3 c = λ h. rw (c .before .before .a2 .given .1, lt-ltb _ wrap (c .before .known-told2 .given .1 .0 .1)) (c .is-name2 .ensures
+    ∙ sym (and-true _))
 
 returns-4 : tie.Need-returns-4
 unfolding answer-in-range

@@ -24,7 +24,11 @@ is-name-requires c κs = search needs
 
 returns-2 : tie.Need-returns-2
 unfolding head-fits-of
-returns-2 c = rw (sym (c .before .before .before .before .status-fits .ensures) ∙ not-false _ (c .before .before .before .if1 .left), sym (c .before .is-name .ensures) ∙ not-true _ (c .if2 .taken))
+returns-2 c = rw (
+  sym (c .before .before .before .before .status-fits .ensures)
+      ∙ not-false _ (c .before .before .before .if1 .left),
+  sym (c .before .is-name .ensures) ∙ not-true _ (c .if2 .taken),
+)
 
 shared-slice-read-runner-fits : tie.Need-shared-slice-read-runner-fits
 shared-slice-read-runner-fits c = search needs
@@ -37,14 +41,25 @@ runner-fits-requires c κs = search needs
 
 returns-3 : tie.Need-returns-3
 unfolding head-fits-of
-returns-3 c = rw (sym (c .before .before .before .before .before .before .before .before .status-fits .ensures) ∙ not-false _ (c .before .before .before .before .before .before .before .if1 .left), sym (c .before .before .before .before .before .is-name .ensures) ∙ not-false _ (c .before .before .before .before .if2 .left), sym (c .before .runner-fits .ensures) ∙ not-true _ (c .if3 .taken))
+returns-3 c = rw (
+  sym (c .before .before .before .before .before .before .before .before .status-fits .ensures)
+      ∙ not-false _ (c .before .before .before .before .before .before .before .if1 .left),
+  sym (c .before .before .before .before .before .is-name .ensures) ∙ not-false _ (c .before .before .before .before .if2 .left),
+  sym (c .before .runner-fits .ensures) ∙ not-true _ (c .if3 .taken),
+)
 
 shared-slice-read-result : tie.Need-shared-slice-read-result
 shared-slice-read-result c = search needs
 
 returns-4 : tie.Need-returns-4
 unfolding head-fits-of
-returns-4 c = rw (sym (c .before .before .before .before .before .before .before .before .before .status-fits .ensures) ∙ not-false _ (c .before .before .before .before .before .before .before .before .if1 .left), sym (c .before .before .before .before .before .before .is-name .ensures) ∙ not-false _ (c .before .before .before .before .before .if2 .left), sym (c .before .before .runner-fits .ensures) ∙ not-false _ (c .before .if3 .left))
+returns-4 c = rw (
+  sym (c .before .before .before .before .before .before .before .before .before .status-fits .ensures)
+      ∙ not-false _ (c .before .before .before .before .before .before .before .before .if1 .left),
+  sym (c .before .before .before .before .before .before .is-name .ensures)
+      ∙ not-false _ (c .before .before .before .before .before .if2 .left),
+  sym (c .before .before .runner-fits .ensures) ∙ not-false _ (c .before .if3 .left),
+)
 
 pub head-fits-spec : {M : Type 1} → statement M
 head-fits-spec =

@@ -24,7 +24,11 @@ is-name-requires-2 c κs = search needs
 
 returns-2 : tie.Need-returns-2
 unfolding message-fits-of
-returns-2 c = rw (sym (c .before .before .before .before .is-name .ensures) ∙ not-false _ (c .before .before .before .if1 .left), sym (c .before .is-name2 .ensures) ∙ not-true _ (c .if2 .taken))
+returns-2 c = rw (
+  sym (c .before .before .before .before .is-name .ensures)
+      ∙ not-false _ (c .before .before .before .if1 .left),
+  sym (c .before .is-name2 .ensures) ∙ not-true _ (c .if2 .taken),
+)
 
 shared-slice-read-kind-fits : tie.Need-shared-slice-read-kind-fits
 shared-slice-read-kind-fits c = search needs
@@ -34,7 +38,11 @@ kind-fits-requires c κs = search needs
 
 returns-3 : tie.Need-returns-3
 unfolding message-fits-of
-returns-3 c = rw (sym (c .before .before .before .before .before .before .is-name .ensures) ∙ not-false _ (c .before .before .before .before .before .if1 .left), sym (c .before .before .before .is-name2 .ensures) ∙ not-false _ (c .before .before .if2 .left)) (c .kind-fits .ensures)
+returns-3 c = rw (
+  sym (c .before .before .before .before .before .before .is-name .ensures)
+      ∙ not-false _ (c .before .before .before .before .before .if1 .left),
+  sym (c .before .before .before .is-name2 .ensures) ∙ not-false _ (c .before .before .if2 .left),
+) (c .kind-fits .ensures)
 
 pub message-fits-spec : {M : Type 1} → statement M
 message-fits-spec =

@@ -32,13 +32,15 @@ part-value-fits-end c = search needs
 value-fits-requires : tie.Need-value-fits-requires
 value-fits-requires c κs =
     let f = c .before .before .before .before .before .args .field .now in
-    ap (λ (v : List ℕ). wrong-length (record { tag = getD f 0 0; value = v })) (value-is f) ∙ (sym (c .before .before .before .wrong-length .ensures) ∙ c .before .before .if1 .left)
+    ap (λ (v : List ℕ). wrong-length (record { tag = getD f 0 0; value = v })) (value-is f)
+    ∙ (sym (c .before .before .before .wrong-length .ensures) ∙ c .before .before .if1 .left)
 
 returns-2 : tie.Need-returns-2
 unfolding out-of-range-of
 returns-2 c =
     let f = c .before .before .before .before .before .before .args .field .now in
-    rw (sym (c .before .before .before .before .wrong-length .ensures) ∙ c .before .before .before .if1 .left) (ap not (c .value-fits .ensures ∙ ap (value-fits (getD f 0 0)) (value-is f)))
+    rw (sym (c .before .before .before .before .wrong-length .ensures) ∙ c .before .before .before .if1 .left)
+    (ap not (c .value-fits .ensures ∙ ap (value-fits (getD f 0 0)) (value-is f)))
 
 pub out-of-range-spec : {M : Type 1} → statement M
 out-of-range-spec =

@@ -21,7 +21,11 @@ runner-right-requires c κs = search needs
 
 returns-2 : tie.Need-returns-2
 unfolding runner-fits-of
-returns-2 c = rw (← c .before .before .before .runner-from .ensures, eq-eqb _ _ (c .before .if1 .left ∙ c .before .before .slice-code .ensures)) (c .runner-right .ensures)
+returns-2 c = rw (
+  ← c .before .before .before .runner-from .ensures,
+  eq-eqb _ _ (c .before .if1 .left
+      ∙ c .before .before .slice-code .ensures),
+) (c .runner-right .ensures)
 
 pub runner-fits-spec : {M : Type 1} → statement M
 runner-fits-spec =

@@ -21,14 +21,24 @@ detail-code-requires c κs = search needs
 
 returns-2 : tie.Need-returns-2
 unfolding state-fits-of
-returns-2 c = rw (← c .before .before .before .before .state-from .ensures, eq-eqb _ _ (c .before .before .if1 .left ∙ c .before .before .before .state-code .ensures), ne-eqb _ _ (λ e. c .if2 .taken (e ∙ sym (c .before .detail-code .ensures))))
+returns-2 c = rw (
+  ← c .before .before .before .before .state-from .ensures,
+  eq-eqb _ _ (c .before .before .if1 .left
+      ∙ c .before .before .before .state-code .ensures),
+  ne-eqb _ _ (λ e. c .if2 .taken (e ∙ sym (c .before .detail-code .ensures))),
+)
 
 state-right-requires : tie.Need-state-right-requires
 state-right-requires c κs = search needs
 
 returns-3 : tie.Need-returns-3
 unfolding state-fits-of
-returns-3 c = rw (← c .before .before .before .before .before .state-from .ensures, eq-eqb _ _ (c .before .before .before .if1 .left ∙ c .before .before .before .before .state-code .ensures), eq-eqb _ _ (c .before .if2 .left ∙ c .before .before .detail-code .ensures)) (c .state-right .ensures)
+returns-3 c = rw (
+  ← c .before .before .before .before .before .state-from .ensures,
+  eq-eqb _ _ (c .before .before .before .if1 .left
+      ∙ c .before .before .before .before .state-code .ensures),
+  eq-eqb _ _ (c .before .if2 .left ∙ c .before .before .detail-code .ensures),
+) (c .state-right .ensures)
 
 pub state-fits-spec : {M : Type 1} → statement M
 state-fits-spec =

@@ -27,7 +27,12 @@ parent-right-requires c κs = search needs
 
 returns-2 : tie.Need-returns-2
 unfolding thread-fits-of
-returns-2 c = rw (sym (c .before .before .before .before .before .is-name .ensures) ∙ not-false _ (c .before .before .before .before .if1 .left), ← c .before .before .parent-from .ensures, sym (c .before .parent-right .ensures) ∙ not-true _ (c .if2 .taken))
+returns-2 c = rw (
+  sym (c .before .before .before .before .before .is-name .ensures)
+      ∙ not-false _ (c .before .before .before .before .if1 .left),
+  ← c .before .before .parent-from .ensures,
+  sym (c .before .parent-right .ensures) ∙ not-true _ (c .if2 .taken),
+)
 
 shared-slice-read-state-fits : tie.Need-shared-slice-read-state-fits
 shared-slice-read-state-fits c = search needs
@@ -40,7 +45,13 @@ state-fits-requires c κs = search needs
 
 returns-3 : tie.Need-returns-3
 unfolding thread-fits-of
-returns-3 c = rw (sym (c .before .before .before .before .before .before .before .before .before .is-name .ensures) ∙ not-false _ (c .before .before .before .before .before .before .before .before .if1 .left), ← c .before .before .before .before .before .before .parent-from .ensures, sym (c .before .before .before .before .before .parent-right .ensures) ∙ not-false _ (c .before .before .before .before .if2 .left), sym (c .before .state-fits .ensures) ∙ not-true _ (c .if3 .taken))
+returns-3 c = rw (
+  sym (c .before .before .before .before .before .before .before .before .before .is-name .ensures)
+      ∙ not-false _ (c .before .before .before .before .before .before .before .before .if1 .left),
+  ← c .before .before .before .before .before .before .parent-from .ensures,
+  sym (c .before .before .before .before .before .parent-right .ensures) ∙ not-false _ (c .before .before .before .before .if2 .left),
+  sym (c .before .state-fits .ensures) ∙ not-true _ (c .if3 .taken),
+)
 
 shared-slice-read-answer-fits : tie.Need-shared-slice-read-answer-fits
 shared-slice-read-answer-fits c = search needs
@@ -56,7 +67,16 @@ answer-fits-requires c κs = search needs
 
 returns-4 : tie.Need-returns-4
 unfolding thread-fits-of
-returns-4 c = rw (sym (c .before .before .before .before .before .before .before .before .before .before .before .before .before .is-name .ensures) ∙ not-false _ (c .before .before .before .before .before .before .before .before .before .before .before .before .if1 .left), ← c .before .before .before .before .before .before .before .before .before .before .parent-from .ensures, sym (c .before .before .before .before .before .before .before .before .before .parent-right .ensures) ∙ not-false _ (c .before .before .before .before .before .before .before .before .if2 .left), sym (c .before .before .before .before .before .state-fits .ensures) ∙ not-false _ (c .before .before .before .before .if3 .left), ← c .before .word-at .ensures) (c .answer-fits .ensures)
+returns-4 c =
+    rw (
+      sym (c .before .before .before .before .before .before .before .before .before .before .before .before .before .is-name .ensures)
+          ∙ not-false _ (c .before .before .before .before .before .before .before .before .before .before .before .before .if1 .left),
+      ← c .before .before .before .before .before .before .before .before .before .before .parent-from .ensures,
+      sym (c .before .before .before .before .before .before .before .before .before .parent-right .ensures)
+          ∙ not-false _ (c .before .before .before .before .before .before .before .before .if2 .left),
+      sym (c .before .before .before .before .before .state-fits .ensures) ∙ not-false _ (c .before .before .before .before .if3 .left),
+      ← c .before .word-at .ensures,
+    ) (c .answer-fits .ensures)
 
 pub thread-fits-spec : {M : Type 1} → statement M
 thread-fits-spec =

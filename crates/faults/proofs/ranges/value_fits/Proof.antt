@@ -29,7 +29,8 @@ message-fits-requires c κs = omega (arith, long _ (c .before .before .args .v .
 
 shared-slice-read-result : tie.Need-shared-slice-read-result
 unfolding dump-facts dump-facts-in
-shared-slice-read-result c = omega (arith, long _ (c .before .before .before .args .v .now) 6 (c .before .match .keys6) refl (c .before .before .before .pre))
+shared-slice-read-result c =
+    omega (arith, long _ (c .before .before .before .args .v .now) 6 (c .before .match .keys6) refl (c .before .before .before .pre))
 
 returns : tie.Need-returns
 unfolding value-fits-of
@@ -59,7 +60,14 @@ returns-7 : tie.Need-returns-7
 unfolding value-fits-of
 returns-7 c = let n = c .before .before .args .tag in
     let r = c .match .rest in
-    rw (ne-eqb n 1 (r .0 .0 .0 .0 .0 .1), ne-eqb n 2 (r .0 .0 .0 .0 .1), ne-eqb n 3 (r .0 .0 .0 .1), ne-eqb n 4 (r .0 .0 .1), ne-eqb n 5 (r .0 .1), ne-eqb n 6 (r .1))
+    rw (
+      ne-eqb n 1 (r .0 .0 .0 .0 .0 .1),
+      ne-eqb n 2 (r .0 .0 .0 .0 .1),
+      ne-eqb n 3 (r .0 .0 .0 .1),
+      ne-eqb n 4 (r .0 .0 .1),
+      ne-eqb n 5 (r .0 .1),
+      ne-eqb n 6 (r .1),
+    )
 
 pub value-fits-spec : {M : Type 1} → statement M
 value-fits-spec =

@@ -24,4 +24,5 @@ unfolding message-from
 returns c = rw (c .before .message-kind-from .ensures, c .word-at .ensures)
 
 pub read-message-spec : {M : Type 1} → statement M
-read-message-spec = tie.close (tie.spec shared-slice-read-t3 shared-slice-read-t5 shared-slice-read-message-kind-from message-kind-from-requires word-at-requires returns)
+read-message-spec = tie.close (tie.spec shared-slice-read-t3 shared-slice-read-t5 shared-slice-read-message-kind-from
+    message-kind-from-requires word-at-requires returns)

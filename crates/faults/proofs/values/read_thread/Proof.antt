@@ -57,7 +57,21 @@ answer-from-requires c κs = search needs
 
 returns : tie.Need-returns
 unfolding thread-from
-returns c = rw (c .before .before .before .before .before .before .before .before .before .before .before .before .before .before .parent-from .ensures, c .before .before .before .before .before .before .before .before .before .before .before .state-from .ensures, c .before .before .before .before .before .before .before .before .before .manager-from .ensures, c .before .before .before .before .before .before .before .manager-from2 .ensures, c .before .before .before .before .before .manager-from3 .ensures, c .before .before .before .before .word-at .ensures, c .answer-from .ensures, c .before .word-at2 .ensures)
+returns c =
+    rw (
+      c .before .before .before .before .before .before .before .before .before .before .before .before .before .before .parent-from
+          .ensures,
+      c .before .before .before .before .before .before .before .before .before .before .before .state-from .ensures,
+      c .before .before .before .before .before .before .before .before .before .manager-from .ensures,
+      c .before .before .before .before .before .before .before .manager-from2 .ensures,
+      c .before .before .before .before .before .manager-from3 .ensures,
+      c .before .before .before .before .word-at .ensures,
+      c .answer-from .ensures,
+      c .before .word-at2 .ensures,
+    )
 
 pub read-thread-spec : {M : Type 1} → statement M
-read-thread-spec = tie.close (tie.spec shared-slice-read-t3 shared-slice-read-parent-from parent-from-requires shared-slice-read-state-from shared-slice-read-state-from-2 state-from-requires shared-slice-read-manager-from manager-from-requires shared-slice-read-manager-from-2 manager-from-requires-2 shared-slice-read-manager-from-3 manager-from-requires-3 word-at-requires shared-slice-read-answer-from shared-slice-read-answer-from-2 word-at-requires-2 answer-from-requires returns)
+read-thread-spec = tie.close (tie.spec shared-slice-read-t3 shared-slice-read-parent-from parent-from-requires shared-slice-read-state-from
+    shared-slice-read-state-from-2 state-from-requires shared-slice-read-manager-from manager-from-requires shared-slice-read-manager-from-2
+    manager-from-requires-2 shared-slice-read-manager-from-3 manager-from-requires-3 word-at-requires shared-slice-read-answer-from
+    shared-slice-read-answer-from-2 word-at-requires-2 answer-from-requires returns)

@@ -57,7 +57,14 @@ add-result : tie.Need-add-result
 add-result c = search needs
 
 returns : tie.Need-returns
-returns c = omega (arith, four-at (c .before .before .before .before .before .before .before .before .before .args .v .now) (c .before .before .before .before .before .before .before .before .before .args .at) (c .before .before .before .before .before .before .before .before .before .pre))
+returns c = omega (
+  arith,
+  four-at (c .before .before .before .before .before .before .before .before .before .args .v .now)
+      (c .before .before .before .before .before .before .before .before .before .args .at)
+      (c .before .before .before .before .before .before .before .before .before .pre),
+)
 
 pub word-at-spec : {M : Type 1} → statement M
-word-at-spec = tie.close (tie.spec shared-slice-read-wide wide-requires mul-b add-wide shared-slice-read-wide-2 wide-requires-2 add-b mul-c add-wide-2 shared-slice-read-wide-3 wide-requires-3 add-c mul-result add-wide-3 shared-slice-read-wide-4 wide-requires-4 add-result returns)
+word-at-spec = tie.close (tie.spec shared-slice-read-wide wide-requires mul-b add-wide shared-slice-read-wide-2 wide-requires-2 add-b mul-c
+    add-wide-2 shared-slice-read-wide-3 wide-requires-3 add-c mul-result add-wide-3 shared-slice-read-wide-4 wide-requires-4 add-result
+    returns)

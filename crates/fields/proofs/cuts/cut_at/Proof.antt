@@ -44,7 +44,8 @@ add-size-2 c = search needs
 returns-3 : tie.Need-returns-3
 returns-3 c =
     let a = c .before .before .before .before .before .before .before .before .args in
-    cut-left (a .input .now) (a .place) (omega arith) (omega (arith, c .before .before .before .wide .ensures .0, c .before .wide2 .ensures .0))
+    cut-left (a .input .now) (a .place) (omega arith)
+    (omega (arith, c .before .before .before .wide .ensures .0, c .before .wide2 .ensures .0))
 
 add-t16 : tie.Need-add-t16
 add-t16 c = search needs

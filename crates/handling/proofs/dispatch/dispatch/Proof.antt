@@ -29,7 +29,9 @@ returns c =
     let s = c .before .before .before .before .before .before .before .before .before in
     let h = c .before .before .run-next .ensures in
     record {
-      says = h .says ∙ nobody-runs (tables (s .args .m .now) handing s .args .given) (sym (c .before .before .before .before .before .before .runner .ensures) ∙ c .before .before .before .before .enum-told .given .1);
+      says = h .says ∙ nobody-runs (tables (s .args .m .now) handing s .args .given)
+          (sym (c .before .before .before .before .before .before .runner .ensures)
+          ∙ c .before .before .before .before .enum-told .given .1);
       same = h .same;
       holding = h .holding;
     }
@@ -40,7 +42,9 @@ same-length-2 c = search needs
 returns-2 : tie.Need-returns-2
 returns-2 c =
     let s = c .before .before .before .before .before in
-    and-hands (as-it-was (s .pre .holding)) (sym (dispatch-stays (tables (s .args .m .now) handing s .args .given) _ _ (sym (c .before .before .runner .ensures) ∙ c .enum-told2 .given .1)))
+    and-hands (as-it-was (s .pre .holding))
+    (sym (dispatch-stays (tables (s .args .m .now) handing s .args .given) _ _ (sym (c .before .before .runner .ensures)
+    ∙ c .enum-told2 .given .1)))
 
 pub dispatch-spec : {M : Type 1} → statement M
 dispatch-spec =

@@ -19,7 +19,8 @@ returns : tie.Need-returns
 returns c =
     let s = c .before .before .before .before in
     let T = tables (s .args .m .now) in
-    and-hands (as-it-was (s .pre .holding)) (nobody-ready (T .ready) (T handing s .args .given) (sym (c .before .ready-count .ensures) ∙ c .if1 .taken))
+    and-hands (as-it-was (s .pre .holding))
+    (nobody-ready (T .ready) (T handing s .args .given) (sym (c .before .ready-count .ensures) ∙ c .if1 .taken))
 
 ready-at-requires : tie.Need-ready-at-requires
 ready-at-requires c κs =
@@ -50,7 +51,8 @@ returns-2 c =
     let left = turned .before .before .before .before .before .before in
     let s = left .before .before .before .before in
     and-hands
-    (front-gone _ _ (turned .turn .ensures) _ (c .before .before .before .before .before .before .drop-front .ensures) (c .before .before .set-runner .ensures))
+    (front-gone _ _ (turned .turn .ensures) _ (c .before .before .before .before .before .before .drop-front .ensures)
+    (c .before .before .set-runner .ensures))
     (front-runs (tables (s .args .m .now)) (s .args .given) _ _
     (λ e. left .if1 .left (left .before .ready-count .ensures ∙ e))
     (turned .before .before .before .before .ready-at .ensures)

@@ -30,7 +30,8 @@ some-wakes-requires : tie.Need-some-wakes-requires
 some-wakes-requires c κs = c .before .before .before .before .before .before .pre
 
 returns-2 : tie.Need-returns-2
-returns-2 c = working (tables (c .before .before .before .before .args .m .now)) _ _ (sym (c .before .before .runner .ensures) ∙ c .enum-told .given .1)
+returns-2 c = working (tables (c .before .before .before .before .args .m .now)) _ _ (sym (c .before .before .runner .ensures)
+    ∙ c .enum-told .given .1)
 
 returns-3 : tie.Need-returns-3
 returns-3 c =

@@ -24,7 +24,9 @@ returns c =
     let s = c .before .before .before .before .before .before .before .before in
     let T = tables (s .args .m .now) in
     in-words
-    (sym (interrupt-holds T (s .args .d) (s .args .word) (held-waiter T (s .pre .0 .ruled) (s .args .d) (sym (c .before .before .before .before .before .is-held .ensures) ∙ c .before .before .before .before .if1 .taken))))
+    (sym (interrupt-holds T (s .args .d) (s .args .word)
+    (held-waiter T (s .pre .0 .ruled) (s .args .d) (sym (c .before .before .before .before .before .is-held .ensures)
+    ∙ c .before .before .before .before .if1 .taken))))
     (c .before .before .hold .ensures)
 
 waiter-requires : tie.Need-waiter-requires
@@ -37,8 +39,11 @@ hold-requires-2 c κs =
 
 wake-requires : tie.Need-wake-requires
 wake-requires c κs =
-    let s = c .before .before .before .before .before .before .before .before in
-    (s .pre .0 .holding, waiter-room (tables (s .args .m .now)) (s .pre .0 .ruled) (s .args .d) _ (c .before .before .waiter .ensures) (c .before .if2 .left))
+    let s = c .before .before .before .before .before .before .before .before in (
+      s .pre .0 .holding,
+      waiter-room (tables (s .args .m .now)) (s .pre .0 .ruled) (s .args .d) _ (c .before .before .waiter .ensures)
+          (c .before .if2 .left),
+    )
 
 same-length-2 : tie.Need-same-length-2
 same-length-2 c = search needs
@@ -48,7 +53,9 @@ returns-2 c =
     let s = c .before .before .before .before .before .before .before .before .before .before .before in
     let T = tables (s .args .m .now) in
     in-words
-    (sym (interrupt-holds T (s .args .d) (s .args .word) (no-waiter T (s .pre .0 .ruled) (s .args .d) (sym (c .before .before .before .before .before .waiter .ensures) ∙ c .before .before .before .before .if2 .taken))))
+    (sym (interrupt-holds T (s .args .d) (s .args .word)
+    (no-waiter T (s .pre .0 .ruled) (s .args .d) (sym (c .before .before .before .before .before .waiter .ensures)
+    ∙ c .before .before .before .before .if2 .taken))))
     (c .before .before .hold2 .ensures)
 
 same-length-3 : tie.Need-same-length-3
@@ -58,7 +65,8 @@ returns-3 : tie.Need-returns-3
 returns-3 c =
     let s = c .before .before .before .before .before .before .before .before .before .before .before in
     in-words
-    (waiter-wakes (tables (s .args .m .now)) (s .pre .0 .ruled) (s .args .d) _ (c .before .before .before .before .before .waiter .ensures) (c .before .before .before .before .if2 .left) (s .args .word))
+    (waiter-wakes (tables (s .args .m .now)) (s .pre .0 .ruled) (s .args .d) _ (c .before .before .before .before .before .waiter .ensures)
+    (c .before .before .before .before .if2 .left) (s .args .word))
     (c .before .before .wake .ensures)
 
 pub interrupt-spec : {M : Type 1} → statement M

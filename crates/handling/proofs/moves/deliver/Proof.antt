@@ -18,8 +18,11 @@ handed-requires c κs = search needs
 
 wake-requires : tie.Need-wake-requires
 wake-requires c κs =
-    let s = c .before .before .before .before .before .before in
-    (s .pre .0 .holding, awaited-room (tables (s .args .m .now)) (s .pre .0 .inv) (s .args .x) (sym (c .before .before .before .is-awaited .ensures) ∙ c .before .before .if1 .taken))
+    let s = c .before .before .before .before .before .before in (
+      s .pre .0 .holding,
+      awaited-room (tables (s .args .m .now)) (s .pre .0 .inv) (s .args .x)
+          (sym (c .before .before .before .is-awaited .ensures) ∙ c .before .before .if1 .taken),
+    )
 
 queue-requires : tie.Need-queue-requires
 queue-requires c κs =
@@ -35,7 +38,8 @@ returns c =
     let T = tables (s .args .m .now) in
     in-words
     (ap (λ (a : Answer). wake (s .args .x .to) a T) (c .before .before .before .before .handed .ensures)
-    ∙ sym (deliver-wakes T (s .pre .0 .holding .once) (s .args .x) (sym (c .before .before .before .before .before .before .is-awaited .ensures) ∙ c .before .before .before .before .before .if1 .taken)))
+    ∙ sym (deliver-wakes T (s .pre .0 .holding .once) (s .args .x)
+    (sym (c .before .before .before .before .before .before .is-awaited .ensures) ∙ c .before .before .before .before .before .if1 .taken)))
     (c .before .before .wake .ensures)
 
 same-length-2 : tie.Need-same-length-2
@@ -45,7 +49,8 @@ returns-2 : tie.Need-returns-2
 returns-2 c =
     let s = c .before .before .before .before .before .before .before .before in
     in-words
-    (sym (deliver-queues (tables (s .args .m .now)) (s .args .x) (sym (c .before .before .before .before .before .is-awaited .ensures) ∙ c .before .before .before .before .if1 .left)))
+    (sym (deliver-queues (tables (s .args .m .now)) (s .args .x) (sym (c .before .before .before .before .before .is-awaited .ensures)
+    ∙ c .before .before .before .before .if1 .left)))
     (c .before .before .queue .ensures)
 
 pub deliver-spec : {M : Type 1} → statement M

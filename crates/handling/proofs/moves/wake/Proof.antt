@@ -8,7 +8,8 @@ turn-requires : tie.Need-turn-requires
 turn-requires c κs = search needs
 
 join-ready-requires : tie.Need-join-ready-requires
-join-ready-requires c κs = turned-room _ _ (c .before .before .before .turn .ensures) (c .before .before .before .before .before .before .pre .1)
+join-ready-requires c κs =
+    turned-room _ _ (c .before .before .before .turn .ensures) (c .before .before .before .before .before .before .pre .1)
 
 same-length : tie.Need-same-length
 same-length c = search needs

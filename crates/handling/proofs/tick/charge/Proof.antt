@@ -23,7 +23,8 @@ add-tick-requires c κs = c .before .before .before .before .before .before .bef
 sub-t12 : tie.Need-sub-t12
 sub-t12 c =
     c .before .before .before .before .before .before .before .before .before .before .before .pre .1 .slice _ _
-    (sym (c .before .before .before .before .before .before .before .before .runner .ensures) ∙ c .before .before .before .before .before .before .r .given .1) .0
+    (sym (c .before .before .before .before .before .before .before .before .runner .ensures)
+    ∙ c .before .before .before .before .before .before .r .given .1) .0
 
 set-runner-requires : tie.Need-set-runner-requires
 set-runner-requires c κs = c .before .before .before .add-tick .ensures .holding
@@ -34,7 +35,8 @@ same-length c = search needs
 returns : tie.Need-returns
 returns c =
     let s = c .before .before .before .before .before in
-    in-words (sym (charge-none (tables (s .args .m .now)) (sym (c .before .before .runner .ensures) ∙ c .enum-told .given .1))) (as-it-was (s .pre .0 .holding))
+    in-words (sym (charge-none (tables (s .args .m .now)) (sym (c .before .before .runner .ensures) ∙ c .enum-told .given .1)))
+    (as-it-was (s .pre .0 .holding))
 
 same-length-2 : tie.Need-same-length-2
 same-length-2 c = search needs
@@ -42,7 +44,8 @@ same-length-2 c = search needs
 returns-2 : tie.Need-returns-2
 returns-2 c =
     charged _ _
-    (sym (c .before .before .before .before .before .before .before .before .before .before .before .runner .ensures) ∙ c .before .before .before .before .before .before .before .before .before .r .given .1)
+    (sym (c .before .before .before .before .before .before .before .before .before .before .before .runner .ensures)
+    ∙ c .before .before .before .before .before .before .before .before .before .r .given .1)
     (c .before .before .before .before .before .before .add-tick .ensures)
     (c .before .before .set-runner .ensures)
 

@@ -20,8 +20,11 @@ enum-known-r c = search needs
 
 wake-requires : tie.Need-wake-requires
 wake-requires c κs =
-    let s = c .before .before .before .before .before .before .before .before in
-    (s .pre .holding, runner-fits (tables (s .args .m .now)) _ _ (sym (c .before .before .before .before .before .runner .ensures) ∙ c .before .before .before .r .given .1) (s .pre .inv))
+    let s = c .before .before .before .before .before .before .before .before in (
+      s .pre .holding,
+      runner-fits (tables (s .args .m .now)) _ _ (sym (c .before .before .before .before .before .runner .ensures)
+          ∙ c .before .before .before .r .given .1) (s .pre .inv),
+    )
 
 set-runner-requires : tie.Need-set-runner-requires
 set-runner-requires c κs = c .before .before .before .wake .ensures .holding
@@ -32,7 +35,8 @@ same-length c = search needs
 returns : tie.Need-returns
 returns c =
     let s = c .before .before .before .before .before in
-    in-words (sym (rotate-none (tables (s .args .m .now)) (sym (c .before .before .runner .ensures) ∙ c .enum-told .given .1))) (as-it-was (s .pre .holding))
+    in-words (sym (rotate-none (tables (s .args .m .now)) (sym (c .before .before .runner .ensures) ∙ c .enum-told .given .1)))
+    (as-it-was (s .pre .holding))
 
 same-length-2 : tie.Need-same-length-2
 same-length-2 c = search needs
@@ -40,7 +44,8 @@ same-length-2 c = search needs
 returns-2 : tie.Need-returns-2
 returns-2 c =
     rotated _ _
-    (sym (c .before .before .before .before .before .before .before .before .before .before .before .before .runner .ensures) ∙ c .before .before .before .before .before .before .before .before .before .before .r .given .1)
+    (sym (c .before .before .before .before .before .before .before .before .before .before .before .before .runner .ensures)
+    ∙ c .before .before .before .before .before .before .before .before .before .before .r .given .1)
     (c .before .before .before .before .before .before .before .before .if1 .taken)
     (c .before .before .before .before .before .before .wake .ensures)
     (c .before .before .set-runner .ensures)
@@ -52,7 +57,8 @@ returns-3 : tie.Need-returns-3
 returns-3 c =
     let s = c .before .before .before .before .before .before .before in
     in-words
-    (sym (rotate-stays (tables (s .args .m .now)) _ _ (sym (c .before .before .before .before .runner .ensures) ∙ c .before .before .r .given .1) (omega (arith, c .if1 .left))))
+    (sym (rotate-stays (tables (s .args .m .now)) _ _ (sym (c .before .before .before .before .runner .ensures)
+    ∙ c .before .before .r .given .1) (omega (arith, c .if1 .left))))
     (as-it-was (s .pre .holding))
 
 pub rotate-spec : {M : Type 1} → statement M

@@ -20,14 +20,16 @@ beat-requires c κs =
     let s = c .before .before .before .before .before .before in
     let e = c .before .before .before .charge .ensures in (
       still-holds e (charge-inv (s .pre .ruled .inv)),
-      carried (λ (L : Limits) (T : Tables). T .since < beat-ticks) e (omega (arith, charge-since (tables (s .args .m .now)), s .pre .ruled .steady .since)),
+      carried (λ (L : Limits) (T : Tables). T .since < beat-ticks) e
+          (omega (arith, charge-since (tables (s .args .m .now)), s .pre .ruled .steady .since)),
     )
 
 rotate-requires : tie.Need-rotate-requires
 rotate-requires c κs =
     still-holds
     (c .before .before .before .beat .ensures)
-    (beat-inv (still-holds (c .before .before .before .before .before .before .before .charge .ensures) (charge-inv (c .before .before .before .before .before .before .before .before .before .before .pre .ruled .inv)) .inv))
+    (beat-inv (still-holds (c .before .before .before .before .before .before .before .charge .ensures)
+    (charge-inv (c .before .before .before .before .before .before .before .before .before .before .pre .ruled .inv)) .inv))
 
 same-length : tie.Need-same-length
 same-length c = search needs
@@ -36,7 +38,8 @@ returns : tie.Need-returns
 unfolding tick
 returns c =
     and-then rotate
-    (and-then beat (c .before .before .before .before .before .before .before .before .before .before .charge .ensures) (c .before .before .before .before .before .before .beat .ensures))
+    (and-then beat (c .before .before .before .before .before .before .before .before .before .before .charge .ensures)
+    (c .before .before .before .before .before .before .beat .ensures))
     (c .before .before .rotate .ensures)
 
 pub tick-spec : {M : Type 1} → statement M

@@ -19,22 +19,49 @@ count-requires : tie.Need-count-requires Inv-loop μ-loop
 count-requires c κs = roomy (c .before .args .m .now) (c .before .pre)
 
 cast-at : tie.Need-cast-at Inv-loop μ-loop
-cast-at c = omega (arith, c .count .ensures, counted (c .before .before .args .m .now) (c .before .before .pre), few (c .before .before .args .m .now) (c .before .before .pre))
+cast-at c = omega (
+  arith,
+  c .count .ensures,
+  counted (c .before .before .args .m .now) (c .before .before .pre),
+  few (c .before .before .args .m .now) (c .before .before .pre),
+)
 
 loop-holds : tie.Need-loop-holds Inv-loop μ-loop
-loop-holds c = (rw (c .count .ensures) (fill-starts _ _ (threads-whole (c .before .before .args .m .now) (c .before .before .pre))), c .count .ensures)
+loop-holds c =
+    (rw (c .count .ensures) (fill-starts _ _ (threads-whole (c .before .before .args .m .now) (c .before .before .pre))), c .count .ensures)
 
 sub-i : tie.Need-sub-i Inv-loop μ-loop
 sub-i c = omega arith
 
 name-at-requires : tie.Need-name-at-requires Inv-loop μ-loop
-name-at-requires c κs = (roomy (c .before .before .before .before .args .m .now) (c .before .before .before .before .pre), omega (arith, c .loop-test .taken, c .before .loop .inv .0 .within, counted (c .before .before .before .before .args .m .now) (c .before .before .before .before .pre)))
+name-at-requires c κs = (
+  roomy (c .before .before .before .before .args .m .now) (c .before .before .before .before .pre),
+  omega (
+    arith,
+    c .loop-test .taken,
+    c .before .loop .inv .0 .within,
+    counted (c .before .before .before .before .args .m .now)
+        (c .before .before .before .before .pre),
+  ),
+)
 
 cast-at-2 : tie.Need-cast-at-2 Inv-loop μ-loop
-cast-at-2 c = omega (arith, c .before .loop-test .taken, c .before .before .loop .inv .0 .within, counted (c .before .before .before .before .before .args .m .now) (c .before .before .before .before .before .pre), few (c .before .before .before .before .before .args .m .now) (c .before .before .before .before .before .pre))
+cast-at-2 c = omega (
+  arith,
+  c .before .loop-test .taken,
+  c .before .before .loop .inv .0 .within,
+  counted (c .before .before .before .before .before .args .m .now) (c .before .before .before .before .before .pre),
+  few (c .before .before .before .before .before .args .m .now) (c .before .before .before .before .before .pre),
+)
 
 cast-at-3 : tie.Need-cast-at-3 Inv-loop μ-loop
-cast-at-3 c = omega (arith, c .before .loop-test .taken, c .before .before .loop .inv .0 .within, counted (c .before .before .before .before .before .args .m .now) (c .before .before .before .before .before .pre), few (c .before .before .before .before .before .args .m .now) (c .before .before .before .before .before .pre))
+cast-at-3 c = omega (
+  arith,
+  c .before .loop-test .taken,
+  c .before .before .loop .inv .0 .within,
+  counted (c .before .before .before .before .before .args .m .now) (c .before .before .before .before .before .pre),
+  few (c .before .before .before .before .before .args .m .now) (c .before .before .before .before .before .pre),
+)
 
 array-write-at : tie.Need-array-write-at Inv-loop μ-loop
 array-write-at c = omega (arith, c .before .before .loop .inv .0 .size)
@@ -43,7 +70,11 @@ loop-less : tie.Need-loop-less Inv-loop μ-loop
 loop-less c = omega (arith, c .before .loop-test .taken)
 
 loop-again : tie.Need-loop-again Inv-loop μ-loop
-loop-again c = (fill-read _ _ _ _ _ no-thread (c .before .before .loop .inv .0) (c .before .loop-test .taken) (c .name-at .ensures) (omega arith), c .before .before .loop .inv .1)
+loop-again c = (
+  fill-read _ _ _ _ _ no-thread (c .before .before .loop .inv .0) (c .before .loop-test .taken) (c .name-at .ensures)
+      (omega arith),
+  c .before .before .loop .inv .1,
+)
 
 returns : tie.Need-returns Inv-loop μ-loop
 unfolding tables

@@ -30,10 +30,12 @@ refused-requires-2 : tie.Need-refused-requires-2
 refused-requires-2 c κs = search needs
 
 returns-2 : tie.Need-returns-2
-returns-2 c = twelve _ _ (passed (c .before .before .before)) _ (omega (arith, c .before .before .dump-length .ensures, c .before .if2 .taken)) (c .refused2 .ensures)
+returns-2 c = twelve _ _ (passed (c .before .before .before)) _
+    (omega (arith, c .before .before .dump-length .ensures, c .before .if2 .taken)) (c .refused2 .ensures)
 
 write-dump-requires : tie.Need-write-dump-requires
-write-dump-requires c κs = (writable _ (passed (c .before .before .before)) .0, omega (arith, c .before .before .dump-length .ensures, c .before .if2 .left))
+write-dump-requires c κs =
+    (writable _ (passed (c .before .before .before)) .0, omega (arith, c .before .before .dump-length .ensures, c .before .if2 .left))
 
 same-length : tie.Need-same-length
 same-length c = search needs
@@ -41,7 +43,8 @@ same-length c = search needs
 returns-3 : tie.Need-returns-3
 returns-3 c =
     let asked = c .before .before .before .before in
-    written _ _ (passed (asked .before .before)) _ _ (omega (arith, asked .before .dump-length .ensures, asked .if2 .left)) (c .before .before .write-dump .ensures)
+    written _ _ (passed (asked .before .before)) _ _ (omega (arith, asked .before .dump-length .ensures, asked .if2 .left))
+    (c .before .before .write-dump .ensures)
 
 pub dump-in-spec : {M : Type 1} → statement M
 dump-in-spec =

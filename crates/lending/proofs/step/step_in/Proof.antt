@@ -26,7 +26,8 @@ same-length-2 c = search needs
 
 returns-2 : tie.Need-returns-2
 returns-2 c =
-    stepped (sym (c .before .before .before .before .before .check .ensures) ∙ not-false _ (c .before .before .before .before .if1 .left)) (c .before .before .step .ensures)
+    stepped (sym (c .before .before .before .before .before .check .ensures) ∙ not-false _ (c .before .before .before .before .if1 .left))
+    (c .before .before .step .ensures)
 
 pub step-in-spec : {M : Type 1} → statement M
 step-in-spec =

@@ -53,7 +53,8 @@ loop-again : tie.Need-loop-again Inv-loop μ-loop
 loop-again c =
     let at-loop = c .before .before in
     let at-clock-count = at-loop .before in
-    named-next _ (at-loop .loop .inv) (omega (arith, c .before .loop-test .taken, at-clock-count .clock-count .ensures)) (c .clock-at .ensures)
+    named-next _ (at-loop .loop .inv) (omega (arith, c .before .loop-test .taken, at-clock-count .clock-count .ensures))
+    (c .clock-at .ensures)
 
 add-end : tie.Need-add-end Inv-loop μ-loop
 add-end c = omega (arith, c .before .before .clock-count .ensures, c .before .before .before .before .before .pre .1)
@@ -69,14 +70,25 @@ slice-aggregate-put-numbers c =
     let at-loop = c .before .before .before in
     let at-clock-count = at-loop .before in
     let entry = at-clock-count .before .before .before in
-    omega (arith, named-long (at-loop .loop .inv) (at-clock-count .clock-count .ensures), at-clock-count .clock-count .ensures, entry .pre .1)
+    omega (
+      arith,
+      named-long (at-loop .loop .inv) (at-clock-count .clock-count .ensures),
+      at-clock-count .clock-count .ensures,
+      entry .pre .1,
+    )
 
 put-numbers-requires : tie.Need-put-numbers-requires Inv-loop μ-loop
 put-numbers-requires c κs =
     let at-loop = c .before .before .before in
     let at-clock-count = at-loop .before in
     let entry = at-clock-count .before .before .before in
-    omega (arith, named-long (at-loop .loop .inv) (at-clock-count .clock-count .ensures), at-clock-count .clock-count .ensures, entry .pre .1, entry .pre .2)
+    omega (
+      arith,
+      named-long (at-loop .loop .inv) (at-clock-count .clock-count .ensures),
+      at-clock-count .clock-count .ensures,
+      entry .pre .1,
+      entry .pre .2,
+    )
 
 same-length : tie.Need-same-length Inv-loop μ-loop
 same-length c = search needs
@@ -87,7 +99,8 @@ returns c =
     let at-loop-test = at-put-numbers .before .before .before in
     let at-loop = at-loop-test .before in
     let at-clock-count = at-loop .before in
-    said (at-put-numbers .put-numbers .ensures) (ap numbers-line (named-ends (at-loop .loop .inv) (at-clock-count .clock-count .ensures) (at-loop-test .loop-test .left)))
+    said (at-put-numbers .put-numbers .ensures)
+    (ap numbers-line (named-ends (at-loop .loop .inv) (at-clock-count .clock-count .ensures) (at-loop-test .loop-test .left)))
 
 pub put-clock-spec : {M : Type 1} → statement M
 put-clock-spec =

@@ -31,8 +31,12 @@ part-put-word-end c = omega arith
 put-word-requires : tie.Need-put-word-requires Inv-loop μ-loop
 put-word-requires c κs =
     let at-loop = c .before .before in
-    let entry = at-loop .before .before .before in
-    (entry .pre .0 .shaped, c .before .loop-test .taken, listed-room (walk-held (entry .pre .0)) (at-loop .loop .inv) (c .before .loop-test .taken))
+    let entry = at-loop .before .before .before in (
+      entry .pre .0 .shaped,
+      c .before .loop-test .taken,
+      listed-room (walk-held (entry .pre .0)) (at-loop .loop .inv)
+          (c .before .loop-test .taken),
+    )
 
 add-at : tie.Need-add-at Inv-loop μ-loop
 add-at c =
@@ -40,7 +44,8 @@ add-at c =
     let at-loop-test = at-put-word .before .before in
     let at-loop = at-loop-test .before in
     let entry = at-loop .before .before .before in
-    let next = listed-next (walk-held (entry .pre .0)) (at-loop .loop .inv) (at-loop-test .loop-test .taken) (word-few _ _) (at-put-word .put-word .ensures) in
+    let next = listed-next (walk-held (entry .pre .0)) (at-loop .loop .inv) (at-loop-test .loop-test .taken) (word-few _ _)
+    (at-put-word .put-word .ensures) in
     omega (arith, next .low, next .within)
 
 add-d : tie.Need-add-d Inv-loop μ-loop
@@ -55,7 +60,8 @@ loop-again c =
     let at-loop-test = at-put-word .before .before in
     let at-loop = at-loop-test .before in
     let entry = at-loop .before .before .before in
-    listed-next (walk-held (entry .pre .0)) (at-loop .loop .inv) (at-loop-test .loop-test .taken) (word-few _ _) (at-put-word .put-word .ensures)
+    listed-next (walk-held (entry .pre .0)) (at-loop .loop .inv) (at-loop-test .loop-test .taken) (word-few _ _)
+    (at-put-word .put-word .ensures)
 
 same-length : tie.Need-same-length Inv-loop μ-loop
 same-length c = c .before .loop .inv .long

@@ -23,7 +23,8 @@ message-count-requires c κs = c .before .before .pre .0
 loop-holds : tie.Need-loop-holds Inv-loop μ-loop
 loop-holds c =
     let entry = c .before .before .before in
-    listed-starts (walk-list _ no-message _ (c .message-count .ensures)) _ (omega (arith, entry .pre .1, entry .pre .2, c .message-count .ensures))
+    listed-starts (walk-list _ no-message _ (c .message-count .ensures)) _
+    (omega (arith, entry .pre .1, entry .pre .2, c .message-count .ensures))
 
 message-at-requires : tie.Need-message-at-requires Inv-loop μ-loop
 message-at-requires c κs =

@@ -23,7 +23,8 @@ thread-count-requires c κs = c .before .before .pre .0
 loop-holds : tie.Need-loop-holds Inv-loop μ-loop
 loop-holds c =
     let entry = c .before .before .before in
-    listed-starts (walk-list _ no-thread _ (c .thread-count .ensures)) _ (omega (arith, entry .pre .1, entry .pre .2, c .thread-count .ensures))
+    listed-starts (walk-list _ no-thread _ (c .thread-count .ensures)) _
+    (omega (arith, entry .pre .1, entry .pre .2, c .thread-count .ensures))
 
 thread-at-requires : tie.Need-thread-at-requires Inv-loop μ-loop
 thread-at-requires c κs =

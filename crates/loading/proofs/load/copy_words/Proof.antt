@@ -27,7 +27,13 @@ mul-to-2 : tie.Need-mul-to-2 Inv-loop μ-loop
 mul-to-2 c = search needs
 
 slice-write-to : tie.Need-slice-write-to Inv-loop μ-loop
-slice-write-to c = omega (arith, c .before .loop-test .taken, c .before .before .loop .inv .1, c .before .before .loop .inv .0 .long, c .before .before .loop .inv .0 .room)
+slice-write-to c = omega (
+  arith,
+  c .before .loop-test .taken,
+  c .before .before .loop .inv .1,
+  c .before .before .loop .inv .0 .long,
+  c .before .before .loop .inv .0 .room,
+)
 
 add-i : tie.Need-add-i Inv-loop μ-loop
 add-i c = search needs
@@ -36,7 +42,11 @@ loop-less : tie.Need-loop-less Inv-loop μ-loop
 loop-less c = omega (arith, c .before .loop-test .taken)
 
 loop-again : tie.Need-loop-again Inv-loop μ-loop
-loop-again c = (place-next _ _ _ _ (c .before .before .loop .inv .0) _ (omega (arith, c .before .loop-test .taken, c .before .before .loop .inv .1)) refl, c .before .before .loop .inv .1)
+loop-again c = (
+  place-next _ _ _ _ (c .before .before .loop .inv .0) _
+      (omega (arith, c .before .loop-test .taken, c .before .before .loop .inv .1)) refl,
+  c .before .before .loop .inv .1,
+)
 
 same-length : tie.Need-same-length Inv-loop μ-loop
 same-length c = c .before .loop .inv .0 .long
@@ -45,4 +55,5 @@ returns : tie.Need-returns Inv-loop μ-loop
 returns c = place-ends _ _ _ _ (c .before .loop .inv .0) (omega (arith, c .loop-test .left, c .before .loop .inv .1))
 
 pub copy-words-spec : {M : Type 1} → statement M
-copy-words-spec = tie.close (tie.spec Inv-loop μ-loop loop-holds mul-to shared-slice-read-to mul-to-2 slice-write-to add-i loop-less loop-again same-length returns)
+copy-words-spec = tie.close (tie.spec Inv-loop μ-loop loop-holds mul-to shared-slice-read-to mul-to-2 slice-write-to add-i loop-less
+    loop-again same-length returns)

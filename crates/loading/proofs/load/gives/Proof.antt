@@ -21,7 +21,8 @@ same-requires : tie.Need-same-requires
 same-requires c κs = front-fits _ _ _ _ (c .before .before .write-dump .ensures)
 
 returns : tie.Need-returns
-returns c = c .same .ensures ∙ ap (λ (l : List ℕ). same l (c .before .before .before .before .before .before .before .args .bytes .now)) (front _ _ _ _ (c .before .before .before .write-dump .ensures))
+returns c = c .same .ensures ∙ ap (λ (l : List ℕ). same l (c .before .before .before .before .before .before .before .args .bytes .now))
+    (front _ _ _ _ (c .before .before .before .write-dump .ensures))
 
 pub gives-spec : {M : Type 1} → statement M
 gives-spec = tie.close (tie.spec slice-aggregate-write-dump write-dump-requires slice-aggregate-same same-requires returns)

@@ -28,7 +28,9 @@ same-length : tie.Need-same-length
 same-length c = c .before .m .given
 
 returns-2 : tie.Need-returns-2
-returns-2 c = copied (c .before .before .before .before .before .before .before .reads .ensures) _ _ (not-false _ (c .before .before .before .before .before .if1 .left)) (search needs) (c .before .before .copy-words .ensures)
+returns-2 c = copied (c .before .before .before .before .before .before .before .reads .ensures) _ _
+    (not-false _ (c .before .before .before .before .before .if1 .left)) (search needs) (c .before .before .copy-words .ensures)
 
 pub load-in-spec : {M : Type 1} → statement M
-load-in-spec = tie.close (tie.spec slice-aggregate-reads reads-requires find-requires returns slice-aggregate-copy-words copy-words-requires same-length returns-2)
+load-in-spec = tie.close (tie.spec slice-aggregate-reads reads-requires find-requires returns slice-aggregate-copy-words copy-words-requires
+    same-length returns-2)

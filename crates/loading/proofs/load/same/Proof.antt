@@ -44,4 +44,5 @@ returns-2 : tie.Need-returns-2 Inv-loop μ-loop
 returns-2 c = alike-ends _ _ _ _ _ (c .before .loop .inv) (c .loop-test .left)
 
 pub same-spec : {M : Type 1} → statement M
-same-spec = tie.close (tie.spec Inv-loop μ-loop returns loop-holds shared-slice-read-if2 shared-slice-read-if2-2 add-i loop-less loop-again returns-2)
+same-spec = tie.close (tie.spec Inv-loop μ-loop returns loop-holds shared-slice-read-if2 shared-slice-read-if2-2 add-i loop-less loop-again
+    returns-2)

@@ -39,7 +39,13 @@ wide-requires-3 c κs = search needs
 returns-3 : tie.Need-returns-3
 returns-3 c =
     let s = c .before .before in
-    sym (opened _ _ _ (s .before .before .before .before .before .before .if1 .left) ∙ rw (eq-eqb _ _ (s .before .before .before .before .if2 .left), ← s .before .before .wide .ensures .0, ← s .wide2 .ensures .0, ne-eqb _ _ (λ e. c .if3 .taken (e ∙ sym (c .before .wide3 .ensures .0)))))
+    sym (opened _ _ _ (s .before .before .before .before .before .before .if1 .left)
+    ∙ rw (
+      eq-eqb _ _ (s .before .before .before .before .if2 .left),
+      ← s .before .before .wide .ensures .0,
+      ← s .wide2 .ensures .0,
+      ne-eqb _ _ (λ e. c .if3 .taken (e ∙ sym (c .before .wide3 .ensures .0))),
+    ))
 
 sub-result : tie.Need-sub-result
 sub-result c = search needs
@@ -47,7 +53,14 @@ sub-result c = search needs
 returns-4 : tie.Need-returns-4
 returns-4 c =
     let s = c .before .before in
-    sym (opened _ _ _ (s .before .before .before .before .before .before .if1 .left) ∙ rw (eq-eqb _ _ (s .before .before .before .before .if2 .left), ← s .before .before .wide .ensures .0, ← s .wide2 .ensures .0, eq-eqb _ _ (c .if3 .left ∙ c .before .wide3 .ensures .0)))
+    sym (opened _ _ _ (s .before .before .before .before .before .before .if1 .left)
+    ∙ rw (
+      eq-eqb _ _ (s .before .before .before .before .if2 .left),
+      ← s .before .before .wide .ensures .0,
+      ← s .wide2 .ensures .0,
+      eq-eqb _ _ (c .if3 .left ∙ c .before .wide3 .ensures .0),
+    ))
 
 pub opens-spec : {M : Type 1} → statement M
-opens-spec = tie.close (tie.spec returns shared-slice-read-if2 returns-2 shared-slice-read-wide wide-requires mul-if3 shared-slice-read-wide-2 wide-requires-2 add-if3 wide-requires-3 returns-3 sub-result returns-4)
+opens-spec = tie.close (tie.spec returns shared-slice-read-if2 returns-2 shared-slice-read-wide wide-requires mul-if3
+    shared-slice-read-wide-2 wide-requires-2 add-if3 wide-requires-3 returns-3 sub-result returns-4)

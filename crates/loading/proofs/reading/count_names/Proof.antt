@@ -35,13 +35,24 @@ opens-requires : tie.Need-opens-requires
 opens-requires c κs = search needs
 
 returns-3 : tie.Need-returns-3
-returns-3 c = names-shut _ _ _ (seen (c .before .before .before .before .before .before .before .args .tag) (getD (c .before .before .before .before .before .before .before .args .bytes .now) (c .before .before .before .before .before .before .before .args .from + 2) 0) (c .before .before .before .before .before .before .before .args .bytes .now) (c .before .before .before .before .before .before .before .args .from) (c .before .opens .ensures) (not-true _ (c .if3 .taken)))
+returns-3 c = names-shut _ _ _
+    (seen (c .before .before .before .before .before .before .before .args .tag)
+    (getD (c .before .before .before .before .before .before .before .args .bytes .now)
+    (c .before .before .before .before .before .before .before .args .from + 2) 0)
+    (c .before .before .before .before .before .before .before .args .bytes .now)
+    (c .before .before .before .before .before .before .before .args .from) (c .before .opens .ensures) (not-true _ (c .if3 .taken)))
 
 cast-result : tie.Need-cast-result
 cast-result c = search needs
 
 returns-4 : tie.Need-returns-4
-returns-4 c = names-open _ _ _ (seen (c .before .before .before .before .before .before .before .args .tag) (getD (c .before .before .before .before .before .before .before .args .bytes .now) (c .before .before .before .before .before .before .before .args .from + 2) 0) (c .before .before .before .before .before .before .before .args .bytes .now) (c .before .before .before .before .before .before .before .args .from) (c .before .opens .ensures) (not-false _ (c .if3 .left)))
+returns-4 c = names-open _ _ _
+    (seen (c .before .before .before .before .before .before .before .args .tag)
+    (getD (c .before .before .before .before .before .before .before .args .bytes .now)
+    (c .before .before .before .before .before .before .before .args .from + 2) 0)
+    (c .before .before .before .before .before .before .before .args .bytes .now)
+    (c .before .before .before .before .before .before .before .args .from) (c .before .opens .ensures) (not-false _ (c .if3 .left)))
 
 pub count-names-spec : {M : Type 1} → statement M
-count-names-spec = tie.close (tie.spec sub-if1 returns add-size shared-slice-read-size returns-2 sub-opens part-opens-start part-opens-end opens-requires returns-3 cast-result returns-4)
+count-names-spec = tie.close (tie.spec sub-if1 returns add-size shared-slice-read-size returns-2 sub-opens part-opens-start part-opens-end
+    opens-requires returns-3 cast-result returns-4)

@@ -20,16 +20,30 @@ shared-slice-read-fill-name : tie.Need-shared-slice-read-fill-name Inv-loop μ-l
 shared-slice-read-fill-name c = omega (arith, c .before .before .loop-test .taken, c .before .before .before .loop .inv .1)
 
 fill-name-requires : tie.Need-fill-name-requires Inv-loop μ-loop
-fill-name-requires c κs = naming-room _ _ _ _ _ (c .before .before .before .loop .inv .0) (omega (arith, c .before .before .loop-test .taken, c .before .before .before .loop .inv .1))
+fill-name-requires c κs = naming-room _ _ _ _ _ (c .before .before .before .loop .inv .0)
+    (omega (arith, c .before .before .loop-test .taken, c .before .before .before .loop .inv .1))
 
 add-i : tie.Need-add-i Inv-loop μ-loop
-add-i c = omega (arith, c .before .before .before .before .before .loop-test .taken, c .before .before .before .before .before .before .loop .inv .1, c .before .before .before .before .before .before .loop .inv .0 .few)
+add-i c = omega (
+  arith,
+  c .before .before .before .before .before .loop-test .taken,
+  c .before .before .before .before .before .before .loop .inv .1,
+  c .before .before .before .before .before .before .loop .inv .0 .few,
+)
 
 loop-less : tie.Need-loop-less Inv-loop μ-loop
 loop-less c = omega (arith, c .before .before .before .before .before .loop-test .taken)
 
 loop-again : tie.Need-loop-again Inv-loop μ-loop
-loop-again c = (naming-next _ _ _ _ _ (c .before .before .before .before .before .before .loop .inv .0) _ _ (omega (arith, c .before .before .before .before .before .loop-test .taken, c .before .before .before .before .before .before .loop .inv .1)) refl (c .before .before .fill-name .ensures) (c .before .m .given), c .before .before .before .before .before .before .loop .inv .1)
+loop-again c = (
+  naming-next _ _ _ _ _ (c .before .before .before .before .before .before .loop .inv .0) _ _
+      (omega (
+        arith,
+        c .before .before .before .before .before .loop-test .taken,
+        c .before .before .before .before .before .before .loop .inv .1,
+      )) refl (c .before .before .fill-name .ensures) (c .before .m .given),
+  c .before .before .before .before .before .before .loop .inv .1,
+)
 
 same-length : tie.Need-same-length Inv-loop μ-loop
 same-length c = c .before .loop .inv .0 .long
@@ -38,4 +52,5 @@ returns : tie.Need-returns Inv-loop μ-loop
 returns c = naming-ends _ _ _ _ _ (c .before .loop .inv .0) (omega (arith, c .loop-test .left, c .before .loop .inv .1))
 
 pub fill-names-spec : {M : Type 1} → statement M
-fill-names-spec = tie.close (tie.spec Inv-loop μ-loop loop-holds shared-slice-read-fill-name fill-name-requires add-i loop-less loop-again same-length returns)
+fill-names-spec = tie.close (tie.spec Inv-loop μ-loop loop-holds shared-slice-read-fill-name fill-name-requires add-i loop-less loop-again
+    same-length returns)

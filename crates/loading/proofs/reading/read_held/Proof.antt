@@ -7,7 +7,8 @@ use borrow.Author.Tests.{not-true, not-false}
 use Rattle.rules.specs.Lists.{all}
 use Rattle.loading.specs.Reading.{opens}
 use Rattle.loading.proofs.Cutting.{seen, field-within}
-use Rattle.loading.proofs.Filling.{Rowing, rowing-starts, rowing-next, rowing-ends, rowing-full, rowing-stops, held-kind, held-last, held-low, never-high}
+use Rattle.loading.proofs.Filling.{Rowing, rowing-starts, rowing-next, rowing-ends, rowing-full, rowing-stops, held-kind, held-last}
+use Rattle.loading.proofs.Filling.{held-low, never-high}
 use native.Mathlib.Omega.{arith}
 use borrow.Author.Needs.{needs}
 use Rattle.loading.proofs.reading.read_held.Statement.{statement}
@@ -20,12 +21,16 @@ abbrev μ-loop : tie.MeasureT-loop
 μ-loop m₀ bytes from n₀ at₀ m n at = 48 - n
 
 -- one more field stands
-more : (w : tie.Else1 Inv-loop μ-loop) → opens 6 5 (drop (w .before .before .before .before .loop .at) (w .before .before .before .before .before .before .before .args .bytes .now)) ≡ true
-more w = seen 6 5 (w .before .before .before .before .before .before .before .args .bytes .now) (w .before .before .before .before .loop .at) (w .before .opens .ensures) (not-false _ (w .if1 .left))
+more : (w : tie.Else1 Inv-loop μ-loop) →
+    opens 6 5 (drop (w .before .before .before .before .loop .at)
+    (w .before .before .before .before .before .before .before .args .bytes .now)) ≡ true
+more w = seen 6 5 (w .before .before .before .before .before .before .before .args .bytes .now)
+    (w .before .before .before .before .loop .at) (w .before .opens .ensures) (not-false _ (w .if1 .left))
 
 loop-holds : tie.Need-loop-holds Inv-loop μ-loop
 unfolding all
-loop-holds c = rowing-starts held-kind _ _ _ (c .before .before .pre .0) (c .before .before .pre .1) (c .before .before .pre .2) (rw (c .before .before .pre .1) refl)
+loop-holds c = rowing-starts held-kind _ _ _ (c .before .before .pre .0) (c .before .before .pre .1) (c .before .before .pre .2)
+    (rw (c .before .before .pre .1) refl)
 
 sub-opens : tie.Need-sub-opens Inv-loop μ-loop
 sub-opens c = c .before .loop .inv .cut .within
@@ -43,7 +48,9 @@ same-length : tie.Need-same-length Inv-loop μ-loop
 same-length c = c .before .before .before .before .loop .inv .long
 
 returns : tie.Need-returns Inv-loop μ-loop
-returns c = rowing-ends held-kind _ _ _ _ _ _ (c .before .before .before .before .loop .inv) (seen 6 5 (c .before .before .before .before .before .before .before .args .bytes .now) (c .before .before .before .before .loop .at) (c .before .opens .ensures) (not-true _ (c .if1 .taken)))
+returns c = rowing-ends held-kind _ _ _ _ _ _ (c .before .before .before .before .loop .inv)
+    (seen 6 5 (c .before .before .before .before .before .before .before .args .bytes .now) (c .before .before .before .before .loop .at)
+    (c .before .opens .ensures) (not-true _ (c .if1 .taken)))
 
 add-start : tie.Need-add-start Inv-loop μ-loop
 add-start c = search needs
@@ -58,7 +65,8 @@ part-read-word-start : tie.Need-part-read-word-start Inv-loop μ-loop
 part-read-word-start c = search needs
 
 part-read-word-end : tie.Need-part-read-word-end Inv-loop μ-loop
-part-read-word-end c = field-within 6 5 (c .before .before .before .before .before .before .before .args .bytes .now) (c .before .before .before .before .loop .at) (more c)
+part-read-word-end c = field-within 6 5 (c .before .before .before .before .before .before .before .args .bytes .now)
+    (c .before .before .before .before .loop .at) (more c)
 
 read-word-requires : tie.Need-read-word-requires Inv-loop μ-loop
 read-word-requires c κs = search needs
@@ -67,10 +75,15 @@ same-length-2 : tie.Need-same-length-2 Inv-loop μ-loop
 same-length-2 c = c .before .before .before .before .before .before .before .before .loop .inv .long
 
 returns-2 : tie.Need-returns-2 Inv-loop μ-loop
-returns-2 c = rowing-stops held-kind _ _ _ _ _ _ (c .before .before .before .before .before .before .before .before .loop .inv) _ (more (c .before .before .before .before)) (c .before .before .read-word .ensures) (never-high _ (c .if2 .taken))
+returns-2 c = rowing-stops held-kind _ _ _ _ _ _ (c .before .before .before .before .before .before .before .before .loop .inv) _
+    (more (c .before .before .before .before)) (c .before .before .read-word .ensures) (never-high _ (c .if2 .taken))
 
 fill-held-requires : tie.Need-fill-held-requires Inv-loop μ-loop
-fill-held-requires c κs = (c .before .before .before .before .before .before .before .before .before .loop .inv .only .shaped, c .before .if2 .left, c .before .before .before .before .before .before .before .before .before .loop .inv .holds)
+fill-held-requires c κs = (
+  c .before .before .before .before .before .before .before .before .before .loop .inv .only .shaped,
+  c .before .if2 .left,
+  c .before .before .before .before .before .before .before .before .before .loop .inv .holds,
+)
 
 add-n : tie.Need-add-n Inv-loop μ-loop
 add-n c = omega (arith, c .before .before .before .before .before .before .before .before .before .before .before .loop-test .taken)
@@ -79,7 +92,14 @@ loop-less : tie.Need-loop-less Inv-loop μ-loop
 loop-less c = omega (arith, c .before .before .before .before .before .before .before .before .before .before .before .loop-test .taken)
 
 loop-again : tie.Need-loop-again Inv-loop μ-loop
-loop-again c = rowing-next held-kind _ _ _ _ _ _ (c .before .before .before .before .before .before .before .before .before .before .before .before .loop .inv) _ _ _ (c .before .before .before .before .before .before .before .before .before .before .before .loop-test .taken) (more (c .before .before .before .before .before .before .before .before)) (c .before .before .before .before .before .before .read-word .ensures) (c .before .before .fill-held .ensures) (held-low _ _ _ (c .before .before .before .before .if2 .left) (c .before .before .before .before .before .before .before .before .before .before .before .before .loop .inv .holds)) (λ xs zs f e. held-last _ _ _ _ f e) (c .before .m .given)
+loop-again c = rowing-next held-kind _ _ _ _ _ _
+    (c .before .before .before .before .before .before .before .before .before .before .before .before .loop .inv) _ _ _
+    (c .before .before .before .before .before .before .before .before .before .before .before .loop-test .taken)
+    (more (c .before .before .before .before .before .before .before .before))
+    (c .before .before .before .before .before .before .read-word .ensures) (c .before .before .fill-held .ensures)
+    (held-low _ _ _ (c .before .before .before .before .if2 .left)
+    (c .before .before .before .before .before .before .before .before .before .before .before .before .loop .inv .holds))
+    (λ xs zs f e. held-last _ _ _ _ f e) (c .before .m .given)
 
 same-length-3 : tie.Need-same-length-3 Inv-loop μ-loop
 same-length-3 c = c .before .loop .inv .long
@@ -88,4 +108,6 @@ returns-3 : tie.Need-returns-3 Inv-loop μ-loop
 returns-3 c = rowing-full held-kind _ _ _ _ _ _ (c .before .loop .inv) (c .loop-test .left)
 
 pub read-held-spec : {M : Type 1} → statement M
-read-held-spec = tie.close (tie.spec Inv-loop μ-loop loop-holds sub-opens part-opens-start part-opens-end opens-requires same-length returns add-start add-end sub-read-word part-read-word-start part-read-word-end read-word-requires same-length-2 returns-2 fill-held-requires add-n loop-less loop-again same-length-3 returns-3)
+read-held-spec = tie.close (tie.spec Inv-loop μ-loop loop-holds sub-opens part-opens-start part-opens-end opens-requires same-length returns
+    add-start add-end sub-read-word part-read-word-start part-read-word-end read-word-requires same-length-2 returns-2 fill-held-requires
+    add-n loop-less loop-again same-length-3 returns-3)

@@ -43,15 +43,18 @@ set-runner-requires c κs = let s = c .before .before in
 
 clear-all-held-requires : tie.Need-clear-all-held-requires
 clear-all-held-requires c κs = let s = c .before .before .before .before .before .before in
-    still-roomy (c .before .before .before .set-runner .ensures) (anew-roomy (s .args .m .now) (s .args .threads) (s .args .blocks) (omega arith) (s .pre))
+    still-roomy (c .before .before .before .set-runner .ensures)
+    (anew-roomy (s .args .m .now) (s .args .threads) (s .args .blocks) (omega arith) (s .pre))
 
 same-length : tie.Need-same-length
 same-length c = let s = c .before .before .before .before .before .before .before .before .before in
-    c .before .m2 .given ∙ c .before .before .before .before .before .m .given ∙ anew-long (s .args .m .now) (s .args .threads) (s .args .blocks) (omega arith)
+    c .before .m2 .given ∙ c .before .before .before .before .before .m .given
+    ∙ anew-long (s .args .m .now) (s .args .threads) (s .args .blocks) (omega arith)
 
 returns : tie.Need-returns
 returns c = let s = c .before .before .before .before .before .before .before .before .before in
-    anew-nothing (s .args .m .now) (s .args .threads) (s .args .blocks) (omega arith) _ (c .before .before .clear-all-held .ensures ∙ ap (put-held []) (c .before .before .before .before .before .before .set-runner .ensures))
+    anew-nothing (s .args .m .now) (s .args .threads) (s .args .blocks) (omega arith) _ (c .before .before .clear-all-held .ensures
+    ∙ ap (put-held []) (c .before .before .before .before .before .before .set-runner .ensures))
 
 pub clear-spec : {M : Type 1} → statement M
 clear-spec =

@@ -52,7 +52,8 @@ returns c = let s = c .before .before .before .before .before .before .before .b
     let m = s .args .m .now in
     let vs : List ℕ = c .before .before .put-four .last .0 in
     put-back m (s .args .to) 4 vs (s .pre .1) (lent-size m (s .args .to) 4 vs (s .pre .1) (c .before .m2 .given .0))
-    ∙ ap (λ (x : List ℕ). take (s .args .to) m ++ (x ++ drop (s .args .to + 4) m)) (c .before .before .put-four .ensures ∙ sym (c .before .before .before .before .four-at .ensures) ∙ lent-is m (s .args .from) 4)
+    ∙ ap (λ (x : List ℕ). take (s .args .to) m ++ (x ++ drop (s .args .to + 4) m)) (c .before .before .put-four .ensures
+    ∙ sym (c .before .before .before .before .four-at .ensures) ∙ lent-is m (s .args .from) 4)
 
 pub copy-four-spec : {M : Type 1} → statement M
 copy-four-spec =

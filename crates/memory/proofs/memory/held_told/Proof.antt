@@ -37,7 +37,8 @@ shared-slice-read-if1 c = omega arith
 returns : tie.Need-returns Inv-loop μ-loop
 unfolding rows-of
 returns c = let s = c .before .before .before .before in
-    sym (untold (flags (s .args .m .now)) (inside (s .args .m .now)) 0 devices (c .before .before .before .loop .d) (omega arith) (omega arith) (c .if1 .taken))
+    sym (untold (flags (s .args .m .now)) (inside (s .args .m .now)) 0 devices (c .before .before .before .loop .d) (omega arith)
+    (omega arith) (c .if1 .taken))
 
 add-d : tie.Need-add-d Inv-loop μ-loop
 add-d c = search needs
@@ -51,7 +52,8 @@ loop-again c = (omega arith, below-more _ _ (c .before .before .before .loop .in
 returns-2 : tie.Need-returns-2 Inv-loop μ-loop
 unfolding rows-of
 returns-2 c = let s = c .before .before in
-    sym (gentle-told (flags (s .args .m .now)) (inside (s .args .m .now)) 0 devices (omega arith) (λ j p q. c .before .loop .inv .1 j (omega arith)))
+    sym (gentle-told (flags (s .args .m .now)) (inside (s .args .m .now)) 0 devices (omega arith)
+    (λ j p q. c .before .loop .inv .1 j (omega arith)))
 
 pub held-told-spec : {M : Type 1} → statement M
 held-told-spec =

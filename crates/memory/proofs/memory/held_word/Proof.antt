@@ -29,12 +29,14 @@ shared-slice-read-result c = omega arith
 returns : tie.Need-returns
 unfolding rows-of
 returns c = let s = c .before .before .before .before in
-    sym (held-taken (flags (s .args .m .now)) (inside (s .args .m .now)) (s .args .d) (s .pre .1) (sym (c .before .before .is-held .ensures) ∙ c .before .if1 .taken))
+    sym (held-taken (flags (s .args .m .now)) (inside (s .args .m .now)) (s .args .d) (s .pre .1) (sym (c .before .before .is-held .ensures)
+    ∙ c .before .if1 .taken))
 
 returns-2 : tie.Need-returns-2
 unfolding rows-of
 returns-2 c = let s = c .before .before .before in
-    sym (held-left (flags (s .args .m .now)) (inside (s .args .m .now)) (s .args .d) (s .pre .1) (sym (c .before .is-held .ensures) ∙ c .if1 .left))
+    sym (held-left (flags (s .args .m .now)) (inside (s .args .m .now)) (s .args .d) (s .pre .1) (sym (c .before .is-held .ensures)
+    ∙ c .if1 .left))
 
 pub held-word-spec : {M : Type 1} → statement M
 held-word-spec =

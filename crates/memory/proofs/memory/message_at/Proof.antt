@@ -57,7 +57,8 @@ returns : tie.Need-returns
 unfolding rows-of
 returns c = let s = c .before .before .before .before in
     let m = s .args .m .now in
-    c .read-message .ensures ∙ ap message-in (lent-is m (message-place (word m 0) (s .args .i)) 3) ∙ sym (row-at (message-of m) _ (s .args .i) _ (s .pre .1))
+    c .read-message .ensures ∙ ap message-in (lent-is m (message-place (word m 0) (s .args .i)) 3)
+    ∙ sym (row-at (message-of m) _ (s .args .i) _ (s .pre .1))
 
 pub message-at-spec : {M : Type 1} → statement M
 message-at-spec =

@@ -46,7 +46,8 @@ same-length c = search needs
 returns : tie.Need-returns
 unfolding rows-of
 returns c = let s = c .before .before .before .before .before .before in
-    message-moved (s .args .m .now) _ (s .args .from) (s .args .to) (s .pre .1) (s .pre .2) (omega arith) (c .before .before .copy-four .ensures)
+    message-moved (s .args .m .now) _ (s .args .from) (s .args .to) (s .pre .1) (s .pre .2) (omega arith)
+    (c .before .before .copy-four .ensures)
 
 pub move-message-spec : {M : Type 1} → statement M
 move-message-spec =

@@ -50,7 +50,8 @@ returns : tie.Need-returns
 unfolding rows-of
 returns c = let s = c .before in
     let m = s .args .m .now in
-    queue-put m (s .args .to) 12 (word m (thread-place (s .args .from) + 12)) _ (s .pre .2) (omega arith) (sym (row-at (ready-of m) _ (s .args .from) 0 (s .pre .1))) (omega arith) (omega arith)
+    queue-put m (s .args .to) 12 (word m (thread-place (s .args .from) + 12)) _ (s .pre .2) (omega arith)
+    (sym (row-at (ready-of m) _ (s .args .from) 0 (s .pre .1))) (omega arith) (omega arith)
 
 pub move-ready-spec : {M : Type 1} → statement M
 move-ready-spec =

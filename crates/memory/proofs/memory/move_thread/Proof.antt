@@ -41,30 +41,51 @@ add-copy-four-4 c = search needs
 
 copy-four-requires-3 : tie.Need-copy-four-requires-3
 unfolding rows-of
-copy-four-requires-3 c κs = (omega (arith, c .before .before .before .before .before .before .m .given, c .before .before .m2 .given), omega (arith, c .before .before .before .before .before .before .m .given, c .before .before .m2 .given))
+copy-four-requires-3 c κs = (
+  omega (arith, c .before .before .before .before .before .before .m .given, c .before .before .m2 .given),
+  omega (arith, c .before .before .before .before .before .before .m .given, c .before .before .m2 .given),
+)
 
 mul-byte : tie.Need-mul-byte
 mul-byte c = search needs
 
 slice-read-byte : tie.Need-slice-read-byte
 unfolding rows-of
-slice-read-byte c = omega (arith, c .before .before .before .before .before .before .before .before .before .before .m .given, c .before .before .before .before .before .before .m2 .given, c .before .before .m3 .given)
+slice-read-byte c = omega (
+  arith,
+  c .before .before .before .before .before .before .before .before .before .before .m .given,
+  c .before .before .before .before .before .before .m2 .given,
+  c .before .before .m3 .given,
+)
 
 byte-requires : tie.Need-byte-requires
 byte-requires c κs = search needs
 
 hint-place-requires : tie.Need-hint-place-requires
 unfolding rows-of
-hint-place-requires c κs = let s = c .before .before .before .before .before .before .before .before .before .before .before .before .before .before .before .before in
-    (still-roomy (thread-moved (s .args .m .now) _ _ _ (s .args .from) (s .args .to) (s .pre .1) (s .pre .2) (omega arith) (c .before .before .before .before .before .before .before .before .before .before .before .before .before .copy-four .ensures) (c .before .before .before .before .before .before .before .before .before .copy-four2 .ensures) (c .before .before .before .before .before .copy-four3 .ensures)) (s .pre .0), omega (arith, s .pre .0 .low, s .pre .2))
+hint-place-requires c κs = let s =
+    c .before .before .before .before .before .before .before .before .before .before .before .before .before .before .before .before in (
+      still-roomy (thread-moved (s .args .m .now) _ _ _ (s .args .from) (s .args .to) (s .pre .1) (s .pre .2) (omega arith)
+          (c .before .before .before .before .before .before .before .before .before .before .before .before .before .copy-four .ensures)
+          (c .before .before .before .before .before .before .before .before .before .copy-four2 .ensures)
+          (c .before .before .before .before .before .copy-four3 .ensures)) (s .pre .0),
+      omega (arith, s .pre .0 .low, s .pre .2),
+    )
 
 same-length : tie.Need-same-length
 same-length c = search needs
 
 returns : tie.Need-returns
 unfolding rows-of
-returns c = let s = c .before .before .before .before .before .before .before .before .before .before .before .before .before .before .before .before .before .before .before in
-    c .before .before .hint-place .ensures ∙ thread-moved (s .args .m .now) _ _ _ (s .args .from) (s .args .to) (s .pre .1) (s .pre .2) (omega arith) (c .before .before .before .before .before .before .before .before .before .before .before .before .before .before .before .before .copy-four .ensures) (c .before .before .before .before .before .before .before .before .before .before .before .before .copy-four2 .ensures) (c .before .before .before .before .before .before .before .before .copy-four3 .ensures)
+returns c =
+    let s = c .before .before .before .before .before .before .before .before .before .before .before .before .before .before .before
+    .before .before .before .before in
+    c .before .before .hint-place .ensures ∙ thread-moved (s .args .m .now) _ _ _ (s .args .from) (s .args .to) (s .pre .1) (s .pre .2)
+    (omega arith)
+    (c .before .before .before .before .before .before .before .before .before .before .before .before .before .before .before .before
+    .copy-four .ensures)
+    (c .before .before .before .before .before .before .before .before .before .before .before .before .copy-four2 .ensures)
+    (c .before .before .before .before .before .before .before .before .copy-four3 .ensures)
 
 pub move-thread-spec : {M : Type 1} → statement M
 move-thread-spec =

@@ -28,7 +28,8 @@ same-length c = search needs
 
 returns : tie.Need-returns
 unfolding rows-of
-returns c = queue-put (c .args .m .now) (c .args .i) 13 (c .args .name) _ (c .pre .1) (omega arith) (byte-same (c .args .name) (search needs)) (omega arith) (omega arith)
+returns c = queue-put (c .args .m .now) (c .args .i) 13 (c .args .name) _ (c .pre .1) (omega arith)
+    (byte-same (c .args .name) (search needs)) (omega arith) (omega arith)
 
 pub put-clock-spec : {M : Type 1} → statement M
 put-clock-spec = tie.close (tie.spec mul-m add-m add-m-2 mul-m-2 slice-write-m same-length returns)

@@ -64,7 +64,8 @@ returns c = let s = c .before .before .before .before .before .before in
     let m = s .args .m .now in
     let a = message-place (word m 0) (s .args .i) in
     let vs : List ℕ = c .before .before .write-message .last .0 in
-    message-lent m (s .args .i) (s .pre .1) vs (s .args .x) (omega arith) (lent-size m a 3 vs (omega arith) (c .before .m .given .0)) (c .before .before .write-message .ensures)
+    message-lent m (s .args .i) (s .pre .1) vs (s .args .x) (omega arith) (lent-size m a 3 vs (omega arith) (c .before .m .given .0))
+    (c .before .before .write-message .ensures)
 
 pub put-message-spec : {M : Type 1} → statement M
 put-message-spec =

@@ -41,8 +41,12 @@ unfolding rows-of
 hint-place-requires c κs = let s = c .before .before .before .before .before .before in
     let m = s .args .m .now in
     let a = thread-place (s .args .i) in
-    let vs : List ℕ = c .before .before .before .write-thread .last .0 in
-    (still-roomy (thread-lent m (s .args .i) (s .pre .1) vs (s .args .t) (omega arith) (lent-size m a 11 vs (omega arith) (c .before .before .m .given .0)) (c .before .before .before .write-thread .ensures)) (s .pre .0), omega (arith, s .pre .0 .low, s .pre .1))
+    let vs : List ℕ = c .before .before .before .write-thread .last .0 in (
+      still-roomy (thread-lent m (s .args .i) (s .pre .1) vs (s .args .t) (omega arith)
+          (lent-size m a 11 vs (omega arith) (c .before .before .m .given .0)) (c .before .before .before .write-thread .ensures))
+          (s .pre .0),
+      omega (arith, s .pre .0 .low, s .pre .1),
+    )
 
 same-length : tie.Need-same-length
 same-length c = search needs
@@ -53,7 +57,10 @@ returns c = let s = c .before .before .before .before .before .before .before .b
     let m = s .args .m .now in
     let a = thread-place (s .args .i) in
     let vs : List ℕ = c .before .before .before .before .before .before .write-thread .last .0 in
-    c .before .before .hint-place .ensures ∙ thread-lent m (s .args .i) (s .pre .1) vs (s .args .t) (omega arith) (lent-size m a 11 vs (omega arith) (c .before .before .before .before .before .m .given .0)) (c .before .before .before .before .before .before .write-thread .ensures)
+    c .before .before .hint-place .ensures
+    ∙ thread-lent m (s .args .i) (s .pre .1) vs (s .args .t) (omega arith)
+    (lent-size m a 11 vs (omega arith) (c .before .before .before .before .before .m .given .0))
+    (c .before .before .before .before .before .before .write-thread .ensures)
 
 pub put-thread-spec : {M : Type 1} → statement M
 put-thread-spec =

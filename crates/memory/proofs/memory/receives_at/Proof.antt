@@ -41,7 +41,8 @@ receives-requires c κs = search needs
 returns : tie.Need-returns
 unfolding rows-of
 returns c = let s = c .before .before .before .before in
-    c .receives .ensures ∙ ap (λ (t : Thread). receives (s .args .sender) (t .state)) (sym (thread-entry (s .args .m .now) (s .args .i) (s .pre .1)))
+    c .receives .ensures ∙ ap (λ (t : Thread). receives (s .args .sender) (t .state))
+    (sym (thread-entry (s .args .m .now) (s .args .i) (s .pre .1)))
 
 pub receives-at-spec : {M : Type 1} → statement M
 receives-at-spec =

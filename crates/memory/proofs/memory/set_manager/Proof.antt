@@ -38,8 +38,10 @@ same-length c = search needs
 returns : tie.Need-returns
 unfolding rows-of
 returns c = let s = c .before .before .before in
-    ap (λ (x : ℕ). rows-of (set (s .args .m .now) (thread-place (s .args .i) + x) (c .manager-word2 .result))) (c .before .manager-word .ensures)
-    ∙ manager-store (s .args .m .now) (s .args .i) (s .pre .1) (s .args .k) (s .args .g) (c .manager-word2 .result) (omega arith) (c .manager-word2 .ensures)
+    ap (λ (x : ℕ). rows-of (set (s .args .m .now) (thread-place (s .args .i) + x) (c .manager-word2 .result)))
+    (c .before .manager-word .ensures)
+    ∙ manager-store (s .args .m .now) (s .args .i) (s .pre .1) (s .args .k) (s .args .g) (c .manager-word2 .result) (omega arith)
+    (c .manager-word2 .ensures)
 
 pub set-manager-spec : {M : Type 1} → statement M
 set-manager-spec =

@@ -24,7 +24,8 @@ same-length c = search needs
 returns : tie.Need-returns
 unfolding rows-of
 returns c = let s = c .before .before in
-    runner-put (s .args .m .now) (c .runner-words .result .name) (c .runner-words .result .slice) (s .args .r) (omega arith) (c .runner-words .ensures)
+    runner-put (s .args .m .now) (c .runner-words .result .name) (c .runner-words .result .slice) (s .args .r) (omega arith)
+    (c .runner-words .ensures)
 
 pub set-runner-spec : {M : Type 1} → statement M
 set-runner-spec =

@@ -29,7 +29,8 @@ same-length c = search needs
 
 returns : tie.Need-returns
 unfolding rows-of
-returns c = thread-store (c .args .m .now) (c .args .i) (c .pre .1) 7 (c .args .n) (with-ticks (c .args .n)) (omega arith) (omega arith) (omega arith) refl
+returns c = thread-store (c .args .m .now) (c .args .i) (c .pre .1) 7 (c .args .n) (with-ticks (c .args .n)) (omega arith) (omega arith)
+    (omega arith) refl
 
 pub set-ticks-spec : {M : Type 1} → statement M
 set-ticks-spec = tie.close (tie.spec mul-m add-m add-m-2 mul-m-2 slice-write-m same-length returns)

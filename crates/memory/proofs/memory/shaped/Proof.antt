@@ -68,7 +68,11 @@ shared-slice-read-result c = search needs
 
 returns-7 : tie.Need-returns-7
 unfolding shaped
-returns-7 c = passes _ (le-leb _ _ (c .before .before .before .before .before .before .before .before .before .before .before .if1 .left)) (passes _ (eq-eqb _ _ (c .before .before .before .before .before .before .before .before .before .if2 .left)) (passes _ (eq-eqb _ _ (c .before .before .before .before .before .before .before .if3 .left)) (passes _ (le-leb _ _ (c .before .before .before .before .before .if4 .left)) (passes _ (le-leb _ _ (c .before .before .before .if5 .left)) (passes _ (le-leb _ _ (c .before .if6 .left)) (ends _))))))
+returns-7 c = passes _ (le-leb _ _ (c .before .before .before .before .before .before .before .before .before .before .before .if1 .left))
+    (passes _ (eq-eqb _ _ (c .before .before .before .before .before .before .before .before .before .if2 .left))
+    (passes _ (eq-eqb _ _ (c .before .before .before .before .before .before .before .if3 .left))
+    (passes _ (le-leb _ _ (c .before .before .before .before .before .if4 .left))
+    (passes _ (le-leb _ _ (c .before .before .before .if5 .left)) (passes _ (le-leb _ _ (c .before .if6 .left)) (ends _))))))
 
 pub shaped-spec : {M : Type 1} → statement M
 shaped-spec =

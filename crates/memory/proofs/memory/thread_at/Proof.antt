@@ -37,7 +37,8 @@ read-thread-requires c κs = search needs
 returns : tie.Need-returns
 unfolding rows-of
 returns c = let s = c .before .before .before in
-    c .read-thread .ensures ∙ ap thread-in (lent-is (s .args .m .now) (thread-place (s .args .i)) 11) ∙ sym (row-at (thread-of (s .args .m .now)) _ (s .args .i) _ (s .pre .1))
+    c .read-thread .ensures ∙ ap thread-in (lent-is (s .args .m .now) (thread-place (s .args .i)) 11)
+    ∙ sym (row-at (thread-of (s .args .m .now)) _ (s .args .i) _ (s .pre .1))
 
 pub thread-at-spec : {M : Type 1} → statement M
 thread-at-spec =

@@ -34,8 +34,11 @@ part-result-end c = omega arith
 
 returns : tie.Need-returns
 unfolding rows-of
-returns c = let s = c .before in
-    (simp (length-take, length-drop) (omega arith), ap thread-in (lent-is (s .args .m .now) (thread-place (s .args .i)) 11) ∙ sym (row-at (thread-of (s .args .m .now)) _ (s .args .i) _ (s .pre .1)))
+returns c = let s = c .before in (
+  simp (length-take, length-drop) (omega arith),
+  ap thread-in (lent-is (s .args .m .now) (thread-place (s .args .i)) 11)
+      ∙ sym (row-at (thread-of (s .args .m .now)) _ (s .args .i) _ (s .pre .1)),
+)
 
 pub thread-words-spec : {M : Type 1} → statement M
 thread-words-spec = tie.close (tie.spec mul-at add-at add-result mul-result sub-result part-result-start part-result-end returns)

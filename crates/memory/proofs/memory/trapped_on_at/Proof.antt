@@ -40,7 +40,8 @@ returns : tie.Need-returns
 unfolding rows-of
 returns c = let s = c .before .before .before in
     c .awaits .ensures
-    ∙ ap (λ (t : Thread). awaits (s .args .n) t) (ap thread-in (lent-is (s .args .m .now) (thread-place (s .args .i)) 11) ∙ sym (row-at (thread-of (s .args .m .now)) _ (s .args .i) _ (s .pre .1)))
+    ∙ ap (λ (t : Thread). awaits (s .args .n) t) (ap thread-in (lent-is (s .args .m .now) (thread-place (s .args .i)) 11)
+    ∙ sym (row-at (thread-of (s .args .m .now)) _ (s .args .i) _ (s .pre .1)))
 
 pub trapped-on-at-spec : {M : Type 1} → statement M
 trapped-on-at-spec =

@@ -50,7 +50,9 @@ returns c = let s = c .before .before .before .before .before in
     let a = thread-place (s .args .i) in
     let vs : List ℕ = c .before .before .turn-thread .last .0 in
     thread-lent m (s .args .i) (s .pre .1) vs _ (omega arith) (lent-size m a 11 vs (omega arith) (c .before .m .given .0))
-    (c .before .before .turn-thread .ensures ∙ ap (in-state (s .args .s) (s .args .a)) (ap thread-in (lent-is m a 11) ∙ sym (row-at (thread-of m) _ (s .args .i) no-thread (s .pre .1))))
+    (c .before .before .turn-thread .ensures
+    ∙ ap (in-state (s .args .s) (s .args .a)) (ap thread-in (lent-is m a 11)
+    ∙ sym (row-at (thread-of m) _ (s .args .i) no-thread (s .pre .1))))
 
 pub turn-spec : {M : Type 1} → statement M
 turn-spec =

@@ -41,7 +41,8 @@ wakes-from-outside-requires c κs = search needs
 returns : tie.Need-returns
 unfolding rows-of
 returns c = let s = c .before .before .before .before in
-    c .wakes-from-outside .ensures ∙ ap (λ (t : Thread). wakes-from-outside (t .state)) (sym (thread-entry (s .args .m .now) (s .args .i) (s .pre .1)))
+    c .wakes-from-outside .ensures
+    ∙ ap (λ (t : Thread). wakes-from-outside (t .state)) (sym (thread-entry (s .args .m .now) (s .args .i) (s .pre .1)))
 
 pub wakes-at-spec : {M : Type 1} → statement M
 wakes-at-spec =

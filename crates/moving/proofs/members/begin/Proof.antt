@@ -17,13 +17,23 @@ put-ended-requires : tie.Need-put-ended-requires
 put-ended-requires c κs = search needs
 
 set-ends-requires : tie.Need-set-ends-requires
-set-ends-requires c κs = (by Roomy (c .before .before .before .put-ended .ensures) (c .before .before .before .before .before .before .before .before .pre .0), omega arith)
+set-ends-requires c κs = (
+  by Roomy (c .before .before .before .put-ended .ensures)
+      (c .before .before .before .before .before .before .before .before .pre .0),
+  omega arith,
+)
 
 same-length : tie.Need-same-length
 same-length c = search needs
 
 returns : tie.Need-returns
-returns c = (begun (ended-long (c .before .before .before .before .before .before .before .before .before .before .before .args .m .now)) (c .before .before .before .before .before .before .before .before .before .before .before .pre .1) (c .before .before .before .before .before .before .put-ended .ensures) (c .before .before .set-ends .ensures), c .before .before .before .before .before .before .before .before .mark .ensures [] refl (c .before .before .before .before .before .before .before .before .before .before .before .pre .2))
+returns c = (
+  begun (ended-long (c .before .before .before .before .before .before .before .before .before .before .before .args .m .now))
+      (c .before .before .before .before .before .before .before .before .before .before .before .pre .1)
+      (c .before .before .before .before .before .before .put-ended .ensures) (c .before .before .set-ends .ensures),
+  c .before .before .before .before .before .before .before .before .mark .ensures [] refl
+      (c .before .before .before .before .before .before .before .before .before .before .before .pre .2),
+)
 
 pub begin-spec : {M : Type 1} → statement M
 begin-spec = tie.close (tie.spec mark-requires put-ended-requires set-ends-requires same-length returns)

@@ -14,7 +14,8 @@ wide-requires : tie.Need-wide-requires
 wide-requires c κs = search needs
 
 returns : tie.Need-returns
-returns c = λ xs M. ap (λ (k : ℕ). ltb k (c .before .before .args .n)) (c .wide .ensures) ∙ M .told (c .before .before .args .name) (c .before .before .args .n) (omega arith) (c .before .before .pre)
+returns c = λ xs M. ap (λ (k : ℕ). ltb k (c .before .before .args .n)) (c .wide .ensures)
+    ∙ M .told (c .before .before .args .name) (c .before .before .args .n) (omega arith) (c .before .before .pre)
 
 pub has-spec : {M : Type 1} → statement M
 has-spec = tie.close (tie.spec element-copy-out-wide wide-requires returns)

@@ -18,7 +18,11 @@ has-requires : tie.Need-has-requires
 has-requires c κs = omega (arith, c .before .before .pre .0 .low, c .before .before .pre .1, c .ends .ensures)
 
 returns : tie.Need-returns
-returns c = c .has .ensures (members (rows-of (c .before .before .before .args .m .now))) (c .before .before .before .pre .2) ∙ (ap (λ (k : ℕ). has-in (c .before .before .before .args .name) (take k (members (rows-of (c .before .before .before .args .m .now))))) (c .before .ends .ensures) ∙ ap (has-in (c .before .before .before .args .name)) (take-take (rows-of (c .before .before .before .args .m .now) .ends) (rows-of (c .before .before .before .args .m .now) .ends) (rows-of (c .before .before .before .args .m .now) .ended) (omega arith)))
+returns c = c .has .ensures (members (rows-of (c .before .before .before .args .m .now))) (c .before .before .before .pre .2)
+    ∙ (ap (λ (k : ℕ). has-in (c .before .before .before .args .name) (take k (members (rows-of (c .before .before .before .args .m .now)))))
+    (c .before .ends .ensures) ∙ ap (has-in (c .before .before .before .args .name))
+    (take-take (rows-of (c .before .before .before .args .m .now) .ends) (rows-of (c .before .before .before .args .m .now) .ends)
+    (rows-of (c .before .before .before .args .m .now) .ended) (omega arith)))
 
 pub is-member-spec : {M : Type 1} → statement M
 is-member-spec = tie.close (tie.spec ends-requires has-requires returns)

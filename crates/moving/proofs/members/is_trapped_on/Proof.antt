@@ -58,7 +58,15 @@ returns-5 c = rw (sym (c .before .before .state-at .ensures) ∙ c .enum-told5 .
 
 returns-6 : tie.Need-returns-6
 unfolding trapped-on
-returns-6 c = rw (sym (c .before .before .before .before .before .state-at .ensures) ∙ c .before .before .before .s .given .1, ← c .before .manager-at .ensures) (c .is-managed .ensures (members (rows-of (c .before .before .before .before .before .before .before .args .m .now))) (c .before .before .before .before .before .before .before .pre .3) ∙ sym (managed (take (c .before .before .before .before .before .before .before .args .n) (members (rows-of (c .before .before .before .before .before .before .before .args .m .now)))) (c .before .manager-at .result)))
+returns-6 c = rw (
+  sym (c .before .before .before .before .before .state-at .ensures)
+      ∙ c .before .before .before .s .given .1,
+  ← c .before .manager-at .ensures,
+) (c .is-managed .ensures (members (rows-of (c .before .before .before .before .before .before .before .args .m .now)))
+    (c .before .before .before .before .before .before .before .pre .3)
+    ∙ sym (managed (take (c .before .before .before .before .before .before .before .args .n)
+    (members (rows-of (c .before .before .before .before .before .before .before .args .m .now)))) (c .before .manager-at .result)))
 
 pub is-trapped-on-spec : {M : Type 1} → statement M
-is-trapped-on-spec = tie.close (tie.spec state-at-requires enum-told enum-told-2 enum-told-3 enum-told-4 enum-told-5 enum-known-s manager-at-requires is-managed-requires returns returns-2 returns-3 returns-4 returns-5 returns-6)
+is-trapped-on-spec = tie.close (tie.spec state-at-requires enum-told enum-told-2 enum-told-3 enum-told-4 enum-told-5 enum-known-s
+    manager-at-requires is-managed-requires returns returns-2 returns-3 returns-4 returns-5 returns-6)

@@ -10,7 +10,8 @@ has-requires : tie.Need-has-requires
 has-requires c κs = omega arith
 
 returns : tie.Need-returns
-returns c = λ xs l M. marked-stays xs _ _ (omega (arith, l, c .before .before .before .pre)) (omega arith) M (marked xs _ _ (omega (arith, l, c .before .before .before .pre)) (omega arith) M _ (c .before .has .ensures xs M) ∙ c .if1 .taken)
+returns c = λ xs l M. marked-stays xs _ _ (omega (arith, l, c .before .before .before .pre)) (omega arith) M
+    (marked xs _ _ (omega (arith, l, c .before .before .before .pre)) (omega arith) M _ (c .before .has .ensures xs M) ∙ c .if1 .taken)
 
 cast-marks : tie.Need-cast-marks
 cast-marks c = omega (arith, c .before .before .before .pre)
@@ -19,7 +20,8 @@ element-write-marks : tie.Need-element-write-marks
 element-write-marks c = search needs
 
 returns-2 : tie.Need-returns-2
-returns-2 c = λ xs l M. marked-at xs _ _ (omega (arith, l, c .before .before .before .pre)) (omega arith) M _ l (marked xs _ _ (omega (arith, l, c .before .before .before .pre)) (omega arith) M _ (c .before .has .ensures xs M) ∙ c .if1 .left)
+returns-2 c = λ xs l M. marked-at xs _ _ (omega (arith, l, c .before .before .before .pre)) (omega arith) M _ l
+    (marked xs _ _ (omega (arith, l, c .before .before .before .pre)) (omega arith) M _ (c .before .has .ensures xs M) ∙ c .if1 .left)
 
 pub mark-spec : {M : Type 1} → statement M
 mark-spec = tie.close (tie.spec has-requires returns cast-marks element-write-marks returns-2)

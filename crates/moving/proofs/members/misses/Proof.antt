@@ -60,4 +60,5 @@ unfolding misses
 returns-7 c = search needs
 
 pub misses-spec : {M : Type 1} → statement M
-misses-spec = tie.close (tie.spec enum-told enum-told-2 enum-known-s enum-told-3 enum-known-w is-member-requires enum-told-4 enum-told-5 enum-told-6 returns returns-2 returns-3 returns-4 returns-5 returns-6 returns-7)
+misses-spec = tie.close (tie.spec enum-told enum-told-2 enum-known-s enum-told-3 enum-known-w is-member-requires enum-told-4 enum-told-5
+    enum-told-6 returns returns-2 returns-3 returns-4 returns-5 returns-6 returns-7)

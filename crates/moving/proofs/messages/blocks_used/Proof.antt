@@ -21,10 +21,14 @@ letters-requires : tie.Need-letters-requires Inv-loop μ-loop
 letters-requires c κs = search needs
 
 loop-holds : tie.Need-loop-holds Inv-loop μ-loop
-loop-holds c = count-starts _ _ _ (omega (arith, c .letters .ensures, c .before .before .pre .1, messages-long (c .before .before .args .m .now)))
+loop-holds c =
+    count-starts _ _ _ (omega (arith, c .letters .ensures, c .before .before .pre .1, messages-long (c .before .before .args .m .now)))
 
 kind-at-requires : tie.Need-kind-at-requires Inv-loop μ-loop
-kind-at-requires c κs = (c .before .before .before .before .pre .0, omega (arith, c .loop-test .taken, c .before .before .letters .ensures, c .before .before .before .before .pre .1))
+kind-at-requires c κs = (
+  c .before .before .before .before .pre .0,
+  omega (arith, c .loop-test .taken, c .before .before .letters .ensures, c .before .before .before .before .pre .1),
+)
 
 is-ordinary-requires : tie.Need-is-ordinary-requires Inv-loop μ-loop
 is-ordinary-requires c κs = search needs
@@ -39,7 +43,8 @@ loop-less : tie.Need-loop-less Inv-loop μ-loop
 loop-less c = omega arith
 
 loop-again : tie.Need-loop-again Inv-loop μ-loop
-loop-again c = count-more _ _ _ _ _ no-message (c .before .before .before .before .loop .inv) (c .before .before .before .loop-test .taken) (rw (← c .before .before .kind-at .ensures, ← c .before .is-ordinary .ensures) (c .if1 .taken))
+loop-again c = count-more _ _ _ _ _ no-message (c .before .before .before .before .loop .inv) (c .before .before .before .loop-test .taken)
+    (rw (← c .before .before .kind-at .ensures, ← c .before .is-ordinary .ensures) (c .if1 .taken))
 
 add-i-2 : tie.Need-add-i-2 Inv-loop μ-loop
 add-i-2 c = omega arith
@@ -48,7 +53,9 @@ loop-less-2 : tie.Need-loop-less-2 Inv-loop μ-loop
 loop-less-2 c = omega arith
 
 loop-again-2 : tie.Need-loop-again-2 Inv-loop μ-loop
-loop-again-2 c = count-skips _ _ _ _ _ no-message (c .before .before .before .before .loop .inv) (c .before .before .before .loop-test .taken) (rw (← c .before .before .kind-at .ensures, ← c .before .is-ordinary .ensures) (c .if1 .left))
+loop-again-2 c = count-skips _ _ _ _ _ no-message (c .before .before .before .before .loop .inv)
+    (c .before .before .before .loop-test .taken)
+    (rw (← c .before .before .kind-at .ensures, ← c .before .is-ordinary .ensures) (c .if1 .left))
 
 returns : tie.Need-returns Inv-loop μ-loop
 returns c = rw (← c .before .before .letters .ensures) (count-ends _ _ _ _ _ (c .before .loop .inv) (c .loop-test .left))

@@ -1,4 +1,5 @@
--- `moving::messages::drop_notice` meets its contract. The loop: what is kept, and of the rest what is to be kept, are all that is to be kept.
+-- `moving::messages::drop_notice` meets its contract. The loop: what is kept, and of the rest what is to be kept, are all that is to be
+-- kept.
 use Prim.Native.Nat.{_-_}
 use mathlib.Core.Path.{refl, ap, _∙_}
 use native.Mathlib.Omega.{arith}
@@ -22,10 +23,24 @@ letters-requires : tie.Need-letters-requires Inv-loop μ-loop
 letters-requires c κs = search needs
 
 loop-holds : tie.Need-loop-holds Inv-loop μ-loop
-loop-holds c = begins the-messages (sift-starts _ _ _ _ (omega (arith, messages-long (c .before .before .before .args .m .now), c .letters .ensures, c .before .before .before .pre .1)))
+loop-holds c = begins the-messages
+    (sift-starts _ _ _ _ (omega (
+      arith,
+      messages-long (c .before .before .before .args .m .now),
+      c .letters .ensures,
+      c .before .before .before .pre .1,
+    )))
 
 is-notice-of-requires : tie.Need-is-notice-of-requires Inv-loop μ-loop
-is-notice-of-requires c κs = by (Among _) (c .before .before .loop .inv .only) (c .before .before .before .before .before .before .pre .0, omega (arith, c .before .before .before .before .before .before .pre .1, c .before .before .before .letters .ensures, c .before .loop-test .taken))
+is-notice-of-requires c κs = by (Among _) (c .before .before .loop .inv .only) (
+  c .before .before .before .before .before .before .pre .0,
+  omega (
+    arith,
+    c .before .before .before .before .before .before .pre .1,
+    c .before .before .before .letters .ensures,
+    c .before .loop-test .taken,
+  ),
+)
 
 add-i : tie.Need-add-i Inv-loop μ-loop
 add-i c = omega arith
@@ -34,14 +49,35 @@ loop-less : tie.Need-loop-less Inv-loop μ-loop
 loop-less c = omega arith
 
 loop-again : tie.Need-loop-again Inv-loop μ-loop
-loop-again c = keep-drops the-messages no-message (notice-of (c .before .before .before .before .before .before .before .before .args .name)) (c .before .before .before .before .loop .inv) (c .before .before .before .loop-test .taken) refl (c .before .is-notice-of .ensures) (c .if1 .taken)
+loop-again c = keep-drops the-messages no-message
+    (notice-of (c .before .before .before .before .before .before .before .before .args .name))
+    (c .before .before .before .before .loop .inv) (c .before .before .before .loop-test .taken) refl (c .before .is-notice-of .ensures)
+    (c .if1 .taken)
 
 move-message-requires : tie.Need-move-message-requires Inv-loop μ-loop
-move-message-requires c κs = by (BothAmong _ _) (c .before .before .before .before .before .loop .inv .only)
-    (c .before .before .before .before .before .before .before .before .before .pre .0, omega (arith, c .before .before .before .before .before .before .before .before .before .pre .1, c .before .before .before .before .before .before .letters .ensures, c .before .before .before .before .loop-test .taken), omega (arith, c .before .before .before .before .before .before .before .before .before .pre .1, c .before .before .before .before .before .before .letters .ensures, c .before .before .before .before .loop-test .taken, c .before .before .before .before .before .loop .inv .so .behind))
+move-message-requires c κs = by (BothAmong _ _) (c .before .before .before .before .before .loop .inv .only) (
+  c .before .before .before .before .before .before .before .before .before .pre .0,
+  omega (
+    arith,
+    c .before .before .before .before .before .before .before .before .before .pre .1,
+    c .before .before .before .before .before .before .letters .ensures,
+    c .before .before .before .before .loop-test .taken,
+  ),
+  omega (
+    arith,
+    c .before .before .before .before .before .before .before .before .before .pre .1,
+    c .before .before .before .before .before .before .letters .ensures,
+    c .before .before .before .before .loop-test .taken,
+    c .before .before .before .before .before .loop .inv .so .behind,
+  ),
+)
 
 add-k : tie.Need-add-k Inv-loop μ-loop
-add-k c = omega (arith, c .before .before .before .before .before .before .before .before .loop .inv .so .behind, c .before .before .before .before .before .before .before .loop-test .taken)
+add-k c = omega (
+  arith,
+  c .before .before .before .before .before .before .before .before .loop .inv .so .behind,
+  c .before .before .before .before .before .before .before .loop-test .taken,
+)
 
 add-i-2 : tie.Need-add-i-2 Inv-loop μ-loop
 add-i-2 c = omega arith
@@ -50,16 +86,43 @@ loop-less-2 : tie.Need-loop-less-2 Inv-loop μ-loop
 loop-less-2 c = omega arith
 
 loop-again-2 : tie.Need-loop-again-2 Inv-loop μ-loop
-loop-again-2 c = keep-holds the-messages no-message (notice-of (c .before .before .before .before .before .before .before .before .before .before .before .before .args .name)) (c .before .before .before .before .before .before .before .before .loop .inv) (c .before .before .before .before .before .before .before .loop-test .taken) refl (c .before .before .before .before .before .is-notice-of .ensures) (c .before .before .before .before .if1 .left) (c .before .before .move-message .ensures)
+loop-again-2 c = keep-holds the-messages no-message
+    (notice-of (c .before .before .before .before .before .before .before .before .before .before .before .before .args .name))
+    (c .before .before .before .before .before .before .before .before .loop .inv)
+    (c .before .before .before .before .before .before .before .loop-test .taken) refl
+    (c .before .before .before .before .before .is-notice-of .ensures) (c .before .before .before .before .if1 .left)
+    (c .before .before .move-message .ensures)
 
 set-letters-requires : tie.Need-set-letters-requires Inv-loop μ-loop
-set-letters-requires c κs = (by Roomy (c .before .before .loop .inv .only) (c .before .before .before .before .before .before .pre .0), omega (arith, c .before .before .before .before .before .before .pre .0 .low, c .before .before .before .before .before .before .pre .0 .few, c .before .before .before .before .before .before .pre .1, c .before .before .before .letters .ensures, c .before .before .loop .inv .so .behind, c .before .before .loop .inv .so .left .within))
+set-letters-requires c κs = (
+  by Roomy (c .before .before .loop .inv .only) (c .before .before .before .before .before .before .pre .0),
+  omega (
+    arith,
+    c .before .before .before .before .before .before .pre .0 .low,
+    c .before .before .before .before .before .before .pre .0 .few,
+    c .before .before .before .before .before .before .pre .1,
+    c .before .before .before .letters .ensures,
+    c .before .before .loop .inv .so .behind,
+    c .before .before .loop .inv .so .left .within,
+  ),
+)
 
 same-length : tie.Need-same-length Inv-loop μ-loop
-same-length c = same-room (c .before .before .before .before .before .before .before .before .before .args .m .now) _ (ap (λ (r : Rows). r .room) (c .before .before .set-letters .ensures) ∙ ap (λ (r : Rows). r .room) (c .before .before .before .before .before .loop .inv .only))
+same-length c = same-room (c .before .before .before .before .before .before .before .before .before .args .m .now) _
+    (ap (λ (r : Rows). r .room) (c .before .before .set-letters .ensures)
+    ∙ ap (λ (r : Rows). r .room) (c .before .before .before .before .before .loop .inv .only))
 
 returns : tie.Need-returns Inv-loop μ-loop
-returns c = messages-are _ (c .before .before .before .before .before .loop .inv .only) (c .before .before .set-letters .ensures) (rw (← c .before .before .before .before .before .before .letters .ensures) (keep-ends _ _ _ _ _ _ (c .before .before .before .before .before .loop .inv .so) (c .before .before .before .before .loop-test .left))) (omega (arith, c .before .before .before .before .before .before .before .before .before .pre .1, c .before .before .before .before .before .before .letters .ensures, c .before .before .before .before .before .loop .inv .so .behind, c .before .before .before .before .before .loop .inv .so .left .within))
+returns c = messages-are _ (c .before .before .before .before .before .loop .inv .only) (c .before .before .set-letters .ensures)
+    (rw (← c .before .before .before .before .before .before .letters .ensures)
+    (keep-ends _ _ _ _ _ _ (c .before .before .before .before .before .loop .inv .so) (c .before .before .before .before .loop-test .left)))
+    (omega (
+      arith,
+      c .before .before .before .before .before .before .before .before .before .pre .1,
+      c .before .before .before .before .before .before .letters .ensures,
+      c .before .before .before .before .before .loop .inv .so .behind,
+      c .before .before .before .before .before .loop .inv .so .left .within,
+    ))
 
 pub drop-notice-spec : {M : Type 1} → statement M
 drop-notice-spec =

@@ -17,7 +17,12 @@ returns : tie.Need-returns
 returns c = rw (← c .before .before .kind-at .ensures, sym (c .before .is-ordinary .ensures) ∙ c .if1 .taken)
 
 returns-2 : tie.Need-returns-2
-returns-2 c = rw (← c .before .before .before .kind-at .ensures, sym (c .before .before .is-ordinary .ensures) ∙ c .before .if1 .left, ← c .sender-at .ensures)
+returns-2 c = rw (
+  ← c .before .before .before .kind-at .ensures,
+  sym (c .before .before .is-ordinary .ensures)
+      ∙ c .before .if1 .left,
+  ← c .sender-at .ensures,
+)
 
 pub is-notice-of-spec : {M : Type 1} → statement M
 is-notice-of-spec =

@@ -14,7 +14,11 @@ matches-requires : tie.Need-matches-requires
 matches-requires c κs = search needs
 
 returns : tie.Need-returns
-returns c = rw (← c .before .sender-at .ensures, ← c .before .before .before .receiver-at .ensures, eq-eqb _ _ (c .before .before .if1 .taken)) (c .matches .ensures)
+returns c = rw (
+  ← c .before .sender-at .ensures,
+  ← c .before .before .before .receiver-at .ensures,
+  eq-eqb _ _ (c .before .before .if1 .taken),
+) (c .matches .ensures)
 
 returns-2 : tie.Need-returns-2
 returns-2 c = rw (← c .before .receiver-at .ensures, ne-eqb _ _ (c .if1 .left))

@@ -21,13 +21,19 @@ letters-requires : tie.Need-letters-requires Inv-loop μ-loop
 letters-requires c κs = search needs
 
 loop-holds : tie.Need-loop-holds Inv-loop μ-loop
-loop-holds c = seek-starts _ _ _ (omega (arith, c .letters .ensures, c .before .before .pre .1, messages-long (c .before .before .args .m .now)))
+loop-holds c =
+    seek-starts _ _ _ (omega (arith, c .letters .ensures, c .before .before .pre .1, messages-long (c .before .before .args .m .now)))
 
 is-wanted-requires : tie.Need-is-wanted-requires Inv-loop μ-loop
-is-wanted-requires c κs = (c .before .before .before .before .pre .0, omega (arith, c .loop-test .taken, c .before .before .letters .ensures, c .before .before .before .before .pre .1))
+is-wanted-requires c κs = (
+  c .before .before .before .before .pre .0,
+  omega (arith, c .loop-test .taken, c .before .before .letters .ensures, c .before .before .before .before .pre .1),
+)
 
 returns : tie.Need-returns Inv-loop μ-loop
-returns c = rw (← c .before .before .before .before .letters .ensures) (seek-finds _ _ _ _ no-message (c .before .before .before .loop .inv) (c .before .before .loop-test .taken) (sym (c .before .is-wanted .ensures) ∙ c .if1 .taken))
+returns c = rw (← c .before .before .before .before .letters .ensures)
+    (seek-finds _ _ _ _ no-message (c .before .before .before .loop .inv) (c .before .before .loop-test .taken)
+    (sym (c .before .is-wanted .ensures) ∙ c .if1 .taken))
 
 add-i : tie.Need-add-i Inv-loop μ-loop
 add-i c = omega arith
@@ -36,7 +42,8 @@ loop-less : tie.Need-loop-less Inv-loop μ-loop
 loop-less c = omega arith
 
 loop-again : tie.Need-loop-again Inv-loop μ-loop
-loop-again c = seek-next _ _ _ _ no-message (c .before .before .before .loop .inv) (c .before .before .loop-test .taken) (sym (c .before .is-wanted .ensures) ∙ c .if1 .left)
+loop-again c = seek-next _ _ _ _ no-message (c .before .before .before .loop .inv) (c .before .before .loop-test .taken)
+    (sym (c .before .is-wanted .ensures) ∙ c .if1 .left)
 
 returns-2 : tie.Need-returns-2 Inv-loop μ-loop
 returns-2 c = rw (← c .before .before .letters .ensures) (seek-ends _ _ _ _ (c .before .loop .inv) (c .loop-test .left))

@@ -17,7 +17,9 @@ is-at-requires c κs = search needs
 
 returns : tie.Need-returns
 returns c = let here = c .before .is-at .ensures (c .if1 .taken) in
-    hint-place (named (c .before .before .before .before .args .name)) _ _ _ no-thread (omega (arith, threads-long (c .before .before .before .before .args .m .now), c .before .before .before .before .pre .1)) (here .0) (eq-eqb _ _ (here .1)) (c .before .before .before .before .pre .2)
+    hint-place (named (c .before .before .before .before .args .name)) _ _ _ no-thread
+    (omega (arith, threads-long (c .before .before .before .before .args .m .now), c .before .before .before .before .pre .1)) (here .0)
+    (eq-eqb _ _ (here .1)) (c .before .before .before .before .pre .2)
 
 walk-requires : tie.Need-walk-requires
 walk-requires c κs = search needs

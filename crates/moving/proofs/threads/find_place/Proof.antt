@@ -43,7 +43,8 @@ loop-less c = omega arith
 loop-again : tie.Need-loop-again Inv-loop μ-loop
 loop-again c =
     let s = c .before .before .before .before .before .before in
-    above _ _ _ (omega (arith, s .pre .1, threads-long (s .args .m .now))) _ _ _ no-thread (c .before .before .before .loop .inv) (omega (arith, c .before .before .loop-test .taken)) (s .pre .2) (omega (arith, c .if1 .taken, c .before .name-at .ensures))
+    above _ _ _ (omega (arith, s .pre .1, threads-long (s .args .m .now))) _ _ _ no-thread (c .before .before .before .loop .inv)
+    (omega (arith, c .before .before .loop-test .taken)) (s .pre .2) (omega (arith, c .if1 .taken, c .before .name-at .ensures))
 
 loop-less-2 : tie.Need-loop-less-2 Inv-loop μ-loop
 loop-less-2 c = omega arith
@@ -51,7 +52,8 @@ loop-less-2 c = omega arith
 loop-again-2 : tie.Need-loop-again-2 Inv-loop μ-loop
 loop-again-2 c =
     let s = c .before .before .before .before .before .before in
-    not-above _ _ _ (omega (arith, s .pre .1, threads-long (s .args .m .now))) _ _ _ no-thread (c .before .before .before .loop .inv) (omega (arith, c .before .before .loop-test .taken)) (omega (arith, c .if1 .left, c .before .name-at .ensures))
+    not-above _ _ _ (omega (arith, s .pre .1, threads-long (s .args .m .now))) _ _ _ no-thread (c .before .before .before .loop .inv)
+    (omega (arith, c .before .before .loop-test .taken)) (omega (arith, c .if1 .left, c .before .name-at .ensures))
 
 returns : tie.Need-returns Inv-loop μ-loop
 returns c = only-place _ _ _ _ _ (c .before .loop .inv) (c .loop-test .left)

@@ -22,7 +22,14 @@ wakes-at-requires c κs = search needs
 
 returns : tie.Need-returns
 returns c = let r = rows-of (c .before .before .before .before .before .before .args .m .now) in
-    sym (hint-any (λ (t : Thread). wakes-from-outside (t .state)) (r .count) (r .threads) (c .before .before .before .before .waiter-hint .result) no-thread (omega (arith, threads-long (c .before .before .before .before .before .before .args .m .now), c .before .before .before .before .before .before .pre .1)) (omega (arith, c .before .before .if1 .taken, c .before .before .before .count .ensures)) (sym (c .before .wakes-at .ensures) ∙ c .if2 .taken))
+    sym (hint-any (λ (t : Thread). wakes-from-outside (t .state)) (r .count) (r .threads)
+    (c .before .before .before .before .waiter-hint .result) no-thread
+    (omega (
+      arith,
+      threads-long (c .before .before .before .before .before .before .args .m .now),
+      c .before .before .before .before .before .before .pre .1,
+    )) (omega (arith, c .before .before .if1 .taken, c .before .before .before .count .ensures)) (sym (c .before .wakes-at .ensures)
+    ∙ c .if2 .taken))
 
 walk-wakes-requires : tie.Need-walk-wakes-requires
 walk-wakes-requires c κs = search needs

@@ -22,13 +22,19 @@ count-requires : tie.Need-count-requires Inv-loop μ-loop
 count-requires c κs = search needs
 
 loop-holds : tie.Need-loop-holds Inv-loop μ-loop
-loop-holds c = seek-starts _ _ _ (omega (arith, c .count .ensures, c .before .before .pre .1, threads-long (c .before .before .args .m .now)))
+loop-holds c =
+    seek-starts _ _ _ (omega (arith, c .count .ensures, c .before .before .pre .1, threads-long (c .before .before .args .m .now)))
 
 name-at-requires : tie.Need-name-at-requires Inv-loop μ-loop
-name-at-requires c κs = (c .before .before .before .before .pre .0, omega (arith, c .loop-test .taken, c .before .before .count .ensures, c .before .before .before .before .pre .1))
+name-at-requires c κs = (
+  c .before .before .before .before .pre .0,
+  omega (arith, c .loop-test .taken, c .before .before .count .ensures, c .before .before .before .before .pre .1),
+)
 
 returns : tie.Need-returns Inv-loop μ-loop
-returns c = rw (← c .before .before .before .before .count .ensures) (seek-finds _ _ _ _ no-thread (c .before .before .before .loop .inv) (c .before .before .loop-test .taken) (eq-eqb _ _ (c .if1 .taken ∙ c .before .name-at .ensures)))
+returns c = rw (← c .before .before .before .before .count .ensures)
+    (seek-finds _ _ _ _ no-thread (c .before .before .before .loop .inv) (c .before .before .loop-test .taken)
+    (eq-eqb _ _ (c .if1 .taken ∙ c .before .name-at .ensures)))
 
 add-i : tie.Need-add-i Inv-loop μ-loop
 add-i c = omega arith
@@ -37,7 +43,8 @@ loop-less : tie.Need-loop-less Inv-loop μ-loop
 loop-less c = omega arith
 
 loop-again : tie.Need-loop-again Inv-loop μ-loop
-loop-again c = seek-next _ _ _ _ no-thread (c .before .before .before .loop .inv) (c .before .before .loop-test .taken) (ne-eqb _ _ (λ e. c .if1 .left (e ∙ sym (c .before .name-at .ensures))))
+loop-again c = seek-next _ _ _ _ no-thread (c .before .before .before .loop .inv) (c .before .before .loop-test .taken)
+    (ne-eqb _ _ (λ e. c .if1 .left (e ∙ sym (c .before .name-at .ensures))))
 
 returns-2 : tie.Need-returns-2 Inv-loop μ-loop
 returns-2 c = rw (← c .before .before .count .ensures) (seek-ends _ _ _ _ (c .before .loop .inv) (c .loop-test .left))

@@ -22,13 +22,19 @@ count-requires : tie.Need-count-requires Inv-loop μ-loop
 count-requires c κs = search needs
 
 loop-holds : tie.Need-loop-holds Inv-loop μ-loop
-loop-holds c = any-starts _ _ _ (omega (arith, c .count .ensures, c .before .before .pre .1, threads-long (c .before .before .args .m .now)))
+loop-holds c =
+    any-starts _ _ _ (omega (arith, c .count .ensures, c .before .before .pre .1, threads-long (c .before .before .args .m .now)))
 
 wakes-at-requires : tie.Need-wakes-at-requires Inv-loop μ-loop
-wakes-at-requires c κs = (c .before .before .before .before .pre .0, omega (arith, c .loop-test .taken, c .before .before .count .ensures, c .before .before .before .before .pre .1))
+wakes-at-requires c κs = (
+  c .before .before .before .before .pre .0,
+  omega (arith, c .loop-test .taken, c .before .before .count .ensures, c .before .before .before .before .pre .1),
+)
 
 returns : tie.Need-returns Inv-loop μ-loop
-returns c = rw (← c .before .before .before .before .count .ensures) (any-finds _ _ _ _ no-thread (c .before .before .before .loop .inv) (c .before .before .loop-test .taken) (sym (c .before .wakes-at .ensures) ∙ c .if1 .taken))
+returns c = rw (← c .before .before .before .before .count .ensures)
+    (any-finds _ _ _ _ no-thread (c .before .before .before .loop .inv) (c .before .before .loop-test .taken)
+    (sym (c .before .wakes-at .ensures) ∙ c .if1 .taken))
 
 add-i : tie.Need-add-i Inv-loop μ-loop
 add-i c = omega arith
@@ -37,7 +43,8 @@ loop-less : tie.Need-loop-less Inv-loop μ-loop
 loop-less c = omega arith
 
 loop-again : tie.Need-loop-again Inv-loop μ-loop
-loop-again c = any-next _ _ _ _ no-thread (c .before .before .before .loop .inv) (c .before .before .loop-test .taken) (sym (c .before .wakes-at .ensures) ∙ c .if1 .left)
+loop-again c = any-next _ _ _ _ no-thread (c .before .before .before .loop .inv) (c .before .before .loop-test .taken)
+    (sym (c .before .wakes-at .ensures) ∙ c .if1 .left)
 
 returns-2 : tie.Need-returns-2 Inv-loop μ-loop
 returns-2 c = rw (← c .before .before .count .ensures) (any-ends _ _ _ _ (c .before .loop .inv) (c .loop-test .left))

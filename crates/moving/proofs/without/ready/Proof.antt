@@ -14,7 +14,8 @@ use Rattle.moving.proofs.without.ready.Statement.{statement}
 use Rattle.moving.proofs.without.ready.Tie as tie
 
 abbrev Inv-loop : tie.InvT-loop
-Inv-loop m₀ marks n k₀ i₀ m k i = Keeping the-ready (λ (x : ℕ). has-in x (members (rows-of m₀))) (rows-of m₀ .readies) (rows-of m₀) (rows-of m) k i × (n ≡ rows-of m₀ .readies)
+Inv-loop m₀ marks n k₀ i₀ m k i = Keeping the-ready (λ (x : ℕ). has-in x (members (rows-of m₀))) (rows-of m₀ .readies) (rows-of m₀)
+    (rows-of m) k i × (n ≡ rows-of m₀ .readies)
 
 abbrev μ-loop : tie.MeasureT-loop
 μ-loop m₀ marks n k₀ i₀ m k i = n - i
@@ -23,13 +24,25 @@ readies-requires : tie.Need-readies-requires Inv-loop μ-loop
 readies-requires c κs = search needs
 
 loop-holds : tie.Need-loop-holds Inv-loop μ-loop
-loop-holds c = (begins the-ready (sift-starts _ _ _ _ (omega (arith, ready-long (c .before .before .before .args .m .now), c .before .before .before .pre .2))), c .readies .ensures)
+loop-holds c = (
+  begins the-ready (sift-starts _ _ _ _
+      (omega (arith, ready-long (c .before .before .before .args .m .now), c .before .before .before .pre .2))),
+  c .readies .ensures,
+)
 
 ready-at-requires : tie.Need-ready-at-requires Inv-loop μ-loop
-ready-at-requires c κs = by (Within (c .before .before .loop .i)) (c .before .before .loop .inv .0 .only) (c .before .before .before .before .before .before .pre .0, omega (arith, c .before .before .before .before .before .before .pre .2, c .before .before .loop .inv .1, c .before .loop-test .taken))
+ready-at-requires c κs = by (Within (c .before .before .loop .i)) (c .before .before .loop .inv .0 .only) (
+  c .before .before .before .before .before .before .pre .0,
+  omega (arith, c .before .before .before .before .before .before .pre .2, c .before .before .loop .inv .1, c .before .loop-test .taken),
+)
 
 is-member-requires : tie.Need-is-member-requires Inv-loop μ-loop
-is-member-requires c κs = by (Listed (c .before .before .before .before .before .before .before .before .args .marks .now)) (c .before .before .before .before .loop .inv .0 .only) (c .before .before .before .before .before .before .before .before .pre .0, c .before .before .before .before .before .before .before .before .pre .1, c .before .before .before .before .before .before .before .before .pre .3)
+is-member-requires c κs = by (Listed (c .before .before .before .before .before .before .before .before .args .marks .now))
+    (c .before .before .before .before .loop .inv .0 .only) (
+      c .before .before .before .before .before .before .before .before .pre .0,
+      c .before .before .before .before .before .before .before .before .pre .1,
+      c .before .before .before .before .before .before .before .before .pre .3,
+    )
 
 add-i : tie.Need-add-i Inv-loop μ-loop
 add-i c = omega arith
@@ -38,13 +51,38 @@ loop-less : tie.Need-loop-less Inv-loop μ-loop
 loop-less c = omega arith
 
 loop-again : tie.Need-loop-again Inv-loop μ-loop
-loop-again c = (keep-drops the-ready 0 (λ (x : ℕ). has-in x (members (rows-of (c .before .before .before .before .before .before .before .before .before .before .args .m .now)))) (c .before .before .before .before .before .before .loop .inv .0) (omega (arith, c .before .before .before .before .before .before .loop .inv .1, c .before .before .before .before .before .loop-test .taken)) (c .before .before .before .ready-at .ensures) (c .before .is-member .ensures ∙ ap (has-in _) (ap members (c .before .before .before .before .before .before .loop .inv .0 .only))) (c .if1 .taken), c .before .before .before .before .before .before .loop .inv .1)
+loop-again c = (
+  keep-drops the-ready 0 (λ (x : ℕ).
+      has-in x (members (rows-of (c .before .before .before .before .before .before .before .before .before .before .args .m .now))))
+      (c .before .before .before .before .before .before .loop .inv .0)
+      (omega (
+        arith,
+        c .before .before .before .before .before .before .loop .inv .1,
+        c .before .before .before .before .before .loop-test .taken,
+      )) (c .before .before .before .ready-at .ensures) (c .before .is-member .ensures
+      ∙ ap (has-in _) (ap members (c .before .before .before .before .before .before .loop .inv .0 .only))) (c .if1 .taken),
+  c .before .before .before .before .before .before .loop .inv .1,
+)
 
 put-ready-requires : tie.Need-put-ready-requires Inv-loop μ-loop
-put-ready-requires c κs = by (Within (c .before .before .before .before .before .before .before .loop .k)) (c .before .before .before .before .before .before .before .loop .inv .0 .only) (c .before .before .before .before .before .before .before .before .before .before .before .pre .0, omega (arith, c .before .before .before .before .before .before .before .before .before .before .before .pre .2, c .before .before .before .before .before .before .before .loop .inv .1, c .before .before .before .before .before .before .loop-test .taken, c .before .before .before .before .before .before .before .loop .inv .0 .so .behind))
+put-ready-requires c κs = by (Within (c .before .before .before .before .before .before .before .loop .k))
+    (c .before .before .before .before .before .before .before .loop .inv .0 .only) (
+      c .before .before .before .before .before .before .before .before .before .before .before .pre .0,
+      omega (
+        arith,
+        c .before .before .before .before .before .before .before .before .before .before .before .pre .2,
+        c .before .before .before .before .before .before .before .loop .inv .1,
+        c .before .before .before .before .before .before .loop-test .taken,
+        c .before .before .before .before .before .before .before .loop .inv .0 .so .behind,
+      ),
+    )
 
 add-k : tie.Need-add-k Inv-loop μ-loop
-add-k c = omega (arith, c .before .before .before .before .before .before .before .before .before .before .loop .inv .0 .so .behind, c .before .before .before .before .before .before .before .before .before .loop-test .taken)
+add-k c = omega (
+  arith,
+  c .before .before .before .before .before .before .before .before .before .before .loop .inv .0 .so .behind,
+  c .before .before .before .before .before .before .before .before .before .loop-test .taken,
+)
 
 add-i-2 : tie.Need-add-i-2 Inv-loop μ-loop
 add-i-2 c = omega arith
@@ -53,16 +91,57 @@ loop-less-2 : tie.Need-loop-less-2 Inv-loop μ-loop
 loop-less-2 c = omega arith
 
 loop-again-2 : tie.Need-loop-again-2 Inv-loop μ-loop
-loop-again-2 c = (keep-holds the-ready 0 (λ (x : ℕ). has-in x (members (rows-of (c .before .before .before .before .before .before .before .before .before .before .before .before .before .before .args .m .now)))) (c .before .before .before .before .before .before .before .before .before .before .loop .inv .0) (omega (arith, c .before .before .before .before .before .before .before .before .before .before .loop .inv .1, c .before .before .before .before .before .before .before .before .before .loop-test .taken)) (c .before .before .before .before .before .before .before .ready-at .ensures) (c .before .before .before .before .before .is-member .ensures ∙ ap (has-in _) (ap members (c .before .before .before .before .before .before .before .before .before .before .loop .inv .0 .only))) (c .before .before .before .before .if1 .left) (c .before .before .put-ready .ensures), c .before .before .before .before .before .before .before .before .before .before .loop .inv .1)
+loop-again-2 c = (
+  keep-holds the-ready 0 (λ (x : ℕ).
+      has-in x (members
+      (rows-of (c .before .before .before .before .before .before .before .before .before .before .before .before .before .before .args .m
+      .now)))) (c .before .before .before .before .before .before .before .before .before .before .loop .inv .0)
+      (omega (
+        arith,
+        c .before .before .before .before .before .before .before .before .before .before .loop .inv .1,
+        c .before .before .before .before .before .before .before .before .before .loop-test .taken,
+      )) (c .before .before .before .before .before .before .before .ready-at .ensures)
+      (c .before .before .before .before .before .is-member .ensures
+      ∙ ap (has-in _) (ap members (c .before .before .before .before .before .before .before .before .before .before .loop .inv .0 .only)))
+      (c .before .before .before .before .if1 .left) (c .before .before .put-ready .ensures),
+  c .before .before .before .before .before .before .before .before .before .before .loop .inv .1,
+)
 
 set-readies-requires : tie.Need-set-readies-requires Inv-loop μ-loop
-set-readies-requires c κs = (by Roomy (c .before .before .loop .inv .0 .only) (c .before .before .before .before .before .before .pre .0), omega (arith, c .before .before .before .before .before .before .pre .0 .low, c .before .before .before .before .before .before .pre .2, c .before .before .loop .inv .1, c .before .before .loop .inv .0 .so .behind, c .before .before .loop .inv .0 .so .left .within))
+set-readies-requires c κs = (
+  by Roomy (c .before .before .loop .inv .0 .only) (c .before .before .before .before .before .before .pre .0),
+  omega (
+    arith,
+    c .before .before .before .before .before .before .pre .0 .low,
+    c .before .before .before .before .before .before .pre .2,
+    c .before .before .loop .inv .1,
+    c .before .before .loop .inv .0 .so .behind,
+    c .before .before .loop .inv .0 .so .left .within,
+  ),
+)
 
 same-length : tie.Need-same-length Inv-loop μ-loop
-same-length c = same-room (c .before .before .before .before .before .before .before .before .before .args .m .now) _ (ap (λ (r : Rows). r .room) (c .before .before .set-readies .ensures ∙ ap (put-readies _) (c .before .before .before .before .before .loop .inv .0 .only)))
+same-length c = same-room (c .before .before .before .before .before .before .before .before .before .args .m .now) _
+    (ap (λ (r : Rows). r .room) (c .before .before .set-readies .ensures
+    ∙ ap (put-readies _) (c .before .before .before .before .before .loop .inv .0 .only)))
 
 returns : tie.Need-returns Inv-loop μ-loop
-returns c = ready-is _ (c .before .before .before .before .before .loop .inv .0 .only) (c .before .before .set-readies .ensures) (keep-ends _ _ _ _ _ _ (c .before .before .before .before .before .loop .inv .0 .so) (omega (arith, c .before .before .before .before .before .loop .inv .1, c .before .before .before .before .loop-test .left))) (omega (arith, c .before .before .before .before .before .loop .inv .0 .so .behind, c .before .before .before .before .before .loop .inv .0 .so .left .within, c .before .before .before .before .before .loop .inv .0 .so .left .whole, c .before .before .before .before .before .loop .inv .0 .so .left .long)) (omega (arith, c .before .before .before .before .before .before .before .before .before .pre .2, c .before .before .before .before .before .loop .inv .0 .so .behind, c .before .before .before .before .before .loop .inv .0 .so .left .within))
+returns c = ready-is _ (c .before .before .before .before .before .loop .inv .0 .only) (c .before .before .set-readies .ensures)
+    (keep-ends _ _ _ _ _ _ (c .before .before .before .before .before .loop .inv .0 .so)
+    (omega (arith, c .before .before .before .before .before .loop .inv .1, c .before .before .before .before .loop-test .left)))
+    (omega (
+      arith,
+      c .before .before .before .before .before .loop .inv .0 .so .behind,
+      c .before .before .before .before .before .loop .inv .0 .so .left .within,
+      c .before .before .before .before .before .loop .inv .0 .so .left .whole,
+      c .before .before .before .before .before .loop .inv .0 .so .left .long,
+    )) (omega (
+      arith,
+      c .before .before .before .before .before .before .before .before .before .pre .2,
+      c .before .before .before .before .before .loop .inv .0 .so .behind,
+      c .before .before .before .before .before .loop .inv .0 .so .left .within,
+    ))
 
 pub ready-spec : {M : Type 1} → statement M
-ready-spec = tie.close (tie.spec Inv-loop μ-loop readies-requires loop-holds ready-at-requires is-member-requires add-i loop-less loop-again put-ready-requires add-k add-i-2 loop-less-2 loop-again-2 set-readies-requires same-length returns)
+ready-spec = tie.close (tie.spec Inv-loop μ-loop readies-requires loop-holds ready-at-requires is-member-requires add-i loop-less loop-again
+    put-ready-requires add-k add-i-2 loop-less-2 loop-again-2 set-readies-requires same-length returns)

@@ -91,7 +91,11 @@ add-filled c =
     let at-put-line = c .before .before in
     let at-loop = at-put-line .before .before .before .before .before .before .before .before .before .before .before .before in
     let entry = at-loop .before .before .before .before in
-    omega (arith, line-fits (at-loop .loop .inv) (at-put-line .put-line .ensures) (at-put-line .put-line .kept .0), entry .good .1 .1 .1 .1 .0 .0)
+    omega (
+      arith,
+      line-fits (at-loop .loop .inv) (at-put-line .put-line .ensures) (at-put-line .put-line .kept .0),
+      entry .good .1 .1 .1 .1 .0 .0,
+    )
 
 add-line : tie.Need-add-line Inv-loop μ-loop
 add-line c =

@@ -33,7 +33,8 @@ returns c =
     let r = c .before .before .before .before .before .before .before .read in
     let s = c .before .before .before .before .before .before .before .before .before .before .before .before .settle in
     let entry = c .before .before .before .before .before .before .before .before .before .before .before .before .before .before .before in
-    read-behind (entry .args .w) (r .last .1 .0) (r .result) (entry .pre .1) (s .ensures) (r .kept .1 .0) (record { sfits = r .ok }) (r .ensures)
+    read-behind (entry .args .w) (r .last .1 .0) (r .result) (entry .pre .1) (s .ensures) (r .kept .1 .0) (record { sfits = r .ok })
+    (r .ensures)
     (c .before .before .before .count .ensures .1)
     (c .heard .ensures)
 

@@ -10,7 +10,8 @@ use Rattle.memory.specs.Rows.{no-thread}
 use Rattle.memory.specs.Memory.{rows-of}
 use Rattle.store.specs.Store.{tables}
 use Rattle.indexing.proofs.Passing.{roomy, threads-whole, thread-reach}
-use Rattle.ranging.proofs.Waiters.{device-of, Waited, wait-starts, wait-skips, wait-next, wait-fails, wait-held, wait-ends, broken, kept}
+use Rattle.ranging.proofs.Waiters.{device-of, Waited, wait-starts, wait-skips, wait-next, wait-fails, wait-held, wait-ends, broken}
+use Rattle.ranging.proofs.Waiters.{kept}
 use Rattle.ranging.proofs.devices.devices_right.Statement.{statement}
 use Rattle.ranging.proofs.devices.devices_right.Tie as tie
 
@@ -27,19 +28,32 @@ loop-holds : tie.Need-loop-holds Inv-loop μ-loop
 loop-holds c = wait-starts _ _ _ (threads-whole (c .before .before .args .m .now) (c .before .before .pre .0))
 
 state-at-requires : tie.Need-state-at-requires Inv-loop μ-loop
-state-at-requires c κs = thread-reach (c .before .before .before .before .args .m .now) (c .before .before .before .before .pre .0) _ (c .before .loop .i) _ (c .before .before .count .ensures) (omega arith) (c .loop-test .taken)
+state-at-requires c κs = thread-reach (c .before .before .before .before .args .m .now) (c .before .before .before .before .pre .0) _
+    (c .before .loop .i) _ (c .before .before .count .ensures) (omega arith) (c .loop-test .taken)
 
 device-of-requires : tie.Need-device-of-requires Inv-loop μ-loop
 device-of-requires c κs = search needs
 
 is-held-requires : tie.Need-is-held-requires Inv-loop μ-loop
-is-held-requires c κs = (roomy (c .before .before .before .before .before .before .before .args .m .now) (c .before .before .before .before .before .before .before .pre .0), c .if1 .taken)
+is-held-requires c κs = (
+  roomy (c .before .before .before .before .before .before .before .args .m .now)
+      (c .before .before .before .before .before .before .before .pre .0),
+  c .if1 .taken,
+)
 
 returns : tie.Need-returns Inv-loop μ-loop
 unfolding tables
 returns c =
-    let w = c .before .before .before .device-of .ensures ∙ ap (λ (s : State). device-of s) (c .before .before .before .before .state-at .ensures) in
-    broken (tables (c .before .before .before .before .before .before .before .before .before .args .m .now)) _ (c .before .before .if1 .taken) (wait-held _ _ _ _ (c .before .before .before .before .before .before .loop .i) no-thread _ (c .before .before .before .before .before .before .loop .inv) (omega (arith, c .before .before .before .before .before .loop-test .taken, c .before .before .before .before .before .before .before .count .ensures)) w (c .before .before .if1 .taken) (sym (c .before .is-held .ensures) ∙ c .if2 .taken))
+    let w = c .before .before .before .device-of .ensures
+    ∙ ap (λ (s : State). device-of s) (c .before .before .before .before .state-at .ensures) in
+    broken (tables (c .before .before .before .before .before .before .before .before .before .args .m .now)) _
+    (c .before .before .if1 .taken) (wait-held _ _ _ _ (c .before .before .before .before .before .before .loop .i) no-thread _
+    (c .before .before .before .before .before .before .loop .inv)
+    (omega (
+      arith,
+      c .before .before .before .before .before .loop-test .taken,
+      c .before .before .before .before .before .before .before .count .ensures,
+    )) w (c .before .before .if1 .taken) (sym (c .before .is-held .ensures) ∙ c .if2 .taken))
 
 cast-if3 : tie.Need-cast-if3 Inv-loop μ-loop
 cast-if3 c = search needs
@@ -50,14 +64,23 @@ array-read-if3 c = omega (arith, c .before .before .if1 .taken, c .before .befor
 returns-2 : tie.Need-returns-2 Inv-loop μ-loop
 unfolding tables
 returns-2 c =
-    let w = c .before .before .before .before .device-of .ensures ∙ ap (λ (s : State). device-of s) (c .before .before .before .before .before .state-at .ensures) in
-    broken (tables (c .before .before .before .before .before .before .before .before .before .before .args .m .now)) _ (c .before .before .before .if1 .taken) (wait-fails _ _ _ _ (c .before .before .before .before .before .before .before .loop .i) no-thread _ (c .before .before .before .before .before .before .before .loop .inv) (omega (arith, c .before .before .before .before .before .before .loop-test .taken, c .before .before .before .before .before .before .before .before .count .ensures)) w (c .before .before .before .if1 .taken) (c .if3 .taken))
+    let w = c .before .before .before .before .device-of .ensures
+    ∙ ap (λ (s : State). device-of s) (c .before .before .before .before .before .state-at .ensures) in
+    broken (tables (c .before .before .before .before .before .before .before .before .before .before .args .m .now)) _
+    (c .before .before .before .if1 .taken) (wait-fails _ _ _ _ (c .before .before .before .before .before .before .before .loop .i)
+    no-thread _ (c .before .before .before .before .before .before .before .loop .inv)
+    (omega (
+      arith,
+      c .before .before .before .before .before .before .loop-test .taken,
+      c .before .before .before .before .before .before .before .before .count .ensures,
+    )) w (c .before .before .before .if1 .taken) (c .if3 .taken))
 
 cast-marks : tie.Need-cast-marks Inv-loop μ-loop
 cast-marks c = search needs
 
 array-write-marks : tie.Need-array-write-marks Inv-loop μ-loop
-array-write-marks c = omega (arith, c .before .before .before .if1 .taken, c .before .before .before .before .before .before .before .loop .inv .so .long)
+array-write-marks c =
+    omega (arith, c .before .before .before .if1 .taken, c .before .before .before .before .before .before .before .loop .inv .so .long)
 
 add-i : tie.Need-add-i Inv-loop μ-loop
 add-i c = omega (arith, c .before .before .before .before .before .before .loop-test .taken)
@@ -67,8 +90,15 @@ loop-less c = omega (arith, c .before .before .before .before .before .before .l
 
 loop-again : tie.Need-loop-again Inv-loop μ-loop
 loop-again c =
-    let w = c .before .before .before .before .device-of .ensures ∙ ap (λ (s : State). device-of s) (c .before .before .before .before .before .state-at .ensures) in
-    wait-next _ _ _ _ (c .before .before .before .before .before .before .before .loop .i) no-thread _ (c .before .before .before .before .before .before .before .loop .inv) (omega (arith, c .before .before .before .before .before .before .loop-test .taken, c .before .before .before .before .before .before .before .before .count .ensures)) w (c .before .before .before .if1 .taken) (sym (c .before .before .is-held .ensures) ∙ c .before .if2 .left) (c .if3 .left)
+    let w = c .before .before .before .before .device-of .ensures
+    ∙ ap (λ (s : State). device-of s) (c .before .before .before .before .before .state-at .ensures) in
+    wait-next _ _ _ _ (c .before .before .before .before .before .before .before .loop .i) no-thread _
+    (c .before .before .before .before .before .before .before .loop .inv)
+    (omega (
+      arith,
+      c .before .before .before .before .before .before .loop-test .taken,
+      c .before .before .before .before .before .before .before .before .count .ensures,
+    )) w (c .before .before .before .if1 .taken) (sym (c .before .before .is-held .ensures) ∙ c .before .if2 .left) (c .if3 .left)
 
 add-i-2 : tie.Need-add-i-2 Inv-loop μ-loop
 add-i-2 c = omega (arith, c .before .before .before .loop-test .taken)
@@ -79,11 +109,13 @@ loop-less-2 c = omega (arith, c .before .before .before .loop-test .taken)
 loop-again-2 : tie.Need-loop-again-2 Inv-loop μ-loop
 loop-again-2 c =
     let w = c .before .device-of .ensures ∙ ap (λ (s : State). device-of s) (c .before .before .state-at .ensures) in
-    wait-skips _ _ _ _ (c .before .before .before .before .loop .i) no-thread _ (c .before .before .before .before .loop .inv) (omega (arith, c .before .before .before .loop-test .taken, c .before .before .before .before .before .count .ensures)) w (c .if1 .left)
+    wait-skips _ _ _ _ (c .before .before .before .before .loop .i) no-thread _ (c .before .before .before .before .loop .inv)
+    (omega (arith, c .before .before .before .loop-test .taken, c .before .before .before .before .before .count .ensures)) w (c .if1 .left)
 
 returns-3 : tie.Need-returns-3 Inv-loop μ-loop
 unfolding tables
-returns-3 c = kept (tables (c .before .before .before .before .args .m .now)) (c .before .before .before .before .pre .1) (wait-ends _ _ _ _ _ (c .before .loop .inv) (omega (arith, c .loop-test .left, c .before .before .count .ensures)))
+returns-3 c = kept (tables (c .before .before .before .before .args .m .now)) (c .before .before .before .before .pre .1)
+    (wait-ends _ _ _ _ _ (c .before .loop .inv) (omega (arith, c .loop-test .left, c .before .before .count .ensures)))
 
 pub devices-right-spec : {M : Type 1} → statement M
 devices-right-spec =

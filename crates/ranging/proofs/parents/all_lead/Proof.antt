@@ -24,7 +24,8 @@ loop-less : tie.Need-loop-less Inv-loop μ-loop
 loop-less c = search needs
 
 loop-again : tie.Need-loop-again Inv-loop μ-loop
-loop-again c = lead-next _ _ _ _ (c .before .before .before .loop .inv) (c .before .before .loop-test .taken) (c .before .leads .ensures) (c .if1 .taken)
+loop-again c = lead-next _ _ _ _ (c .before .before .before .loop .inv) (c .before .before .loop-test .taken) (c .before .leads .ensures)
+    (c .if1 .taken)
 
 returns : tie.Need-returns Inv-loop μ-loop
 returns c = lead-fails _ _ _ _ (c .before .before .loop-test .taken) (c .before .leads .ensures) (c .if1 .left)

@@ -1,4 +1,5 @@
--- `parents::leads` meets its contract. The loop: the steps so far led to a place, neither before the start nor above all. n + 1 steps are tried.
+-- `parents::leads` meets its contract. The loop: the steps so far led to a place, neither before the start nor above all. n + 1 steps are
+-- tried.
 use Prim.Native.Nat.{_+_, _-_}
 use mathlib.Core.Logic.{inl, inr}
 use native.Mathlib.Omega.{arith}
@@ -26,7 +27,8 @@ returns : tie.Need-returns Inv-loop μ-loop
 returns c = go-leads _ _ _ _ _ _ (c .before .before .before .before .loop .inv) (c .before .wide .ensures) (inl (c .if1 .taken))
 
 returns-2 : tie.Need-returns-2 Inv-loop μ-loop
-returns-2 c = go-leads _ _ _ _ _ _ (c .before .before .before .before .before .loop .inv) (c .before .before .wide .ensures) (inr (c .if2 .taken))
+returns-2 c =
+    go-leads _ _ _ _ _ _ (c .before .before .before .before .before .loop .inv) (c .before .before .wide .ensures) (inr (c .if2 .taken))
 
 add-k : tie.Need-add-k Inv-loop μ-loop
 add-k c = search needs
@@ -35,7 +37,8 @@ loop-less : tie.Need-loop-less Inv-loop μ-loop
 loop-less c = search needs
 
 loop-again : tie.Need-loop-again Inv-loop μ-loop
-loop-again c = go-next _ _ _ _ _ _ (c .before .before .before .before .before .loop .inv) (c .before .before .before .before .loop-test .taken) (c .before .before .wide .ensures) (c .before .if1 .left) (c .if2 .left)
+loop-again c = go-next _ _ _ _ _ _ (c .before .before .before .before .before .loop .inv)
+    (c .before .before .before .before .loop-test .taken) (c .before .before .wide .ensures) (c .before .if1 .left) (c .if2 .left)
 
 returns-3 : tie.Need-returns-3 Inv-loop μ-loop
 returns-3 c = go-ends _ _ _ _ _ (c .before .loop .inv) (c .loop-test .left)

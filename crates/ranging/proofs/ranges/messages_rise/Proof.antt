@@ -6,7 +6,8 @@ use Rattle.laws.specs.Words.{Message}
 use Rattle.memory.specs.Rows.{no-message}
 use Rattle.memory.specs.Memory.{rows-of}
 use Rattle.store.specs.Store.{tables}
-use Rattle.indexing.proofs.Passing.{Along, along-starts, along-next, along-fails, along-ends, up-to, not-up-to, roomy, messages-whole, message-reach}
+use Rattle.indexing.proofs.Passing.{Along, along-starts, along-next, along-fails, along-ends, up-to, not-up-to, roomy, messages-whole}
+use Rattle.indexing.proofs.Passing.{message-reach}
 use Rattle.ranging.proofs.ranges.messages_rise.Statement.{statement}
 use Rattle.ranging.proofs.ranges.messages_rise.Tie as tie
 
@@ -26,10 +27,13 @@ sub-receiver-at : tie.Need-sub-receiver-at Inv-loop μ-loop
 sub-receiver-at c = omega (arith, c .before .loop .inv .linked .behind)
 
 receiver-at-requires : tie.Need-receiver-at-requires Inv-loop μ-loop
-receiver-at-requires c κs = message-reach (c .before .before .before .before .args .m .now) (c .before .before .before .before .pre) _ (c .before .loop .i) _ (c .before .loop .inv .same) (omega arith) (c .loop-test .taken)
+receiver-at-requires c κs = message-reach (c .before .before .before .before .args .m .now) (c .before .before .before .before .pre) _
+    (c .before .loop .i) _ (c .before .loop .inv .same) (omega arith) (c .loop-test .taken)
 
 receiver-at-requires-2 : tie.Need-receiver-at-requires-2 Inv-loop μ-loop
-receiver-at-requires-2 c κs = message-reach (c .before .before .before .before .before .args .m .now) (c .before .before .before .before .before .pre) _ (c .before .before .loop .i) _ (c .before .before .loop .inv .same) (omega arith) (c .before .loop-test .taken)
+receiver-at-requires-2 c κs = message-reach (c .before .before .before .before .before .args .m .now)
+    (c .before .before .before .before .before .pre) _ (c .before .before .loop .i) _ (c .before .before .loop .inv .same) (omega arith)
+    (c .before .loop-test .taken)
 
 add-i : tie.Need-add-i Inv-loop μ-loop
 add-i c = omega arith
@@ -38,11 +42,13 @@ loop-less : tie.Need-loop-less Inv-loop μ-loop
 loop-less c = omega arith
 
 loop-again : tie.Need-loop-again Inv-loop μ-loop
-loop-again c = along-next _ _ _ _ _ no-message (c .before .before .before .before .loop .inv) (c .before .before .before .loop-test .taken) (up-to (c .before .before .receiver-at .ensures) (c .before .receiver-at2 .ensures) (c .if1 .taken))
+loop-again c = along-next _ _ _ _ _ no-message (c .before .before .before .before .loop .inv) (c .before .before .before .loop-test .taken)
+    (up-to (c .before .before .receiver-at .ensures) (c .before .receiver-at2 .ensures) (c .if1 .taken))
 
 returns : tie.Need-returns Inv-loop μ-loop
 unfolding tables
-returns c = along-fails _ _ _ _ _ no-message (c .before .before .before .before .loop .inv) (c .before .before .before .loop-test .taken) (not-up-to (c .before .before .receiver-at .ensures) (c .before .receiver-at2 .ensures) (c .if1 .left))
+returns c = along-fails _ _ _ _ _ no-message (c .before .before .before .before .loop .inv) (c .before .before .before .loop-test .taken)
+    (not-up-to (c .before .before .receiver-at .ensures) (c .before .receiver-at2 .ensures) (c .if1 .left))
 
 returns-2 : tie.Need-returns-2 Inv-loop μ-loop
 unfolding tables

@@ -25,7 +25,8 @@ loop-holds : tie.Need-loop-holds Inv-loop μ-loop
 loop-holds c = over-starts _ _ _ _ (threads-whole (c .before .before .args .m .now) (c .before .before .pre)) (c .count .ensures)
 
 name-at-requires : tie.Need-name-at-requires Inv-loop μ-loop
-name-at-requires c κs = thread-reach (c .before .before .before .before .args .m .now) (c .before .before .before .before .pre) _ (c .before .loop .i) _ (c .before .loop .inv .same) (omega arith) (c .loop-test .taken)
+name-at-requires c κs = thread-reach (c .before .before .before .before .args .m .now) (c .before .before .before .before .pre) _
+    (c .before .loop .i) _ (c .before .loop .inv .same) (omega arith) (c .loop-test .taken)
 
 add-i : tie.Need-add-i Inv-loop μ-loop
 add-i c = omega arith
@@ -34,11 +35,13 @@ loop-less : tie.Need-loop-less Inv-loop μ-loop
 loop-less c = omega arith
 
 loop-again : tie.Need-loop-again Inv-loop μ-loop
-loop-again c = over-next _ _ _ _ _ _ no-thread (c .before .before .before .loop .inv) (c .before .before .loop-test .taken) refl (less (c .before .name-at .ensures) refl (c .if1 .taken))
+loop-again c = over-next _ _ _ _ _ _ no-thread (c .before .before .before .loop .inv) (c .before .before .loop-test .taken) refl
+    (less (c .before .name-at .ensures) refl (c .if1 .taken))
 
 returns : tie.Need-returns Inv-loop μ-loop
 unfolding tables
-returns c = over-fails _ _ _ _ _ _ no-thread (c .before .before .before .loop .inv) (c .before .before .loop-test .taken) refl (not-less (c .before .name-at .ensures) refl (c .if1 .left))
+returns c = over-fails _ _ _ _ _ _ no-thread (c .before .before .before .loop .inv) (c .before .before .loop-test .taken) refl
+    (not-less (c .before .name-at .ensures) refl (c .if1 .left))
 
 returns-2 : tie.Need-returns-2 Inv-loop μ-loop
 unfolding tables

@@ -12,7 +12,11 @@ names-low-requires : tie.Need-names-low-requires
 names-low-requires c κs = c .before .before .before .pre
 
 returns : tie.Need-returns
-returns c = rw (sym (c .before .before .names-rise .ensures) ∙ c .before .if1 .taken, names-within (c .before .before .before .before .args .m .now) (c .before .before .before .before .pre)) (c .names-low .ensures ∙ sym (and-true _))
+returns c = rw (
+  sym (c .before .before .names-rise .ensures)
+      ∙ c .before .if1 .taken,
+  names-within (c .before .before .before .before .args .m .now) (c .before .before .before .before .pre),
+) (c .names-low .ensures ∙ sym (and-true _))
 
 returns-2 : tie.Need-returns-2
 returns-2 c = rw (sym (c .before .names-rise .ensures) ∙ c .if1 .left)

@@ -12,7 +12,8 @@ messages-rise-requires c κs = c .before .pre .0
 
 returns : tie.Need-returns
 unfolding tables
-returns c = rw (held-rises (c .before .before .args .m .now) (ranged (tables (c .before .before .args .m .now)) (c .before .before .pre .1))) (c .messages-rise .ensures ∙ sym (and-true _))
+returns c = rw (held-rises (c .before .before .args .m .now)
+    (ranged (tables (c .before .before .args .m .now)) (c .before .before .pre .1))) (c .messages-rise .ensures ∙ sym (and-true _))
 
 pub orders-right-spec : {M : Type 1} → statement M
 orders-right-spec = tie.close (tie.spec messages-rise-requires returns)

@@ -18,7 +18,12 @@ returns-4 c = rw (c .match .keys4)
 returns-5 : tie.Need-returns-5
 returns-5 c =
     let n = c .before .args .kind in
-    rw (ne-eqb n 0 (c .match .rest .0 .0 .0 .1), ne-eqb n 1 (c .match .rest .0 .0 .1), ne-eqb n 2 (c .match .rest .0 .1), ne-eqb n 3 (c .match .rest .1))
+    rw (
+      ne-eqb n 0 (c .match .rest .0 .0 .0 .1),
+      ne-eqb n 1 (c .match .rest .0 .0 .1),
+      ne-eqb n 2 (c .match .rest .0 .1),
+      ne-eqb n 3 (c .match .rest .1),
+    )
 
 pub answer-from-spec : {M : Type 1} → statement M
 answer-from-spec = tie.close (tie.spec returns returns-2 returns-3 returns-4 returns-5)

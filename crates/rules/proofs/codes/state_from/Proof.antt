@@ -28,7 +28,14 @@ returns-5 c = rw (c .match .keys5)
 returns-6 : tie.Need-returns-6
 returns-6 c =
     let n = c .before .before .args .n in
-    rw (ne-eqb n 0 (c .before .match .rest .0 .0 .0 .0 .1), ne-eqb n 1 (c .before .match .rest .0 .0 .0 .1), ne-eqb n 2 (c .before .match .rest .0 .0 .1), ne-eqb n 3 (c .before .match .rest .0 .1), ne-eqb n 4 (c .before .match .rest .1), c .trap-kind-from .ensures)
+    rw (
+      ne-eqb n 0 (c .before .match .rest .0 .0 .0 .0 .1),
+      ne-eqb n 1 (c .before .match .rest .0 .0 .0 .1),
+      ne-eqb n 2 (c .before .match .rest .0 .0 .1),
+      ne-eqb n 3 (c .before .match .rest .0 .1),
+      ne-eqb n 4 (c .before .match .rest .1),
+      c .trap-kind-from .ensures,
+    )
 
 pub state-from-spec : {M : Type 1} → statement M
 state-from-spec =

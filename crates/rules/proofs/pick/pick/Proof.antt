@@ -1,5 +1,5 @@
--- `rules::pick::pick` meets its contract: each answer is a law of Bits.antt or Masks.antt at the word's size. The `refl`s compute that a mask of
--- src/pick.rt leaves the devices of its class, and the last one that the three masks leave no device out.
+-- `rules::pick::pick` meets its contract: each answer is a law of Bits.antt or Masks.antt at the word's size. The `refl`s compute that a
+-- mask of src/pick.rt leaves the devices of its class, and the last one that the three masks leave no device out.
 use mathlib.Core.Path.{refl, sym, ap, _∙_}
 use native.Mathlib.Omega.{arith}
 use borrow.Author.Needs.{needs}
@@ -41,7 +41,8 @@ returns-5 : tie.Need-returns-5
 unfolding any keep from-on
 returns-5 c =
     let w = c .before .before .before .before .before .args .pending in
-    of-receivers w (omega arith) _ _ _ (c .lowest3 .ensures) (c .before .before .if3 .left) (c .before .if4 .left) (omega arith) refl refl refl refl
+    of-receivers w (omega arith) _ _ _ (c .lowest3 .ensures) (c .before .before .if3 .left) (c .before .if4 .left) (omega arith) refl refl
+    refl refl
 
 pub pick-spec : {M : Type 1} → statement M
 pick-spec = tie.close (tie.spec returns returns-2 lowest-requires returns-3 lowest-requires-2 returns-4 lowest-requires-3 returns-5)

@@ -15,7 +15,8 @@ use Rattle.rules.proofs.tags.dump_facts.Tie as tie
 
 abbrev same : DumpFacts → DumpFacts → Bool
 same f g =
-    Bool·beq (f .known) (g .known) && (f .place == g .place) && Bool·beq (f .sized) (g .sized) && (f .length == g .length) && Bool·beq (f .once) (g .once)
+    Bool·beq (f .known) (g .known) && (f .place == g .place) && Bool·beq (f .sized) (g .sized) && (f .length == g .length)
+    && Bool·beq (f .once) (g .once)
 
 same-bit : (a b : Bool) → T (Bool·beq a b) → a ≡ b
 same-bit true true t = refl
@@ -25,7 +26,8 @@ same-bit false false t = refl
 
 sound : (f g : DumpFacts) → T (same f g) → f ≡ g
 sound f g t =
-    let p = both (Bool·beq (f .known) (g .known) && (f .place == g .place) && Bool·beq (f .sized) (g .sized) && (f .length == g .length)) _ t in
+    let p = both (Bool·beq (f .known) (g .known) && (f .place == g .place) && Bool·beq (f .sized) (g .sized) && (f .length == g .length)) _
+    t in
     let q = both (Bool·beq (f .known) (g .known) && (f .place == g .place) && Bool·beq (f .sized) (g .sized)) _ (p .0) in
     let r = both (Bool·beq (f .known) (g .known) && (f .place == g .place)) _ (q .0) in
     let s = both (Bool·beq (f .known) (g .known)) _ (r .0) in

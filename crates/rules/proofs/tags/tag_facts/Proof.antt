@@ -26,7 +26,11 @@ sound : (f g : TagFacts) → T (same f g) → f ≡ g
 sound f g t =
     let p = both (Bool·beq (f .known) (g .known) && (f .length == g .length)) _ t in
     let q = both (Bool·beq (f .known) (g .known)) _ (p .0) in
-    λ i. record { known = same-bit (f .known) (g .known) (q .0) i; length = eqb→eq (f .length) (g .length) (q .1) i; runner = same-bit (f .runner) (g .runner) (p .1) i }
+    λ i. record {
+      known = same-bit (f .known) (g .known) (q .0) i;
+      length = eqb→eq (f .length) (g .length) (q .1) i;
+      runner = same-bit (f .runner) (g .runner) (p .1) i;
+    }
 
 returns : tie.Need-returns
 unfolding facts-of facts-in

@@ -44,7 +44,16 @@ close-grow-ended-requires : (t : ℕ) → close-lts.Need-grow-ended-requires (
   close-below t,
   close′.Post,
 ) (close-at t) close′.Post
-close-grow-ended-requires t c κs = (c .before .before .before .before .before .pre .1 .0, omega (arith, c .before .before .before .before .before .pre .1 .1, joins-fall (tables (c .before .before .before .before .before .args .m .now) .threads) (found (c .before .before .before .before .before .args .m .now))), c .before .before .before .before .before .pre .1 .2)
+close-grow-ended-requires t c κs = (
+  c .before .before .before .before .before .pre .1 .0,
+  omega (
+    arith,
+    c .before .before .before .before .before .pre .1 .1,
+    joins-fall (tables (c .before .before .before .before .before .args .m .now) .threads)
+        (found (c .before .before .before .before .before .args .m .now)),
+  ),
+  c .before .before .before .before .before .pre .1 .2,
+)
 
 close-ended-count-requires-2 : (t : ℕ) → close-lts.Need-ended-count-requires-2 (
   count-reads.Asked,
@@ -74,7 +83,11 @@ close-returns : (t : ℕ) → close-lts.Need-returns (
   close-below t,
   close′.Post,
 ) (close-at t) close′.Post
-close-returns t c = (last-round (c .before .before .before .before .before .grow-ended .ensures .0) (sym (c .before .ended-count2 .ensures) ∙ (c .if1 .taken ∙ c .before .before .before .before .before .before .before .before .ended-count .ensures)), c .before .before .before .before .before .grow-ended .ensures .1)
+close-returns t c = (
+  last-round (c .before .before .before .before .before .grow-ended .ensures .0) (sym (c .before .ended-count2 .ensures)
+      ∙ (c .if1 .taken ∙ c .before .before .before .before .before .before .before .before .ended-count .ensures)),
+  c .before .before .before .before .before .grow-ended .ensures .1,
+)
 
 close-close-requires : (t : ℕ) → close-lts.Need-close-requires (
   count-reads.Asked,
@@ -85,8 +98,14 @@ close-close-requires : (t : ℕ) → close-lts.Need-close-requires (
   close′.Post,
 ) (close-at t) close′.Post
 close-close-requires t c κs = let g = c .before .before .before .before .before .before .before .grow-ended .ensures .0 in (
-  rw (c .before .before .before .before .before .before .before .before .before .before .before .before .before .pre .0) at (fewer-outside g (λ e. c .before .before .if1 .left (c .before .before .before .ended-count2 .ensures ∙ (e ∙ sym (c .before .before .before .before .before .before .before .before .before .before .ended-count .ensures))))),
-  (g .finding, room-stays g (c .before .before .before .before .before .before .before .before .before .before .before .before .before .pre .1 .1), c .before .before .before .before .before .before .before .grow-ended .ensures .1),
+  rw (c .before .before .before .before .before .before .before .before .before .before .before .before .before .pre .0) at
+      (fewer-outside g (λ e. c .before .before .if1 .left (c .before .before .before .ended-count2 .ensures
+      ∙ (e ∙ sym (c .before .before .before .before .before .before .before .before .before .before .ended-count .ensures))))),
+  (
+    g .finding,
+    room-stays g (c .before .before .before .before .before .before .before .before .before .before .before .before .before .pre .1 .1),
+    c .before .before .before .before .before .before .before .grow-ended .ensures .1,
+  ),
 )
 
 close-same-length-2 : (t : ℕ) → close-lts.Need-same-length-2 (
@@ -107,7 +126,14 @@ close-returns-2 : (t : ℕ) → close-lts.Need-returns-2 (
   close-below t,
   close′.Post,
 ) (close-at t) close′.Post
-close-returns-2 t c = (round-more (c .before .before .before .before .before .before .before .before .before .before .grow-ended .ensures .0) (λ e. c .before .before .before .before .before .if1 .left (c .before .before .before .before .before .before .ended-count2 .ensures ∙ (e ∙ sym (c .before .before .before .before .before .before .before .before .before .before .before .before .before .ended-count .ensures)))) (c .before .before .close .ensures .0), c .before .before .close .ensures .1)
+close-returns-2 t c = (
+  round-more (c .before .before .before .before .before .before .before .before .before .before .grow-ended .ensures .0)
+      (λ e. c .before .before .before .before .before .if1 .left (c .before .before .before .before .before .before .ended-count2 .ensures
+      ∙ (e ∙ sym
+      (c .before .before .before .before .before .before .before .before .before .before .before .before .before .ended-count .ensures))))
+      (c .before .before .close .ensures .0),
+  c .before .before .close .ensures .1,
+)
 
 pub +close-spec : {M : Type 1} → statement M
 +close-spec = close μ-close λ t. close-lts.spec (

@@ -28,7 +28,8 @@ same-length c = c .before .before .before .before .before .m .given
 returns : tie.Need-returns
 returns c =
     let s = c .before .before .before .before .before .before .before .before .before in
-    taken-hands (s .args .me) (s .args .w) (c .before .before .before .before .before .before .take-message .ensures) _ (c .before .before .t .given .1) _ (c .handed .ensures)
+    taken-hands (s .args .me) (s .args .w) (c .before .before .before .before .before .before .take-message .ensures) _
+    (c .before .before .t .given .1) _ (c .handed .ensures)
 
 same-length-2 : tie.Need-same-length-2
 same-length-2 c = c .before .m2 .given ∙ c .before .before .before .before .before .before .before .m .given
@@ -36,7 +37,9 @@ same-length-2 c = c .before .m2 .given ∙ c .before .before .before .before .be
 returns-2 : tie.Need-returns-2
 returns-2 c =
     let s = c .before .before .before .before .before .before .before .before .before .before .before in
-    missing-waits (s .args .me) (s .args .w) (c .before .before .before .before .before .before .before .before .take-message .ensures) (c .before .before .before .before .enum-told .given .1) (c .before .before .stop .ensures)
+    missing-waits (s .args .me) (s .args .w) (c .before .before .before .before .before .before .before .before .take-message .ensures)
+    (c .before .before .before .before .enum-told .given .1) (c .before .before .stop .ensures)
 
 pub receive-spec : {M : Type 1} → statement M
-receive-spec = tie.close (tie.spec take-message-requires enum-known-t handed-requires enum-told stop-requires same-length returns same-length-2 returns-2)
+receive-spec = tie.close (tie.spec take-message-requires enum-known-t handed-requires enum-told stop-requires same-length returns
+    same-length-2 returns-2)

@@ -1,5 +1,5 @@
--- `requests::free_behind` meets its contract. The loop: with the name that the walk has come to, the threads that are left give what all of them
--- give, and have no lower name.
+-- `requests::free_behind` meets its contract. The loop: with the name that the walk has come to, the threads that are left give what all
+-- of them give, and have no lower name.
 use Prim.Native.Nat.{_-_}
 use native.Mathlib.Omega.{arith}
 use borrow.Author.Needs.{needs}
@@ -26,12 +26,16 @@ loop-holds : tie.Need-loop-holds Inv-loop μ-loop
 loop-holds c = sets-out (c .before .before .before .before .args .m .now) _ _ _ (c .before .successor .ensures) (c .place-of .ensures)
 
 name-at-requires : tie.Need-name-at-requires Inv-loop μ-loop
-name-at-requires c κs = (c .before .before .before .before .before .before .pre .shaped, omega (arith, c .loop-test .taken, c .before .before .before .before .thread-count .ensures))
+name-at-requires c κs = (
+  c .before .before .before .before .before .before .pre .shaped,
+  omega (arith, c .loop-test .taken, c .before .before .before .before .thread-count .ensures),
+)
 
 returns : tie.Need-returns Inv-loop μ-loop
 returns c =
     let s = c .before .before .before .before .before .before .before .before in
-    is-free (s .args .m .now) (s .pre) _ _ _ _ (c .before .before .before .before .before .before .thread-count .ensures) (c .before .before .before .loop .inv) (c .before .before .loop-test .taken) _ _ (c .before .name-at .ensures) (c .if1 .taken)
+    is-free (s .args .m .now) (s .pre) _ _ _ _ (c .before .before .before .before .before .before .thread-count .ensures)
+    (c .before .before .before .loop .inv) (c .before .before .loop-test .taken) _ _ (c .before .name-at .ensures) (c .if1 .taken)
 
 successor-requires-2 : tie.Need-successor-requires-2 Inv-loop μ-loop
 successor-requires-2 c κs = search needs
@@ -45,12 +49,15 @@ loop-less c = search needs
 loop-again : tie.Need-loop-again Inv-loop μ-loop
 loop-again c =
     let s = c .before .before .before .before .before .before .before .before .before in
-    moves-on (s .args .m .now) (s .pre) _ _ _ _ (c .before .before .before .before .before .before .before .thread-count .ensures) (c .before .before .before .before .loop .inv) (c .before .before .before .loop-test .taken) _ _ (c .before .before .name-at .ensures) (c .before .if1 .left) _ (c .successor2 .ensures)
+    moves-on (s .args .m .now) (s .pre) _ _ _ _ (c .before .before .before .before .before .before .before .thread-count .ensures)
+    (c .before .before .before .before .loop .inv) (c .before .before .before .loop-test .taken) _ _ (c .before .before .name-at .ensures)
+    (c .before .if1 .left) _ (c .successor2 .ensures)
 
 returns-2 : tie.Need-returns-2 Inv-loop μ-loop
 returns-2 c =
     let s = c .before .before .before .before .before .before in
-    is-last (s .args .m .now) (s .pre) _ _ _ _ (c .before .before .before .before .thread-count .ensures) (c .before .loop .inv) (c .loop-test .left)
+    is-last (s .args .m .now) (s .pre) _ _ _ _ (c .before .before .before .before .thread-count .ensures) (c .before .loop .inv)
+    (c .loop-test .left)
 
 pub free-behind-spec : {M : Type 1} → statement M
 free-behind-spec =

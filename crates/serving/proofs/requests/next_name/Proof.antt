@@ -20,7 +20,8 @@ free-behind-requires-2 c κs = c .before .before .before .before .pre
 returns : tie.Need-returns
 returns c =
     let s = c .before .before .before .before .before in
-    c .free-behind2 .ensures ∙ comes-round (s .args .m .now) (s .pre) _ _ (c .before .before .before .last .ensures) (c .before .before .free-behind .ensures) (c .before .if1 .taken)
+    c .free-behind2 .ensures ∙ comes-round (s .args .m .now) (s .pre) _ _ (c .before .before .before .last .ensures)
+    (c .before .before .free-behind .ensures) (c .before .if1 .taken)
 
 returns-2 : tie.Need-returns-2
 returns-2 c =

@@ -20,7 +20,8 @@ enum-known-who c = search needs
 
 end-requires-2 : tie.Need-end-requires-2
 unfolding ends-nobody
-end-requires-2 c κs = let s = c .before .before .before .before .before in (s .pre .0, not-false _ (ap (ends-nobody (tables _)) (sym (c .before .before .who .given .1)) ∙ s .pre .2))
+end-requires-2 c κs = let s = c .before .before .before .before .before in
+    (s .pre .0, not-false _ (ap (ends-nobody (tables _)) (sym (c .before .before .who .given .1)) ∙ s .pre .2))
 
 same-length : tie.Need-same-length
 same-length c = search needs

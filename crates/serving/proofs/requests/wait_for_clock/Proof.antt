@@ -8,7 +8,11 @@ stop-requires : tie.Need-stop-requires
 stop-requires c κs = c .before .before .pre .0
 
 join-clock-requires : tie.Need-join-clock-requires
-join-clock-requires c κs = (c .before .before .before .stop .ensures .holding, clock-room _ (c .before .before .before .stop .ensures) (c .before .before .before .before .before .before .pre .1))
+join-clock-requires c κs = (
+  c .before .before .before .stop .ensures .holding,
+  clock-room _ (c .before .before .before .stop .ensures)
+      (c .before .before .before .before .before .before .pre .1),
+)
 
 same-length : tie.Need-same-length
 same-length c = search needs

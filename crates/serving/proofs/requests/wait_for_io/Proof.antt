@@ -13,7 +13,8 @@ held-word-requires : tie.Need-held-word-requires
 held-word-requires c κs = let s = c .before .before .before .before .before in (s .pre .0 .holding .shaped, s .pre .1)
 
 clear-held-requires : tie.Need-clear-held-requires
-clear-held-requires c κs = let s = c .before .before .before .before .before .before .before in (s .pre .0 .holding, s .pre .1, held-low _ (s .pre .0 .ruled))
+clear-held-requires c κs = let s = c .before .before .before .before .before .before .before in
+    (s .pre .0 .holding, s .pre .1, held-low _ (s .pre .0 .ruled))
 
 stop-requires : tie.Need-stop-requires
 stop-requires c κs = c .before .before .before .before .before .pre .0 .holding
@@ -22,13 +23,18 @@ same-length : tie.Need-same-length
 same-length c = search needs
 
 returns : tie.Need-returns
-returns c = word-taken _ _ _ (c .before .before .before .before .before .before .before .before .before .before .pre .0) (sym (c .before .before .before .before .before .before .before .is-held .ensures) ∙ c .before .before .before .before .before .before .if1 .taken) (c .before .before .before .before .held-word .ensures) (c .before .before .clear-held .ensures)
+returns c = word-taken _ _ _ (c .before .before .before .before .before .before .before .before .before .before .pre .0)
+    (sym (c .before .before .before .before .before .before .before .is-held .ensures)
+    ∙ c .before .before .before .before .before .before .if1 .taken) (c .before .before .before .before .held-word .ensures)
+    (c .before .before .clear-held .ensures)
 
 same-length-2 : tie.Need-same-length-2
 same-length-2 c = search needs
 
 returns-2 : tie.Need-returns-2
-returns-2 c = word-missing _ _ (sym (c .before .before .before .before .before .is-held .ensures) ∙ c .before .before .before .before .if1 .left) (c .before .before .stop .ensures)
+returns-2 c = word-missing _ _ (sym (c .before .before .before .before .before .is-held .ensures)
+    ∙ c .before .before .before .before .if1 .left) (c .before .before .stop .ensures)
 
 pub wait-for-io-spec : {M : Type 1} → statement M
-wait-for-io-spec = tie.close (tie.spec is-held-requires held-word-requires clear-held-requires stop-requires same-length returns same-length-2 returns-2)
+wait-for-io-spec =
+    tie.close (tie.spec is-held-requires held-word-requires clear-held-requires stop-requires same-length returns same-length-2 returns-2)

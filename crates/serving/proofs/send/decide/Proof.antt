@@ -25,7 +25,9 @@ same-length c = c .before .m2 .given ∙ c .before .before .before .before .befo
 returns : tie.Need-returns
 returns c =
     let s = c .before .before .before .before .before .before .before .before .before .before in
-    decided-on (s .pre .0) (s .args .me) (s .args .to) (s .pre .1) (s .args .word) (c .before .before .before .before .before .before .before .before .if1 .taken) (c .before .before .before .before .before .before .discard-notice .ensures) (c .before .before .wake .ensures)
+    decided-on (s .pre .0) (s .args .me) (s .args .to) (s .pre .1) (s .args .word)
+    (c .before .before .before .before .before .before .before .before .if1 .taken)
+    (c .before .before .before .before .before .before .discard-notice .ensures) (c .before .before .wake .ensures)
 
 same-length-2 : tie.Need-same-length-2
 same-length-2 c = c .before .m3 .given
@@ -33,7 +35,8 @@ same-length-2 c = c .before .m3 .given
 returns-2 : tie.Need-returns-2
 returns-2 c =
     let s = c .before .before .before .before .before .before in
-    in-words (decided-over (tables (s .args .m .now)) (s .args .me) (s .args .to) (s .args .word) (c .before .before .before .before .if1 .left)) (c .before .before .end .ensures)
+    in-words (decided-over (tables (s .args .m .now)) (s .args .me) (s .args .to) (s .args .word)
+    (c .before .before .before .before .if1 .left)) (c .before .before .end .ensures)
 
 pub decide-spec : {M : Type 1} → statement M
 decide-spec = tie.close (tie.spec discard-notice-requires wake-requires end-requires same-length returns same-length-2 returns-2)

@@ -13,7 +13,12 @@ request-requires : tie.Need-request-requires
 request-requires c κs = rw (← c .before .before .argument-rule .ensures, ← c .before .meets .ensures) (c .if1 .taken)
 
 returns : tie.Need-returns
-returns c = rw (← c .before .before .before .argument-rule .ensures, ← c .before .before .meets .ensures, c .before .if1 .taken, c .request .ensures)
+returns c = rw (
+  ← c .before .before .before .argument-rule .ensures,
+  ← c .before .before .meets .ensures,
+  c .before .if1 .taken,
+  c .request .ensures,
+)
 
 returns-2 : tie.Need-returns-2
 returns-2 c = rw (← c .before .before .argument-rule .ensures, ← c .before .meets .ensures, c .if1 .left)

@@ -9,10 +9,17 @@ use Rattle.stepping.proofs.decode.decode.Statement.{statement}
 use Rattle.stepping.proofs.decode.decode.Tie as tie
 
 -- what is known once tag and length are read
-head : (w : tie.After-wide2) → Head (w .before .before .before .before .before .before .before .before .before .before .args .s .now) (w .before .before .before .before .before .before .tag-facts .result) (w .before .before .wide .result * 256 + w .wide2 .result)
+head : (w : tie.After-wide2) → Head (w .before .before .before .before .before .before .before .before .before .before .args .s .now)
+    (w .before .before .before .before .before .before .tag-facts .result) (w .before .before .wide .result * 256 + w .wide2 .result)
 head w =
     let t = w .before .before .before .before .before .before in
-    record { bytes = t .before .before .before .shared-slice-known .given; long = t .before .before .if1 .left; says = t .tag-facts .ensures; known = not-false _ (w .before .before .before .before .if2 .left); gives = rw (w .before .before .wide .ensures .0, w .wide2 .ensures .0) }
+    record {
+      bytes = t .before .before .before .shared-slice-known .given;
+      long = t .before .before .if1 .left;
+      says = t .tag-facts .ensures;
+      known = not-false _ (w .before .before .before .before .if2 .left);
+      gives = rw (w .before .before .wide .ensures .0, w .wide2 .ensures .0);
+    }
 
 returns : tie.Need-returns
 returns c = sym (too-short (c .before .before .args .s .now) (c .if1 .taken))
@@ -26,7 +33,8 @@ tag-facts-requires c κs = search needs
 returns-2 : tie.Need-returns-2
 returns-2 c =
     let t = c .before .before in
-    sym (unknown (t .before .before .before .before .args .s .now) (t .before .before .before .shared-slice-known .given) (t .before .before .if1 .left) (t .tag-facts .result) (t .tag-facts .ensures) (not-true _ (c .if2 .taken)))
+    sym (unknown (t .before .before .before .before .args .s .now) (t .before .before .before .shared-slice-known .given)
+    (t .before .before .if1 .left) (t .tag-facts .result) (t .tag-facts .ensures) (not-true _ (c .if2 .taken)))
 
 shared-slice-read-wide : tie.Need-shared-slice-read-wide
 shared-slice-read-wide c = search needs
@@ -67,7 +75,8 @@ meaning-requires c κs =
     rw (← h .says) (h .known, omega (arith, c .before .if3 .left, c .if4 .left))
 
 returns-5 : tie.Need-returns-5
-returns-5 c = c .meaning .ensures ∙ sym (whole (head (c .before .before .before .before)) (c .before .before .if3 .left) (c .before .if4 .left))
+returns-5 c =
+    c .meaning .ensures ∙ sym (whole (head (c .before .before .before .before)) (c .before .before .if3 .left) (c .before .if4 .left))
 
 pub decode-spec : {M : Type 1} → statement M
 decode-spec =

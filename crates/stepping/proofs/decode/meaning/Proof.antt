@@ -15,7 +15,8 @@ sized s = size (s .args .tag) (s .args .s .now) (s .pre .1)
 
 -- in the last arm
 last : (m : tie.At-match-rest) → m .before .before .args .tag ≡ 21
-last m = last-tag (m .before .before .args .tag) (m .before .before .pre .0) (m .match .rest .0 .0 .0 .0 .1) (m .match .rest .0 .0 .0 .1) (m .match .rest .0 .0 .1) (m .match .rest .0 .1) (m .match .rest .1)
+last m = last-tag (m .before .before .args .tag) (m .before .before .pre .0) (m .match .rest .0 .0 .0 .0 .1) (m .match .rest .0 .0 .0 .1)
+    (m .match .rest .0 .0 .1) (m .match .rest .0 .1) (m .match .rest .1)
 
 shared-slice-read-t5 : tie.Need-shared-slice-read-t5
 unfolding facts-of facts-in
@@ -66,22 +67,27 @@ interrupt-requires : tie.Need-interrupt-requires
 interrupt-requires c κs = search needs
 
 returns : tie.Need-returns
-returns c = let s = c .before .before .before .before in cc (means-send (s .args .tag) (s .args .s .now) (s .pre .1) (c .before .before .match .keys1))
+returns c = let s = c .before .before .before .before in
+    cc (means-send (s .args .tag) (s .args .s .now) (s .pre .1) (c .before .before .match .keys1))
 
 returns-2 : tie.Need-returns-2
-returns-2 c = let s = c .before .before .before .before in cc (means-receive (s .args .tag) (s .args .s .now) (s .pre .1) (c .before .before .match .keys2))
+returns-2 c = let s = c .before .before .before .before in
+    cc (means-receive (s .args .tag) (s .args .s .now) (s .pre .1) (c .before .before .match .keys2))
 
 returns-3 : tie.Need-returns-3
-returns-3 c = let s = c .before .before .before .before .before in cc (means-request (s .args .tag) (s .args .s .now) (s .pre .1) (c .before .before .before .match .keys3))
+returns-3 c = let s = c .before .before .before .before .before in
+    cc (means-request (s .args .tag) (s .args .s .now) (s .pre .1) (c .before .before .before .match .keys3))
 
 returns-4 : tie.Need-returns-4
-returns-4 c = let s = c .before .before .before .before .before in cc (means-trap (s .args .tag) (s .args .s .now) (s .pre .1) (c .before .before .before .match .keys4))
+returns-4 c = let s = c .before .before .before .before .before in
+    cc (means-trap (s .args .tag) (s .args .s .now) (s .pre .1) (c .before .before .before .match .keys4))
 
 returns-5 : tie.Need-returns-5
 returns-5 c = let s = c .before .before in cc (means-tick (s .args .tag) (s .args .s .now) (s .pre .1) (c .match .keys5))
 
 returns-6 : tie.Need-returns-6
-returns-6 c = let s = c .before .before .before .before .before in cc (means-interrupt (s .args .tag) (s .args .s .now) (s .pre .1) (last (c .before .before .before)))
+returns-6 c = let s = c .before .before .before .before .before in
+    cc (means-interrupt (s .args .tag) (s .args .s .now) (s .pre .1) (last (c .before .before .before)))
 
 pub meaning-spec : {M : Type 1} → statement M
 meaning-spec =

@@ -44,7 +44,9 @@ returns-9 : tie.Need-returns-9
 unfolding request-of asked-in
 returns-9 c =
     let s = c .before in
-    rw (last-service (s .args .service) (s .args .argument) (s .pre) (c .match .rest .0 .0 .0 .0 .0 .0 .0 .1) (c .match .rest .0 .0 .0 .0 .0 .0 .1) (c .match .rest .0 .0 .0 .0 .0 .1) (c .match .rest .0 .0 .0 .0 .1) (c .match .rest .0 .0 .0 .1) (c .match .rest .0 .0 .1) (c .match .rest .0 .1) (c .match .rest .1))
+    rw (last-service (s .args .service) (s .args .argument) (s .pre) (c .match .rest .0 .0 .0 .0 .0 .0 .0 .1)
+    (c .match .rest .0 .0 .0 .0 .0 .0 .1) (c .match .rest .0 .0 .0 .0 .0 .1) (c .match .rest .0 .0 .0 .0 .1) (c .match .rest .0 .0 .0 .1)
+    (c .match .rest .0 .0 .1) (c .match .rest .0 .1) (c .match .rest .1))
 
 pub request-spec : {M : Type 1} → statement M
 request-spec =

@@ -56,7 +56,8 @@ add-result : tie.Need-add-result
 add-result c = search needs
 
 returns : tie.Need-returns
-returns c = let s = c .before .before .before .before .before .before .before .before .before in cc (four-at (s .args .s .now) (s .args .at) (s .pre))
+returns c = let s = c .before .before .before .before .before .before .before .before .before in
+    cc (four-at (s .args .s .now) (s .args .at) (s .pre))
 
 pub word-at-spec : {M : Type 1} → statement M
 word-at-spec =

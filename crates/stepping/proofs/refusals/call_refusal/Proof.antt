@@ -75,11 +75,19 @@ returns-4 c = rw (c .before .before .before .c2 .given .1, sym (c .before .wants
 
 returns-5 : tie.Need-returns-5
 unfolding first-of call-rules
-returns-5 c = rw (c .before .before .before .enum-told .given .1, ne-eqb _ _ (c .before .before .if2 .left), sym (c .before .threads-full .ensures) ∙ c .if3 .taken)
+returns-5 c = rw (
+  c .before .before .before .enum-told .given .1,
+  ne-eqb _ _ (c .before .before .if2 .left),
+  sym (c .before .threads-full .ensures) ∙ c .if3 .taken,
+)
 
 returns-6 : tie.Need-returns-6
 unfolding first-of call-rules
-returns-6 c = rw (c .before .before .before .enum-told .given .1, ne-eqb _ _ (c .before .before .if2 .left), sym (c .before .threads-full .ensures) ∙ c .if3 .left)
+returns-6 c = rw (
+  c .before .before .before .enum-told .given .1,
+  ne-eqb _ _ (c .before .before .if2 .left),
+  sym (c .before .threads-full .ensures) ∙ c .if3 .left,
+)
 
 returns-7 : tie.Need-returns-7
 unfolding first-of call-rules

@@ -13,13 +13,15 @@ returns : tie.Need-returns
 unfolding first-of call-rules
 returns c =
     let s = c .before .before .before in
-    rw (nobody-found (waits-for (s .args .d)) (tables (s .args .m .now) .threads) (s .pre .inv .low) _ (c .before .waiter .ensures) (c .if1 .taken))
+    rw (nobody-found (waits-for (s .args .d)) (tables (s .args .m .now) .threads) (s .pre .inv .low) _ (c .before .waiter .ensures)
+    (c .if1 .taken))
 
 returns-2 : tie.Need-returns-2
 unfolding first-of call-rules
 returns-2 c =
     let s = c .before .before .before in
-    rw (somebody-found (waits-for (s .args .d)) (tables (s .args .m .now) .threads) (s .pre .inv .low) _ (c .before .waiter .ensures) (c .if1 .left))
+    rw (somebody-found (waits-for (s .args .d)) (tables (s .args .m .now) .threads) (s .pre .inv .low) _ (c .before .waiter .ensures)
+    (c .if1 .left))
 
 pub device-refusal-spec : {M : Type 1} → statement M
 device-refusal-spec = tie.close (tie.spec waiter-requires returns returns-2)

@@ -61,7 +61,8 @@ returns-4 : tie.Need-returns-4
 unfolding refusal first-of is-malformed needs-runner own-rules
 returns-4 c =
     let r = c .before .before .before .before in
-    let k = runs-now (tables (r .before .before .before .before .before .before .before .before .args .m .now)) _ _ (r .runner .ensures) (c .before .before .r .given .1) in
+    let k = runs-now (tables (r .before .before .before .before .before .before .before .before .args .m .now)) _ _ (r .runner .ensures)
+    (c .before .before .r .given .1) in
     rw (not-over (r .before .before .before .before), r .before .before .e .given .1, k .0, k .1) (c .call-refusal .ensures)
 
 returns-5 : tie.Need-returns-5

@@ -28,7 +28,8 @@ serve-requires : tie.Need-serve-requires
 serve-requires c κs =
     let s = c .before .before .before .before .before .before .before .before .before .before in
     let r = c .before .before .before .before in
-    let k = called-by (limits (s .args .m .now)) (tables (s .args .m .now)) _ (r .before .before .before .e .given .1) (s .pre .1) (r .runner .ensures) _ _ (c .before .before .r .given .1) (s .pre .2) in
+    let k = called-by (limits (s .args .m .now)) (tables (s .args .m .now)) _ (r .before .before .before .e .given .1) (s .pre .1)
+    (r .runner .ensures) _ _ (c .before .before .r .given .1) (s .pre .2) in
     (s .pre .0, k .0, k .1, k .2)
 
 enum-told-3 : tie.Need-enum-told-3
@@ -58,7 +59,8 @@ returns-2 : tie.Need-returns-2
 returns-2 c =
     let s = c .before .before .before .before .before .before .before .before in
     let r = c .before .before in
-    absurd (never-alone (limits (s .args .m .now)) (tables (s .args .m .now)) _ (r .before .before .before .e .given .1) (s .pre .1) (r .runner .ensures) (c .enum-told2 .given .1))
+    absurd (never-alone (limits (s .args .m .now)) (tables (s .args .m .now)) _ (r .before .before .before .e .given .1) (s .pre .1)
+    (r .runner .ensures) (c .enum-told2 .given .1))
 
 same-length-2 : tie.Need-same-length-2
 same-length-2 c = c .before .m .given
@@ -67,7 +69,11 @@ returns-3 : tie.Need-returns-3
 unfolding act
 returns-3 c =
     let r = c .before .before .before .before .before .before .before in
-    rw (r .before .before .before .e .given .1, runs-now (tables (r .before .before .before .before .before .before .args .m .now)) _ _ (r .runner .ensures) (c .before .before .before .before .before .r .given .1) .1) (c .before .before .serve .ensures)
+    rw (
+      r .before .before .before .e .given .1,
+      runs-now (tables (r .before .before .before .before .before .before .args .m .now)) _ _
+          (r .runner .ensures) (c .before .before .before .before .before .r .given .1) .1,
+    ) (c .before .before .serve .ensures)
 
 same-length-3 : tie.Need-same-length-3
 same-length-3 c = c .before .m2 .given

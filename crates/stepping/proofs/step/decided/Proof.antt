@@ -16,7 +16,12 @@ runner-code-requires : tie.Need-runner-code-requires
 runner-code-requires c κs = search needs
 
 returns : tie.Need-returns
-returns c = rw (c .before .before .status-code .ensures, c .before .before .before .status .ensures, c .runner-code .ensures, c .before .runner .ensures)
+returns c = rw (
+  c .before .before .status-code .ensures,
+  c .before .before .before .status .ensures,
+  c .runner-code .ensures,
+  c .before .runner .ensures,
+)
 
 pub decided-spec : {M : Type 1} → statement M
 decided-spec = tie.close (tie.spec status-requires status-code-requires runner-requires runner-code-requires returns)

@@ -30,24 +30,36 @@ enum-told c = search needs
 
 create-brother-requires : tie.Need-create-brother-requires
 create-brother-requires c κs =
-    let s = c .before .before .before .before in
-    (holds (s .pre .0), names-left (s .args .m .now) (s .pre .0 .holding .shaped), brother-room (s .pre .0 .ruled) _ _ (s .pre .2) (c .before .enum-told .given .1))
+    let s = c .before .before .before .before in (
+      holds (s .pre .0),
+      names-left (s .args .m .now) (s .pre .0 .holding .shaped),
+      brother-room (s .pre .0 .ruled) _ _ (s .pre .2)
+          (c .before .enum-told .given .1),
+    )
 
 enum-told-2 : tie.Need-enum-told-2
 enum-told-2 c = search needs
 
 create-son-requires : tie.Need-create-son-requires
 create-son-requires c κs =
-    let s = c .before .before .before .before in
-    (holds (s .pre .0), names-left (s .args .m .now) (s .pre .0 .holding .shaped), son-room (s .pre .0 .ruled) _ _ (s .pre .2) (c .before .enum-told2 .given .1))
+    let s = c .before .before .before .before in (
+      holds (s .pre .0),
+      names-left (s .args .m .now) (s .pre .0 .holding .shaped),
+      son-room (s .pre .0 .ruled) _ _ (s .pre .2)
+          (c .before .enum-told2 .given .1),
+    )
 
 enum-known-c-3 : tie.Need-enum-known-c-3
 enum-known-c-3 c = search needs
 
 terminate-requires : tie.Need-terminate-requires
 terminate-requires c κs =
-    let s = c .before .before .before .before .before in
-    (holds (s .pre .0), caller-lives (s .pre .0 .ruled) _ (s .pre .1), ends-somebody (s .pre .0 .ruled) _ _ (s .pre .2) _ (c .before .before .c3 .given .1))
+    let s = c .before .before .before .before .before in (
+      holds (s .pre .0),
+      caller-lives (s .pre .0 .ruled) _ (s .pre .1),
+      ends-somebody (s .pre .0 .ruled) _ _ (s .pre .2) _
+          (c .before .before .c3 .given .1),
+    )
 
 enum-known-c-4 : tie.Need-enum-known-c-4
 enum-known-c-4 c = search needs
@@ -136,7 +148,8 @@ returns-7 : tie.Need-returns-7
 unfolding serve
 returns-7 c =
     let s = c .before .before .before .before .before in
-    rw (c .before .before .enum-told3 .given .1) (and-hands (as-it-was (s .pre .0 .holding)) (ap (λ (a : Answer). tables (s .args .m .now) handing a) (c .get-cpu-time .ensures)))
+    rw (c .before .before .enum-told3 .given .1)
+    (and-hands (as-it-was (s .pre .0 .holding)) (ap (λ (a : Answer). tables (s .args .m .now) handing a) (c .get-cpu-time .ensures)))
 
 same-length-8 : tie.Need-same-length-8
 same-length-8 c = c .before .m7 .given

@@ -15,13 +15,18 @@ refusal-requires c κs = holds (c .before .before .before .before .pre)
 
 act-requires : tie.Need-act-requires
 act-requires c κs =
-    let r = c .before .before in
-    (r .before .before .before .before .before .pre, sym (r .refusal .ensures) ∙ c .before .if1 .taken, rw (r .before .before .decode .ensures) (decode-proper _))
+    let r = c .before .before in (
+      r .before .before .before .before .before .pre,
+      sym (r .refusal .ensures)
+          ∙ c .before .if1 .taken,
+      rw (r .before .before .decode .ensures) (decode-proper _),
+    )
 
 dispatch-requires : tie.Need-dispatch-requires
 dispatch-requires c κs =
     let i = c .before .before .before .before .before in
-    acted _ (i .before .before .before .before .before .before .pre) (sym (i .before .refusal .ensures) ∙ i .if1 .taken) (c .before .before .before .act .ensures)
+    acted _ (i .before .before .before .before .before .before .pre) (sym (i .before .refusal .ensures) ∙ i .if1 .taken)
+    (c .before .before .before .act .ensures)
 
 decided-requires : tie.Need-decided-requires
 decided-requires c κs = c .before .before .before .dispatch .ensures .holding .shaped
@@ -35,13 +40,17 @@ same-length c = c .before .before .before .m2 .given ∙ c .before .before .befo
 returns : tie.Need-returns
 returns c =
     let i = c .before .before .before .before .before .before .before .before .before .before in
-    accepted (i .before .before .before .before .before .before .pre) _ _ (i .before .before .before .decode .ensures) _ (i .before .refusal .ensures) _ (i .if1 .taken) (c .before .before .before .before .before .before .before .before .act .ensures) (c .before .before .before .before .dispatch .ensures) (c .decided .ensures)
+    accepted (i .before .before .before .before .before .before .pre) _ _ (i .before .before .before .decode .ensures) _
+    (i .before .refusal .ensures) _ (i .if1 .taken) (c .before .before .before .before .before .before .before .before .act .ensures)
+    (c .before .before .before .before .dispatch .ensures) (c .decided .ensures)
 
 same-length-2 : tie.Need-same-length-2
 same-length-2 c = refl
 
 returns-2 : tie.Need-returns-2
-returns-2 c = refused (c .before .before .before .before .before .before .before .before .pre) _ _ (c .before .before .before .before .before .decode .ensures) _ (c .before .before .before .refusal .ensures) _ (c .before .before .if1 .left) (c .decided2 .ensures)
+returns-2 c = refused (c .before .before .before .before .before .before .before .before .pre) _ _
+    (c .before .before .before .before .before .decode .ensures) _ (c .before .before .before .refusal .ensures) _
+    (c .before .before .if1 .left) (c .decided2 .ensures)
 
 pub step-spec : {M : Type 1} → statement M
 step-spec =

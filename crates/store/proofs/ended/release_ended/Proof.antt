@@ -14,7 +14,13 @@ use Rattle.store.proofs.ended.release_ended.Tie as tie
 
 receivers-requires : tie.Need-receivers-requires
 unfolding limits tables Shaped found
-receivers-requires c κs = (c .before .before .pre .0 .holding .shaped .roomy, c .before .before .pre .0 .low, c .before .before .pre .0 .holding .shaped .threads, omega (arith, c .before .before .pre .1, ready-length (c .before .before .args .m .now) (c .before .before .pre .0 .holding .shaped)), c .before .before .pre .2)
+receivers-requires c κs = (
+  c .before .before .pre .0 .holding .shaped .roomy,
+  c .before .before .pre .0 .low,
+  c .before .before .pre .0 .holding .shaped .threads,
+  omega (arith, c .before .before .pre .1, ready-length (c .before .before .args .m .now) (c .before .before .pre .0 .holding .shaped)),
+  c .before .before .pre .2,
+)
 
 same-length : tie.Need-same-length
 same-length c = search needs
@@ -22,7 +28,10 @@ same-length c = search needs
 returns : tie.Need-returns
 unfolding tables found release wake-those
 returns c = leaves (woken (c .before .before .before .before .before .pre .0 .holding .shaped) (c .before .before .receivers .ensures))
-    (rising-where (tables (c .before .before .before .before .before .args .m .now) .threads) (c .before .before .before .before .before .pre .0 .holding .rising) (λ t. misses (found (c .before .before .before .before .before .args .m .now)) (t .state)) (λ t. in-state Ready (told-gone (t .state)) t) (λ t. refl))
+    (rising-where (tables (c .before .before .before .before .before .args .m .now) .threads)
+    (c .before .before .before .before .before .pre .0 .holding .rising)
+    (λ t. misses (found (c .before .before .before .before .before .args .m .now)) (t .state))
+    (λ t. in-state Ready (told-gone (t .state)) t) (λ t. refl))
 
 pub release-ended-spec : {M : Type 1} → statement M
 release-ended-spec = tie.close (tie.spec receivers-requires same-length returns)

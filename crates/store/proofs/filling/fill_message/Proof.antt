@@ -15,23 +15,43 @@ letters-requires c κs = roomy (c .before .before .args .m .now) (c .before .bef
 put-message-requires : tie.Need-put-message-requires
 unfolding limits
 put-message-requires c κs =
-    let s = c .before .before .before .before in
-    (roomy (s .args .m .now) (s .pre .0), omega (arith, c .before .letters .ensures, s .pre .1, messages-length (s .args .m .now) (s .pre .0)))
+    let s = c .before .before .before .before in (
+      roomy (s .args .m .now) (s .pre .0),
+      omega (arith, c .before .letters .ensures, s .pre .1, messages-length (s .args .m .now) (s .pre .0)),
+    )
 
 add-set-letters : tie.Need-add-set-letters
 unfolding limits Shaped
 add-set-letters c =
     let at-letters = c .before .before .before .before .before in
     let s = at-letters .before .before .before in
-    omega (arith, at-letters .letters .ensures, s .pre .0 .roomy .low, s .pre .0 .roomy .few, s .pre .1, messages-length (s .args .m .now) (s .pre .0))
+    omega (
+      arith,
+      at-letters .letters .ensures,
+      s .pre .0 .roomy .low,
+      s .pre .0 .roomy .few,
+      s .pre .1,
+      messages-length (s .args .m .now)
+          (s .pre .0),
+    )
 
 set-letters-requires : tie.Need-set-letters-requires
 unfolding limits Shaped
 set-letters-requires c κs =
     let at-put-message = c .before .before .before in
     let at-letters = at-put-message .before .before in
-    let s = at-letters .before .before .before in
-    (by Roomy (at-put-message .put-message .ensures) (s .pre .0 .roomy), omega (arith, at-letters .letters .ensures, s .pre .0 .roomy .low, s .pre .0 .roomy .few, s .pre .1, messages-length (s .args .m .now) (s .pre .0)))
+    let s = at-letters .before .before .before in (
+      by Roomy (at-put-message .put-message .ensures) (s .pre .0 .roomy),
+      omega (
+        arith,
+        at-letters .letters .ensures,
+        s .pre .0 .roomy .low,
+        s .pre .0 .roomy .few,
+        s .pre .1,
+        messages-length (s .args .m .now)
+            (s .pre .0),
+      ),
+    )
 
 same-length : tie.Need-same-length
 same-length c = search needs
@@ -42,7 +62,9 @@ returns c =
     let at-put-message = c .before .before .before .before .before .before in
     let at-letters = at-put-message .before .before in
     let s = at-letters .before .before .before in
-    message-behind _ (s .pre .0) (at-letters .letters .result) (s .args .x) (at-letters .letters .ensures) (omega (arith, at-letters .letters .ensures, s .pre .1, messages-length (s .args .m .now) (s .pre .0))) (at-put-message .put-message .ensures) (c .before .before .set-letters .ensures)
+    message-behind _ (s .pre .0) (at-letters .letters .result) (s .args .x) (at-letters .letters .ensures)
+    (omega (arith, at-letters .letters .ensures, s .pre .1, messages-length (s .args .m .now) (s .pre .0)))
+    (at-put-message .put-message .ensures) (c .before .before .set-letters .ensures)
 
 pub fill-message-spec : {M : Type 1} → statement M
 fill-message-spec = tie.close (tie.spec letters-requires put-message-requires add-set-letters set-letters-requires same-length returns)

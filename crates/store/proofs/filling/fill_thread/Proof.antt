@@ -30,8 +30,10 @@ unfolding limits Shaped
 set-count-requires c κs =
     let at-put-thread = c .before .before .before in
     let at-count = at-put-thread .before .before in
-    let s = at-count .before .before .before in
-    (by Roomy (at-put-thread .put-thread .ensures) (s .pre .0 .roomy), omega (arith, at-count .count .ensures, s .pre .0 .roomy .low, s .pre .1, threads-length (s .args .m .now) (s .pre .0)))
+    let s = at-count .before .before .before in (
+      by Roomy (at-put-thread .put-thread .ensures) (s .pre .0 .roomy),
+      omega (arith, at-count .count .ensures, s .pre .0 .roomy .low, s .pre .1, threads-length (s .args .m .now) (s .pre .0)),
+    )
 
 same-length : tie.Need-same-length
 same-length c = search needs
@@ -42,7 +44,9 @@ returns c =
     let at-put-thread = c .before .before .before .before .before .before in
     let at-count = at-put-thread .before .before in
     let s = at-count .before .before .before in
-    thread-behind _ (s .pre .0) (at-count .count .result) (s .args .t) (at-count .count .ensures) (omega (arith, at-count .count .ensures, s .pre .1, threads-length (s .args .m .now) (s .pre .0))) (at-put-thread .put-thread .ensures) (c .before .before .set-count .ensures)
+    thread-behind _ (s .pre .0) (at-count .count .result) (s .args .t) (at-count .count .ensures)
+    (omega (arith, at-count .count .ensures, s .pre .1, threads-length (s .args .m .now) (s .pre .0))) (at-put-thread .put-thread .ensures)
+    (c .before .before .set-count .ensures)
 
 pub fill-thread-spec : {M : Type 1} → statement M
 fill-thread-spec = tie.close (tie.spec count-requires put-thread-requires add-set-count set-count-requires same-length returns)

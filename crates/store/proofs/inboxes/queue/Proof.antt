@@ -13,8 +13,11 @@ seek-end-requires c κs = few-messages (c .before .before .args .m .now) (c .bef
 open-gap-requires : tie.Need-open-gap-requires
 unfolding limits
 open-gap-requires c κs =
-    let s = c .before .before .before .before in
-    (roomy (s .args .m .now) (s .pre .0 .shaped), end-inside (s .args .m .now) (s .pre .0) (s .args .x) _ (c .before .seek-end .ensures), omega (arith, s .pre .1, messages-length (s .args .m .now) (s .pre .0 .shaped)))
+    let s = c .before .before .before .before in (
+      roomy (s .args .m .now) (s .pre .0 .shaped),
+      end-inside (s .args .m .now) (s .pre .0) (s .args .x) _ (c .before .seek-end .ensures),
+      omega (arith, s .pre .1, messages-length (s .args .m .now) (s .pre .0 .shaped)),
+    )
 
 same-length : tie.Need-same-length
 same-length c = search needs

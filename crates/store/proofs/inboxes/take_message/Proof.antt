@@ -40,7 +40,9 @@ returns c =
     let at-letters = at-if1 .before in
     let at-seek-wanted = at-letters .before .before in
     let s = at-seek-wanted .before .before .before in
-    taken (s .args .m .now) (s .pre) (wanted-by (s .args .me) (s .args .w)) _ (at-seek-wanted .seek-wanted .ensures) _ (omega (arith, at-if1 .if1 .taken, at-letters .letters .ensures)) (at-message-at .message-at .ensures) (c .before .before .close-gap .ensures)
+    taken (s .args .m .now) (s .pre) (wanted-by (s .args .me) (s .args .w)) _ (at-seek-wanted .seek-wanted .ensures) _
+    (omega (arith, at-if1 .if1 .taken, at-letters .letters .ensures)) (at-message-at .message-at .ensures)
+    (c .before .before .close-gap .ensures)
 
 same-length-2 : tie.Need-same-length-2
 same-length-2 c = search needs
@@ -49,7 +51,9 @@ returns-2 : tie.Need-returns-2
 returns-2 c =
     let at-seek-wanted = c .before .before .before in
     let s = at-seek-wanted .before .before .before in
-    nothing-taken (s .args .m .now) (s .pre) (wanted-by (s .args .me) (s .args .w)) _ (at-seek-wanted .seek-wanted .ensures) (omega (arith, c .if1 .left, c .before .letters .ensures))
+    nothing-taken (s .args .m .now) (s .pre) (wanted-by (s .args .me) (s .args .w)) _ (at-seek-wanted .seek-wanted .ensures)
+    (omega (arith, c .if1 .left, c .before .letters .ensures))
 
 pub take-message-spec : {M : Type 1} → statement M
-take-message-spec = tie.close (tie.spec seek-wanted-requires letters-requires message-at-requires close-gap-requires same-length returns same-length-2 returns-2)
+take-message-spec = tie.close (tie.spec seek-wanted-requires letters-requires message-at-requires close-gap-requires same-length returns
+    same-length-2 returns-2)

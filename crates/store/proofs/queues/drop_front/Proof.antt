@@ -10,8 +10,11 @@ use Rattle.store.proofs.queues.drop_front.Tie as tie
 drop-front-requires : tie.Need-drop-front-requires
 unfolding Shaped
 drop-front-requires c κs =
-    let s = c .before .before in
-    (roomy (s .args .m .now) (s .pre .0 .shaped), omega (arith, s .pre .1, ready-length (s .args .m .now) (s .pre .0 .shaped)), s .pre .0 .shaped .ready)
+    let s = c .before .before in (
+      roomy (s .args .m .now) (s .pre .0 .shaped),
+      omega (arith, s .pre .1, ready-length (s .args .m .now) (s .pre .0 .shaped)),
+      s .pre .0 .shaped .ready,
+    )
 
 same-length : tie.Need-same-length
 same-length c = search needs

@@ -24,15 +24,20 @@ unfolding limits
 join-clock-requires c κs =
     let at-wake-clock = c .before .before .before in
     let s = at-wake-clock .before .before .before in
-    by (λ (r : Rows). Roomy r × (r .readies + r .clocks ≤ r .limits .threads)) (at-wake-clock .wake-clock .ensures .only)
-    (roomy (s .args .m .now) (s .pre .0 .shaped), omega (arith, s .pre .1, ready-length (s .args .m .now) (s .pre .0 .shaped), clock-length (s .args .m .now) (s .pre .0 .shaped)))
+    by (λ (r : Rows). Roomy r × (r .readies + r .clocks ≤ r .limits .threads)) (at-wake-clock .wake-clock .ensures .only) (
+      roomy (s .args .m .now) (s .pre .0 .shaped),
+      omega (arith, s .pre .1, ready-length (s .args .m .now) (s .pre .0 .shaped), clock-length (s .args .m .now) (s .pre .0 .shaped)),
+    )
 
 set-clocks-requires : tie.Need-set-clocks-requires
 set-clocks-requires c κs =
     let at-join-clock = c .before .before .before in
     let at-wake-clock = at-join-clock .before .before .before .before in
-    let s = at-wake-clock .before .before .before in
-    (by Roomy (at-join-clock .join-clock .ensures .only) (by Roomy (at-wake-clock .wake-clock .ensures .only) (roomy (s .args .m .now) (s .pre .0 .shaped))), omega arith)
+    let s = at-wake-clock .before .before .before in (
+      by Roomy (at-join-clock .join-clock .ensures .only)
+          (by Roomy (at-wake-clock .wake-clock .ensures .only) (roomy (s .args .m .now) (s .pre .0 .shaped))),
+      omega arith,
+    )
 
 same-length : tie.Need-same-length
 same-length c = search needs
@@ -46,8 +51,10 @@ returns c =
     let a = threads-are (s .pre .0 .shaped) (at-wake-clock .wake-clock .ensures) in
     let b = ready-is (a .shaped) (at-join-clock .join-clock .ensures) in
     leaves
-    (after (λ T. with-clock [] T) (after (λ T. with-ready (T .ready ++ T .clock) T) a b) (clock-none (b .shaped) (c .before .before .set-clocks .ensures)))
-    (rising-where (tables (s .args .m .now) .threads) (s .pre .0 .rising) (λ t. on-clock (t .state)) (in-state Ready (Result (s .args .beats))) (λ t. refl))
+    (after (λ T. with-clock [] T) (after (λ T. with-ready (T .ready ++ T .clock) T) a b)
+    (clock-none (b .shaped) (c .before .before .set-clocks .ensures)))
+    (rising-where (tables (s .args .m .now) .threads) (s .pre .0 .rising) (λ t. on-clock (t .state))
+    (in-state Ready (Result (s .args .beats))) (λ t. refl))
 
 pub wake-clock-spec : {M : Type 1} → statement M
 wake-clock-spec = tie.close (tie.spec wake-clock-requires join-clock-requires set-clocks-requires same-length returns)

@@ -12,8 +12,12 @@ find-place-requires c κs = can-place (c .before .before .args .m .now) (c .befo
 open-gap-requires : tie.Need-open-gap-requires
 unfolding limits
 open-gap-requires c κs =
-    let s = c .before .before .before .before in
-    (roomy (s .args .m .now) (s .pre .0 .shaped), place-inside (s .args .m .now) (s .pre .0) (s .args .t) _ (c .before .find-place .ensures), omega (arith, s .pre .1, threads-length (s .args .m .now) (s .pre .0 .shaped)))
+    let s = c .before .before .before .before in (
+      roomy (s .args .m .now) (s .pre .0 .shaped),
+      place-inside (s .args .m .now) (s .pre .0) (s .args .t) _
+          (c .before .find-place .ensures),
+      omega (arith, s .pre .1, threads-length (s .args .m .now) (s .pre .0 .shaped)),
+    )
 
 same-length : tie.Need-same-length
 same-length c = search needs
@@ -22,7 +26,8 @@ returns : tie.Need-returns
 returns c =
     let at-find-place = c .before .before .before .before in
     let s = at-find-place .before .before .before in
-    came-in (s .args .m .now) (s .pre .0) (s .args .t) _ (at-find-place .find-place .ensures) (s .pre .2) (c .before .before .open-gap .ensures)
+    came-in (s .args .m .now) (s .pre .0) (s .args .t) _ (at-find-place .find-place .ensures) (s .pre .2)
+    (c .before .before .open-gap .ensures)
 
 pub add-thread-spec : {M : Type 1} → statement M
 add-thread-spec = tie.close (tie.spec find-place-requires open-gap-requires same-length returns)

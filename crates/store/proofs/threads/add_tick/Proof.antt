@@ -49,9 +49,12 @@ returns c =
     let at-find = at-count .before .before in
     let s = at-find .before .before .before in
     let r = rows-of (s .args .m .now) in
-    changed (s .args .m .now) (s .pre) _ _ (at-find .find .ensures) (λ t. with-ticks (one-more (t .ticks)) t) (λ t. refl) (omega (arith, at-if1 .if1 .taken, at-count .count .ensures))
+    changed (s .args .m .now) (s .pre) _ _ (at-find .find .ensures) (λ t. with-ticks (one-more (t .ticks)) t) (λ t. refl)
+    (omega (arith, at-if1 .if1 .taken, at-count .count .ensures))
     (c .before .before .set-ticks .ensures
-    ∙ ap (λ (n : ℕ). put-threads (set (r .threads) (at-find .find .result) (with-ticks n (getD (r .threads) (at-find .find .result) no-thread))) r) (at-wrapping-add-u32 .wrapping-add-u32 .ensures ∙ ap (λ (n : ℕ). one-more n) (at-ticks-at .ticks-at .ensures)))
+    ∙ ap (λ (n : ℕ). put-threads (set (r .threads) (at-find .find .result)
+    (with-ticks n (getD (r .threads) (at-find .find .result) no-thread))) r) (at-wrapping-add-u32 .wrapping-add-u32 .ensures
+    ∙ ap (λ (n : ℕ). one-more n) (at-ticks-at .ticks-at .ensures)))
 
 same-length-2 : tie.Need-same-length-2
 same-length-2 c = search needs
@@ -60,7 +63,9 @@ returns-2 : tie.Need-returns-2
 returns-2 c =
     let at-find = c .before .before .before in
     let s = at-find .before .before .before in
-    unchanged (s .args .m .now) (s .pre) _ _ (at-find .find .ensures) (λ t. with-ticks (one-more (t .ticks)) t) (λ t. refl) (omega (arith, c .if1 .left, c .before .count .ensures))
+    unchanged (s .args .m .now) (s .pre) _ _ (at-find .find .ensures) (λ t. with-ticks (one-more (t .ticks)) t) (λ t. refl)
+    (omega (arith, c .if1 .left, c .before .count .ensures))
 
 pub add-tick-spec : {M : Type 1} → statement M
-add-tick-spec = tie.close (tie.spec find-requires count-requires ticks-at-requires wrapping-add-u32-requires set-ticks-requires same-length returns same-length-2 returns-2)
+add-tick-spec = tie.close (tie.spec find-requires count-requires ticks-at-requires wrapping-add-u32-requires set-ticks-requires same-length
+    returns same-length-2 returns-2)

@@ -20,7 +20,8 @@ returns : tie.Need-returns
 returns c =
     let at-find = c .before .before .before in
     let s = at-find .before .before in
-    c .answer-at .ensures ∙ of-found (s .args .m .now) (s .pre) _ _ (at-find .find .ensures) _ (λ t. t .answer) (omega (arith, c .before .if1 .taken, c .before .before .count .ensures))
+    c .answer-at .ensures ∙ of-found (s .args .m .now) (s .pre) _ _ (at-find .find .ensures) _ (λ t. t .answer)
+    (omega (arith, c .before .if1 .taken, c .before .before .count .ensures))
 
 returns-2 : tie.Need-returns-2
 returns-2 c =

@@ -15,7 +15,8 @@ count-requires c κs = roomy (c .before .before .args .m .now) (c .before .befor
 returns : tie.Need-returns
 returns c =
     let s = c .before .before .before in
-    ap (λ (n : ℕ). ltb (c .before .find .result) n) (c .count .ensures) ∙ live-found (s .args .m .now) (s .pre) _ _ (c .before .find .ensures)
+    ap (λ (n : ℕ). ltb (c .before .find .result) n) (c .count .ensures)
+    ∙ live-found (s .args .m .now) (s .pre) _ _ (c .before .find .ensures)
 
 pub is-live-spec : {M : Type 1} → statement M
 is-live-spec = tie.close (tie.spec find-requires count-requires returns)

@@ -21,7 +21,8 @@ returns : tie.Need-returns
 returns c =
     let at-find = c .before .before .before in
     let s = at-find .before .before in
-    c .manager-at .ensures ∙ of-found (s .args .m .now) (s .pre) _ _ (at-find .find .ensures) _ (λ t. manager (s .args .k) (t .managers)) (omega (arith, c .before .if1 .taken, c .before .before .count .ensures))
+    c .manager-at .ensures ∙ of-found (s .args .m .now) (s .pre) _ _ (at-find .find .ensures) _ (λ t. manager (s .args .k) (t .managers))
+    (omega (arith, c .before .if1 .taken, c .before .before .count .ensures))
 
 returns-2 : tie.Need-returns-2
 returns-2 c =

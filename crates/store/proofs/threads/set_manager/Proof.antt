@@ -31,7 +31,9 @@ returns c =
     let at-count = at-if1 .before in
     let at-find = at-count .before .before in
     let s = at-find .before .before .before in
-    changed (s .args .m .now) (s .pre) _ _ (at-find .find .ensures) (λ t. with-managers (set-entry (s .args .k) (s .args .g) (t .managers)) t) (λ t. refl) (omega (arith, at-if1 .if1 .taken, at-count .count .ensures)) (c .before .before .set-manager .ensures)
+    changed (s .args .m .now) (s .pre) _ _ (at-find .find .ensures)
+    (λ t. with-managers (set-entry (s .args .k) (s .args .g) (t .managers)) t) (λ t. refl)
+    (omega (arith, at-if1 .if1 .taken, at-count .count .ensures)) (c .before .before .set-manager .ensures)
 
 same-length-2 : tie.Need-same-length-2
 same-length-2 c = search needs
@@ -40,7 +42,9 @@ returns-2 : tie.Need-returns-2
 returns-2 c =
     let at-find = c .before .before .before in
     let s = at-find .before .before .before in
-    unchanged (s .args .m .now) (s .pre) _ _ (at-find .find .ensures) (λ t. with-managers (set-entry (s .args .k) (s .args .g) (t .managers)) t) (λ t. refl) (omega (arith, c .if1 .left, c .before .count .ensures))
+    unchanged (s .args .m .now) (s .pre) _ _ (at-find .find .ensures)
+    (λ t. with-managers (set-entry (s .args .k) (s .args .g) (t .managers)) t) (λ t. refl)
+    (omega (arith, c .if1 .left, c .before .count .ensures))
 
 pub set-manager-spec : {M : Type 1} → statement M
 set-manager-spec = tie.close (tie.spec find-requires count-requires set-manager-requires same-length returns same-length-2 returns-2)

@@ -31,7 +31,8 @@ hint-waiter-requires c κs =
     let at-if1 = at-turn .before .before in
     let at-count = at-if1 .before in
     let s = at-count .before .before .before .before .before in
-    can-hint (s .args .m .now) (s .pre .shaped) _ (in-state (s .args .s) (s .args .a)) (at-turn .turn .ensures) (omega (arith, at-if1 .if1 .taken, at-count .count .ensures))
+    can-hint (s .args .m .now) (s .pre .shaped) _ (in-state (s .args .s) (s .args .a)) (at-turn .turn .ensures)
+    (omega (arith, at-if1 .if1 .taken, at-count .count .ensures))
 
 same-length : tie.Need-same-length
 same-length c = search needs
@@ -43,7 +44,8 @@ returns c =
     let at-count = at-if1 .before in
     let at-find = at-count .before .before in
     let s = at-find .before .before .before in
-    changed-hinted (s .args .m .now) (s .pre) _ _ (at-find .find .ensures) (in-state (s .args .s) (s .args .a)) (λ t. refl) _ (omega (arith, at-if1 .if1 .taken, at-count .count .ensures)) (at-turn .turn .ensures) (c .before .before .hint-waiter .ensures)
+    changed-hinted (s .args .m .now) (s .pre) _ _ (at-find .find .ensures) (in-state (s .args .s) (s .args .a)) (λ t. refl) _
+    (omega (arith, at-if1 .if1 .taken, at-count .count .ensures)) (at-turn .turn .ensures) (c .before .before .hint-waiter .ensures)
 
 same-length-2 : tie.Need-same-length-2
 same-length-2 c = search needs
@@ -55,7 +57,8 @@ returns-2 c =
     let at-count = at-if1 .before in
     let at-find = at-count .before .before in
     let s = at-find .before .before .before in
-    changed (s .args .m .now) (s .pre) _ _ (at-find .find .ensures) (in-state (s .args .s) (s .args .a)) (λ t. refl) (omega (arith, at-if1 .if1 .taken, at-count .count .ensures)) (at-turn .turn .ensures)
+    changed (s .args .m .now) (s .pre) _ _ (at-find .find .ensures) (in-state (s .args .s) (s .args .a)) (λ t. refl)
+    (omega (arith, at-if1 .if1 .taken, at-count .count .ensures)) (at-turn .turn .ensures)
 
 same-length-3 : tie.Need-same-length-3
 same-length-3 c = search needs
@@ -64,7 +67,9 @@ returns-3 : tie.Need-returns-3
 returns-3 c =
     let at-find = c .before .before .before in
     let s = at-find .before .before .before in
-    unchanged (s .args .m .now) (s .pre) _ _ (at-find .find .ensures) (in-state (s .args .s) (s .args .a)) (λ t. refl) (omega (arith, c .if1 .left, c .before .count .ensures))
+    unchanged (s .args .m .now) (s .pre) _ _ (at-find .find .ensures) (in-state (s .args .s) (s .args .a)) (λ t. refl)
+    (omega (arith, c .if1 .left, c .before .count .ensures))
 
 pub turn-spec : {M : Type 1} → statement M
-turn-spec = tie.close (tie.spec find-requires count-requires turn-requires wakes-from-outside-requires hint-waiter-requires same-length returns same-length-2 returns-2 same-length-3 returns-3)
+turn-spec = tie.close (tie.spec find-requires count-requires turn-requires wakes-from-outside-requires hint-waiter-requires same-length
+    returns same-length-2 returns-2 same-length-3 returns-3)

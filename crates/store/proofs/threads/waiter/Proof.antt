@@ -21,12 +21,14 @@ returns : tie.Need-returns
 returns c =
     let at-find-waiter = c .before .before .before in
     let s = at-find-waiter .before .before in
-    c .name-at .ensures ∙ name-found (s .args .m .now) (s .pre) (waits-for (s .args .d)) _ (at-find-waiter .find-waiter .ensures) (omega (arith, c .before .if1 .taken, c .before .before .count .ensures))
+    c .name-at .ensures ∙ name-found (s .args .m .now) (s .pre) (waits-for (s .args .d)) _ (at-find-waiter .find-waiter .ensures)
+    (omega (arith, c .before .if1 .taken, c .before .before .count .ensures))
 
 returns-2 : tie.Need-returns-2
 returns-2 c =
     let s = c .before .before .before .before in
-    name-nowhere (s .args .m .now) (s .pre) (waits-for (s .args .d)) _ (c .before .before .find-waiter .ensures) (omega (arith, c .if1 .left, c .before .count .ensures))
+    name-nowhere (s .args .m .now) (s .pre) (waits-for (s .args .d)) _ (c .before .before .find-waiter .ensures)
+    (omega (arith, c .if1 .left, c .before .count .ensures))
 
 pub waiter-spec : {M : Type 1} → statement M
 waiter-spec = tie.close (tie.spec find-waiter-requires count-requires name-at-requires returns returns-2)

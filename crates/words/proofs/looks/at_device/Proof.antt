@@ -21,7 +21,8 @@ at-device-requires : tie.Need-at-device-requires
 at-device-requires c κs = search needs
 
 returns-2 : tie.Need-returns-2
-returns-2 c = sym (no-device (c .before .before .args .device) (c .before .before .args .s) (c .before .before .args .d) (c .if2 .taken) (c .before .if1 .left))
+returns-2 c = sym (no-device (c .before .before .args .device) (c .before .before .args .s) (c .before .before .args .d) (c .if2 .taken)
+    (c .before .if1 .left))
 
 returns-3 : tie.Need-returns-3
 returns-3 c = c .at-device .ensures ∙ ap (at-device (c .before .before .before .before .args .device)) (c .before .state-from .ensures)

@@ -42,11 +42,13 @@ returns-2 : tie.Need-returns-2
 returns-2 c = let s = c .before .before .before .before .before .before .before .before in
     c .is-set-to .ensures
     ∙ ap (λ (g : Manager). by-manager false (λ k. s .args .n == k) g) (c .before .manager-from .ensures)
-    ∙ sym (trapped-by (s .args .n) (s .args .w .now) (c .before .before .before .before .before .if1 .left) (c .before .before .before .if2 .taken))
+    ∙ sym (trapped-by (s .args .n) (s .args .w .now) (c .before .before .before .before .before .if1 .left)
+    (c .before .before .before .if2 .taken))
 
 returns-3 : tie.Need-returns-3
 returns-3 c = let s = c .before .before .before .before .before in
     sym (trapped-wrong (s .args .n) (s .args .w .now) (c .before .before .if1 .left) (c .if2 .left))
 
 pub awaits-spec : {M : Type 1} → statement M
-awaits-spec = tie.close (tie.spec shared-slice-read-if1 returns shared-slice-read-d cast-d add-manager-from mul-manager-from shared-slice-read-manager-from manager-from-requires is-set-to-requires returns-2 returns-3)
+awaits-spec = tie.close (tie.spec shared-slice-read-if1 returns shared-slice-read-d cast-d add-manager-from mul-manager-from
+    shared-slice-read-manager-from manager-from-requires is-set-to-requires returns-2 returns-3)

@@ -53,7 +53,14 @@ returns-9 c = rw (c .before .match .keys6, c .trapped-from .ensures)
 returns-10 : tie.Need-returns-10
 unfolding state-in
 returns-10 c = let m = c .match .rest in
-    rw (ne-eqb _ _ (m .0 .0 .0 .0 .0 .1), ne-eqb _ _ (m .0 .0 .0 .0 .1), ne-eqb _ _ (m .0 .0 .0 .1), ne-eqb _ _ (m .0 .0 .1), ne-eqb _ _ (m .0 .1), ne-eqb _ _ (m .1))
+    rw (
+      ne-eqb _ _ (m .0 .0 .0 .0 .0 .1),
+      ne-eqb _ _ (m .0 .0 .0 .0 .1),
+      ne-eqb _ _ (m .0 .0 .0 .1),
+      ne-eqb _ _ (m .0 .0 .1),
+      ne-eqb _ _ (m .0 .1),
+      ne-eqb _ _ (m .1),
+    )
 
 pub state-from-spec : {M : Type 1} → statement M
 state-from-spec =

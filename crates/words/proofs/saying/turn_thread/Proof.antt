@@ -31,7 +31,8 @@ same-length : tie.Need-same-length
 same-length c = search needs
 
 returns : tie.Need-returns
-returns c = turned-said (c .before .before .before .args .w .now) (c .before .before .before .args .s) (c .before .before .before .args .a) _ _ _ _ _ (c .before .before .before .pre) (c .before .state-words .ensures) (c .answer-words .ensures)
+returns c = turned-said (c .before .before .before .args .w .now) (c .before .before .before .args .s) (c .before .before .before .args .a)
+    _ _ _ _ _ (c .before .before .before .pre) (c .before .state-words .ensures) (c .answer-words .ensures)
 
 pub turn-thread-spec : {M : Type 1} → statement M
 turn-thread-spec =

@@ -23,7 +23,8 @@ same-length : tie.Need-same-length
 same-length c = search needs
 
 returns : tie.Need-returns
-returns c = message-said (c .before .before .before .args .w .now) _ _ (c .before .before .before .pre) (search needs) (c .sender-word .ensures .0) (c .sender-word .ensures .1)
+returns c = message-said (c .before .before .before .args .w .now) _ _ (c .before .before .before .pre) (search needs)
+    (c .sender-word .ensures .0) (c .sender-word .ensures .1)
 
 pub write-message-spec : {M : Type 1} → statement M
 write-message-spec =

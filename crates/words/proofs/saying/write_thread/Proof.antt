@@ -64,7 +64,12 @@ same-length : tie.Need-same-length
 same-length c = simp length-set
 
 returns : tie.Need-returns
-returns c = thread-said (c .before .before .before .before .before .before .before .before .before .args .w .now) (c .before .before .before .before .before .before .before .before .before .args .t) _ _ _ _ _ _ _ _ _ (c .before .before .before .before .before .before .before .before .before .pre) (search needs) (c .before .before .before .parent-word .ensures) (c .before .before .before .before .before .before .state-words .ensures) (c .before .before .manager-word .ensures) (c .before .manager-word2 .ensures) (c .manager-word3 .ensures) (c .before .before .before .before .before .answer-words .ensures)
+returns c = thread-said (c .before .before .before .before .before .before .before .before .before .args .w .now)
+    (c .before .before .before .before .before .before .before .before .before .args .t) _ _ _ _ _ _ _ _ _
+    (c .before .before .before .before .before .before .before .before .before .pre) (search needs)
+    (c .before .before .before .parent-word .ensures) (c .before .before .before .before .before .before .state-words .ensures)
+    (c .before .before .manager-word .ensures) (c .before .manager-word2 .ensures) (c .manager-word3 .ensures)
+    (c .before .before .before .before .before .answer-words .ensures)
 
 pub write-thread-spec : {M : Type 1} → statement M
 write-thread-spec =
