@@ -20,6 +20,7 @@ use Rattle.rules.specs.TableRules.{table-rules}
 use Rattle.rules.specs.Opened.{opened}
 use Rattle.rules.specs.Benches.{ask, ticks, sons}
 use Rattle.laws.specs.Words.{Nothing, Thread, Runner, NoRunner, Runs, Event, Malformed, ByRunner, Tick, Interrupt}
+use Rattle.laws.specs.Rest.{big}
 use Rattle.laws.specs.Wait.{tick-accepted, ticks-accepted, became-ready, served, served-by}
 use Rattle.laws.specs.Types.{here, Ruled}
 use Rattle.laws.specs.Calm.{is-tick}
@@ -170,7 +171,6 @@ ready-thread-waits-at-most-95 = ready-thread-waits small (omega arith) (omega ar
 
 -- The same for 64 threads and 128 blocks: 315.
 pub ready-thread-of-64-waits-at-most-315 :
-    let big : Limits = record { threads = 64; blocks = 128 } in
     (before : Input) (e : List ℕ) (after : Input) (n : ℕ) →
     became-ready big (run big start before) e n ≡ true →
     315 ≤ ticks-accepted big (step big (run big start before) e .tables) after →

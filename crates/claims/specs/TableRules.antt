@@ -1,0 +1,55 @@
+-- The table rules: they hold at a start, and every step keeps them.
+use Prim.Native.Nat.{ℕ, _≤_, _<_}
+use mathlib.Core.Path.{_≡_}
+use mathlib.Core.Bool.{true}
+use mathlib.Core.Logic.{_↔_}
+use mathlib.Core.List.{List}
+use Rattle.rules.specs.Numbers.{Limits, names}
+use Rattle.rules.specs.Tables.{Tables, named, start}
+use Rattle.rules.specs.TableRules.{table-rules, parents-right}
+use Rattle.rules.specs.Lists.{count}
+use Rattle.rules.specs.Step.{step}
+use Rattle.rules.specs.Runs.{Input, run}
+use Rattle.laws.specs.Types.{Ruled, Family, Inv, Steady, Fits}
+use Rattle.laws.proofs.Sound as sound
+use Rattle.laws.proofs.Descent as descent
+use Rattle.laws.proofs.Kept as kept
+use Rattle.laws.proofs.PlacesKept as places-kept
+use Rattle.laws.proofs.Steady as steady
+use Rattle.laws.proofs.Good as good
+
+-- The Boolean test `table-rules` and the rules as types (Types.antt) say the same, both ways.
+pub tested-ruled : (L : Limits) (T : Tables) → table-rules L T ≡ true → Ruled L T
+tested-ruled = sound.tested-ruled
+
+pub ruled-tested : {L : Limits} {T : Tables} → Ruled L T → table-rules L T ≡ true
+ruled-tested = sound.ruled-tested
+
+-- The test on parents holds exactly if every thread but 0 has a live parent that is nearer to the top.
+pub family-exactly : (T : Tables) → ((n : ℕ) → count (named n) (T .threads) ≤ 1) → (parents-right T ≡ true) ↔ Family (T .threads)
+family-exactly = descent.family-exactly
+
+-- The table rules hold at a start.
+pub rules-hold-at-the-start : (L : Limits) → 1 ≤ L .threads → table-rules L start ≡ true
+rules-hold-at-the-start = kept.rules-hold-at-the-start
+
+-- If they hold before a step, they hold after it, whatever the bytes.
+pub rules-are-kept : (L : Limits) (T : Tables) (bytes : List ℕ) → L .threads < names → table-rules L T ≡ true →
+    table-rules L (step L T bytes .tables) ≡ true
+rules-are-kept = kept.rules-are-kept
+
+-- They hold after any run from a start.
+pub rules-hold-in-runs : (L : Limits) (es : Input) → 1 ≤ L .threads → L .threads < names → table-rules L (run L start es) ≡ true
+rules-hold-in-runs = kept.rules-hold-in-runs
+
+-- Of these, by itself: state, runner and queues agree, each name once; names are below 254 and not too many.
+pub step-inv : {L : Limits} {T : Tables} (bytes : List ℕ) → L .threads < names → Inv L T → Inv L (step L T bytes .tables)
+step-inv = places-kept.step-inv
+
+-- Of these, by itself: a runner has 1 to 5 ticks left; without one nobody is ready; time is in range.
+pub step-steady : {L : Limits} {T : Tables} (bytes : List ℕ) → L .threads < names → Inv L T → Steady T → Steady (step L T bytes .tables)
+step-steady = steady.step-steady
+
+-- Of these, by itself: families, managers, wanted names, devices, answers, messages, notices, orders.
+pub step-good : {L : Limits} {T : Tables} (bytes : List ℕ) → L .threads < names → Inv L T → Fits L T → Fits L (step L T bytes .tables)
+step-good = good.step-good
