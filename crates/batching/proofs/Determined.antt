@@ -23,20 +23,13 @@ use Rattle.laws.specs.Batch.{needed}
 use Rattle.laws.proofs.Batch.{decisions-append, decisions-count, numbers-append, numbers-count, room-left, taken-twice}
 use Rattle.batching.proofs.Calling.{calls-leave, calls-decide, calls-keep}
 use Rattle.batching.specs.Batching.{SingleCalls, decided, numbers-after, all-refused, Served, Batches, BatchesValue}
+use Rattle.batching.specs.Runs.{SameResults}
 use Rattle.batching.specs.declared.Batched.{Batched}
 
 -- ---- determinacy
 
--- What two results of a batch agree in that runs the events es on m: the refusals n and k, every number of the buffers x and y; of the
--- memories a and b the tables and their dump, where m is valid, and every word, where no event is accepted.
-pub record Agree (m : List ℕ) (es : Input) (n k : ℕ) (x y a b : List ℕ) : Type 0 where
-  pub refusal : n ≡ k
-  pub numbers : x ≡ y
-  pub leaves : valid m ≡ true → (tables a ≡ tables b) × (dump (tables a) ≡ dump (tables b))
-  pub keeps : all-refused (decided m es) ≡ true → a ≡ b
-
 served-agree : {m bytes before a b x y : List ℕ} {n k : ℕ} → Served m bytes before a x n → Served m bytes before b y k
-    → Agree m (taken (length before) bytes .events) n k x y a b
+    → SameResults m (taken (length before) bytes .events) n k x y a b
 served-agree p o = record {
   refusal = determined (p .refusal) (o .refusal);
   numbers = determined (p .numbers) (o .numbers);
@@ -47,7 +40,7 @@ served-agree p o = record {
 -- m, s and before: what is lent. Two results that the promise allows agree so, and in the unread end, in its bytes and in where it stands.
 pub batch-determined : {m before a b x y : List ℕ} {s r q : RefT (List ℕ)} {n k : ℕ} → Batches m s before r a x n →
     Batches m s before q b y k
-    → Agree m (taken (length before) (now s) .events) n k x y a b × (now r ≡ now q) × (ptr r ≡ ptr q)
+    → SameResults m (taken (length before) (now s) .events) n k x y a b × (now r ≡ now q) × (ptr r ≡ ptr q)
 batch-determined {s = s} {r = r} {q = q} p o = (
   served-agree (p .served) (o .served),
   same,
@@ -60,7 +53,7 @@ batch-determined {s = s} {r = r} {q = q} p o = (
 -- By value: and in how many bytes are read.
 pub batch-value-determined : {t : Lent} {bytes before x y : List ℕ} {b c : Batched} → BatchesValue t bytes before x b →
     BatchesValue t bytes before y c
-    → Agree (t .words) (taken (length before) bytes .events) (b .refusal) (c .refusal) x y (b .tables .words) (c .tables .words)
+    → SameResults (t .words) (taken (length before) bytes .events) (b .refusal) (c .refusal) x y (b .tables .words) (c .tables .words)
     × (b .used ≡ c .used)
 batch-value-determined {bytes = bytes} {b = b} {c = c} p o = (
   served-agree (p .served) (o .served),

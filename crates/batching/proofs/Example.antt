@@ -9,25 +9,7 @@ use Rattle.rules.specs.Tables.{start}
 use Rattle.rules.specs.Opened.{opened}
 use Rattle.rules.specs.Benches.{P1}
 use Rattle.rules.specs.Batch.{numbers, Batched, batch}
-
--- what a batch tells: the refusal, the numbers, and the unread end
-pub record Told : Type 0 where
-  pub refusal : ℕ
-  pub numbers : List ℕ
-  pub unread : List ℕ
-
-abbrev told : Batched → Told
-told b = record { refusal = b .refusal; numbers = numbers (b .decisions); unread = b .unread }
-
--- tag 99 is none; and of a receive the name has not come yet
-abbrev malformed : List ℕ
-malformed = 99 ∷ 0 ∷ 1 ∷ 7 ∷ []
-
-abbrev cut-short : List ℕ
-cut-short = 0x11 ∷ 0 ∷ 1 ∷ []
-
-abbrev gathered : List ℕ
-gathered = each (λ f. f) (P1 .input) ++ (malformed ++ cut-short)
+use Rattle.batching.specs.Example.{told, cut-short, gathered}
 
 -- Room for nine decisions: the eight of the listing, then 2 for the malformed field; the cut one is handed back.
 pub listing-in-a-batch : told (batch small start 54 gathered)

@@ -27,16 +27,9 @@ use Rattle.laws.specs.Handed.{Cause}
 use Rattle.laws.proofs.Handed.{whatever-is-handed}
 use Rattle.laws.proofs.Batch.{decisions-append}
 use Rattle.store.specs.Store.{tables}
-use Rattle.lending.specs.Lent.{valid, Answered, Started}
+use Rattle.lending.specs.Lent.{valid}
 use Rattle.batching.specs.Batching.{decided, numbers-after, Served}
-
--- The memory after a start and these events, in single steps and in batches, by any results that the promises allow. A batch runs the
--- events that it takes.
-pub data Series : Input → List ℕ → Type 0 where
-  started : (m : List ℕ) → Started m → Series [] m
-  stepped : (es : Input) (m e m′ : List ℕ) (d : Decision) → Series es m → Answered m e m′ d → Series (es ++ (e ∷ [])) m′
-  batched : (es : Input) (m bytes before m′ after : List ℕ) (n : ℕ) → Series es m → Served m bytes before m′ after n
-      → Series (es ++ taken (length before) bytes .events) m′
+use Rattle.batching.specs.Runs.{Series, started, stepped, batched}
 
 -- It stands for the rules' run of those events.
 pub stands-for-the-run : {es : Input} {m : List ℕ} → Series es m → (valid m ≡ true) × (tables m ≡ run small start es)

@@ -1,1 +1,3 @@
 pub mod Batching
+pub mod Runs
+pub mod Example

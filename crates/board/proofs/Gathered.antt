@@ -2,25 +2,13 @@
 -- contracts say alone, are a series in the sense of crates/batching/proofs/Runs.antt. So the laws there speak of what these entries leave
 -- and tell.
 use Prim.Native.Nat.{ℕ}
-use mathlib.Core.List.{List, [], _∷_, _++_}
-use lib.ListN.{length}
-use denote.Ref.{RefT, now}
+use mathlib.Core.List.{List}
+use denote.Ref.{now}
 use Rattle.rules.specs.Runs.{Input}
-use Rattle.rules.specs.Batch.{taken}
-use Rattle.lending.specs.Lent.{Started}
-use Rattle.batching.specs.Batching.{Batches}
-use Rattle.batching.proofs.Runs as batched
-use Rattle.batching.proofs.Runs.{Series}
-use Rattle.board.specs.Board.{Steps}
-use Rattle.board.specs.declared.Report.{Report}
+use Rattle.batching.specs.Runs as batched
+use Rattle.batching.specs.Runs.{Series}
+use Rattle.board.specs.Gathered.{Calls, start, step, batch}
 use Rattle.board.proofs.Runs.{tells}
-
--- what is lent after these calls, and the events that they ran, by any results that the contracts allow
-pub data Calls : Input → List ℕ → Type 0 where
-  start : (m : List ℕ) → Started m → Calls [] m
-  step : (es : Input) (m e m′ : List ℕ) (r : Report) → Calls es m → Steps m e m′ r → Calls (es ++ (e ∷ [])) m′
-  batch : (es : Input) (m : List ℕ) (s : RefT (List ℕ)) (before : List ℕ) (r : RefT (List ℕ)) (m′ after : List ℕ) (n : ℕ) → Calls es m
-      → Batches m s before r m′ after n → Calls (es ++ taken (length before) (now s) .events) m′
 
 pub is-a-series : {es : Input} {m : List ℕ} → Calls es m → Series es m
 is-a-series (start m s) = batched.started m s

@@ -26,21 +26,15 @@ use Rattle.laws.specs.Outside.{from-outside, some-ready, outside}
 use Rattle.laws.proofs.Idle.{reported}
 use Rattle.laws.specs.Handed.{Cause}
 use Rattle.store.specs.Store.{tables}
-use Rattle.lending.specs.Lent.{valid, no-tables, Answered, Started}
+use Rattle.lending.specs.Lent.{valid, no-tables, Answered}
 use Rattle.lending.proofs.Runs as lent
-use Rattle.lending.proofs.Runs.{Series}
+use Rattle.lending.specs.Runs as series
+use Rattle.lending.specs.Runs.{Series}
 use Rattle.board.specs.Board.{report-of, Steps}
+use Rattle.board.specs.Runs.{line-of, answer-of, Calls, none, then, FromStart, ticks-told}
 use Rattle.board.specs.declared.Report.{Report}
 
 -- ---- what a report tells
-
--- "refusal, status, runner, kind, sender, word"
-abbrev pub line-of : Report → List ℕ
-line-of r = r .refusal ∷ r .status ∷ r .runner ∷ r .kind ∷ r .sender ∷ r .word ∷ []
-
--- the answer that it hands over
-abbrev pub answer-of : Report → Answer
-answer-of r = answer-from (r .kind) (r .sender) (r .word)
 
 told-answer : (a : Answer) → answer-from (answer-numbers a .kind) (answer-numbers a .sender) (answer-numbers a .word) ≡ a
 unfolding answer-numbers
@@ -88,34 +82,16 @@ tells {m} {e} {m′} {r} s = go (valid m) refl
 
 -- ---- calls, by any results that the contracts allow
 
--- calls of nucleus_step one after the other: the words before, the events, the reports, the words after
-pub data Calls : List ℕ → Input → List Report → List ℕ → Type 0 where
-  none : (m : List ℕ) → Calls m [] [] m
-  then : (m e m₁ : List ℕ) (r : Report) (es : Input) (rs : List Report) (m′ : List ℕ) → Steps m e m₁ r → Calls m₁ es rs m′ →
-      Calls m (e ∷ es) (r ∷ rs) m′
-
--- a call of nucleus_start, and those
-pub record FromStart (es : Input) (rs : List Report) (m : List ℕ) : Type 0 where
-  pub first : List ℕ
-  pub started : Started first
-  pub calls : Calls first es rs m
-
--- how many of these events are ticks whose report says that they are accepted
-unfoldable pub ticks-told : Input → List Report → ℕ
-ticks-told [] rs = 0
-ticks-told (e ∷ es) [] = 0
-ticks-told (e ∷ es) (r ∷ rs) = one-if (r .refusal == 0 && is-tick (decode e)) + ticks-told es rs
-
 -- A series goes on through calls.
 goes-on : {es : Input} {m : List ℕ} → Series es m → {fs : Input} {rs : List Report} {m′ : List ℕ} → Calls m fs rs m′ → Series (es ++ fs) m′
 goes-on {es} s (none m) = subst (λ (xs : Input). Series xs m) (sym (append-nil es)) s
 goes-on {es} s (then m e m₁ r fs rs m′ c cs) =
     subst (λ (xs : Input). Series xs m′) (append-assoc es (e ∷ []) fs)
-    (goes-on (lent.stepped es m e m₁ (tells c .decision) s (tells c .answered)) cs)
+    (goes-on (series.stepped es m e m₁ (tells c .decision) s (tells c .answered)) cs)
 
 -- Calls from a start are a series.
 pub is-a-series : {es : Input} {rs : List Report} {m : List ℕ} → FromStart es rs m → Series es m
-is-a-series f = goes-on (lent.started (f .first) (f .started)) (f .calls)
+is-a-series f = goes-on (series.started (f .first) (f .started)) (f .calls)
 
 -- On valid words the reports of calls are the lines of the rules' run, and tell its accepted ticks.
 lines-told : {m : List ℕ} → valid m ≡ true → {es : Input} {rs : List Report} {m′ : List ℕ} → Calls m es rs m′ →
@@ -144,7 +120,7 @@ module _ {es : Input} {rs : List Report} {m : List ℕ} (f : FromStart es rs m) 
     reported-by-the-rules = tells c .reports ∙ ap report-of (lent.decided-by-the-rules (is-a-series f) e m′ _ (tells c .answered))
 
     next : Series (es ++ (e ∷ [])) m′
-    next = lent.stepped es m e m′ (tells c .decision) (is-a-series f) (tells c .answered)
+    next = series.stepped es m e m′ (tells c .decision) (is-a-series f) (tells c .answered)
 
     -- A call that reports a refusal changes no word, and the run stays where it was.
     pub refused-changes-nothing : r .refusal ≢ 0 → (m′ ≡ m) × (run small start (es ++ (e ∷ [])) ≡ run small start es)

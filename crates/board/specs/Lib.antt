@@ -1,2 +1,4 @@
 pub mod Board
+pub mod Runs
+pub mod Gathered
 pub mod Layout

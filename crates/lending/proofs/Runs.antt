@@ -24,12 +24,8 @@ use Rattle.laws.proofs.Idle.{panicked-exactly}
 use Rattle.laws.specs.Handed.{Cause}
 use Rattle.laws.proofs.Handed.{whatever-is-handed}
 use Rattle.store.specs.Store.{tables}
-use Rattle.lending.specs.Lent.{valid, Answered, Started}
-
--- The memory after a start and these events, by any results that the promises of start_in and step_in allow.
-pub data Series : Input → List ℕ → Type 0 where
-  started : (m : List ℕ) → Started m → Series [] m
-  stepped : (es : Input) (m : List ℕ) (e m′ : List ℕ) (d : Decision) → Series es m → Answered m e m′ d → Series (es ++ (e ∷ [])) m′
+use Rattle.lending.specs.Lent.{valid, Answered}
+use Rattle.lending.specs.Runs.{Series, started, stepped}
 
 -- It stands for the rules' run of those events.
 pub stands-for-the-run : {es : Input} {m : List ℕ} → Series es m → (valid m ≡ true) × (tables m ≡ run small start es)

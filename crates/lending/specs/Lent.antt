@@ -16,7 +16,7 @@ use Rattle.rules.specs.declared.Answer.the-variants.{Nothing}
 use Rattle.store.specs.Store.{tables}
 use Rattle.checking.specs.Stands.{stands}
 use Rattle.lending.specs.declared.Tables.{Tables as Lent}
-use Rattle.lending.specs.declared.Stepped.{Stepped}
+use Rattle.lending.specs.declared.NextTables.{NextTables}
 use Rattle.lending.specs.declared.Dumped.{Dumped}
 
 -- it stands for tables that meet the table rules
@@ -40,7 +40,7 @@ pub record Started (m : List ℕ) : Type 0 where
   pub says : tables m ≡ start
 
 -- the same for a struct that holds the memory
-abbrev pub AnsweredValue : Lent → List ℕ → Stepped → Type 0
+abbrev pub AnsweredValue : Lent → List ℕ → NextTables → Type 0
 AnsweredValue t bytes s = Answered (t .words) bytes (s .tables .words) (s .decision)
 
 -- the check of a lent memory: refusal 11, or 0

@@ -19,7 +19,7 @@ pub struct Tables {
 }
 
 // What a step on lent tables leaves.
-pub struct Stepped {
+pub struct NextTables {
     pub tables: Tables,
     pub decision: Decision,
 }

@@ -1,5 +1,5 @@
 // The step on lent tables. Nothing is asked of them: any words get their answer.
-use crate::Stepped;
+use crate::NextTables;
 use crate::Tables;
 use checking::check;
 use rules::Answer;
@@ -31,12 +31,12 @@ pub fn step_in(m: &mut [u32], event: &[u8]) -> Decision
 }
 
 // The same by value.
-pub fn step_value(t: Tables, event: &[u8]) -> Stepped
+pub fn step_value(t: Tables, event: &[u8]) -> NextTables
     ensures { λ s. ⌜ AnsweredValue t (now (event .entry)) s ⌝ }
 {
     let mut words = t.words;
     let decision = step_in(&mut words, event);
-    Stepped {
+    NextTables {
         tables: Tables { words },
         decision,
     }

@@ -21,11 +21,8 @@ use Rattle.laws.proofs.Determinacy.{determined}
 use Rattle.store.specs.Store.{tables}
 use Rattle.checking.specs.Stands.{stands}
 use Rattle.buffer.specs.Puts.{Puts}
-use Rattle.loading.specs.Loading.{Loads}
+use Rattle.loading.specs.Loading.{Loads, accepted}
 use Rattle.loading.proofs.Exits.{rules-of, front}
-
-abbrev pub accepted : Verdict
-accepted = record { refusal = 0; offset = 0 }
 
 -- bytes that are not refused are read
 pub reads : (bytes : List ℕ) (v : Verdict) → v ≡ verdict small bytes → v .refusal ≡ 0 → (T : Tables) × (load small bytes ≡ loaded T)

@@ -17,3 +17,7 @@ pub record Loads (m bytes m′ : List ℕ) (v : Verdict) : Type 0 where
   pub decides : v ≡ verdict small bytes
   pub leaves : (T : Tables) → load small bytes ≡ loaded T → (stands small m′ ≡ true) × (tables m′ ≡ T)
   pub keeps : v .refusal ≢ 0 → m′ ≡ m
+
+-- the verdict on a dump
+abbrev pub accepted : Verdict
+accepted = record { refusal = 0; offset = 0 }

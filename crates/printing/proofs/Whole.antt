@@ -5,11 +5,10 @@ use mathlib.Core.Bool.{Bool, true, false, false≢true}
 use mathlib.Core.List.{List, [], _++_, append-assoc}
 use lib.ListN.{take, drop}
 use Rattle.rules.specs.Tables.{Tables, start}
-use Rattle.rules.specs.Dispatch.{status}
 use Rattle.store.specs.Store.{tables}
 use Rattle.printing.specs.declared.Turned.{Turned}
-use Rattle.lines.specs.Text.{last-line}
 use Rattle.printing.specs.Printing.{prints, output, Turns}
+use Rattle.printing.specs.Whole.{Series, reads, turns, ends}
 use Rattle.printing.proofs.Streams.{prints-none}
 
 -- A turn, a piece of input read behind what it left, and another turn: the lines of both, and then what the rest prints.
@@ -27,18 +26,6 @@ module _ {m m₁ m₂ : List ℕ} {k : ℕ} {waiting before₁ after₁ before�
       (sym (append-assoc (drop (t .used) waiting) piece more))
       ∙ (ap (λ (l : List ℕ). take (t .filled) after₁ ++ l) (q .prints more h)
       ∙ sym (append-assoc (take (t .filled) after₁) (take (u .filled) after₂) _))))
-
--- What the event program does from line k on: `waiting` is read and not served yet, `coming` is the input that is still to be read, and
--- `written` is what it writes. It reads a piece, of any length, or makes a turn and writes that turn's lines, as often as it likes, and
--- at last, when all is read and served, it writes the last line. A turn is told that the input has ended only if nothing is to come.
-pub data Series : ℕ → Tables → List ℕ → List ℕ → List ℕ → Type 0 where
-  reads : {k : ℕ} {T : Tables} {waiting coming written : List ℕ} (piece : List ℕ)
-      → Series k T (waiting ++ piece) coming written → Series k T waiting (piece ++ coming) written
-  turns : {k : ℕ} {m m′ : List ℕ} {waiting coming written before after : List ℕ} {ended : Bool} {t : Turned}
-      → Turns m k waiting ended before after t m′ → (ended ≡ true → coming ≡ [])
-      → Series (t .line) (tables m′) (drop (t .used) waiting) coming written
-      → Series k (tables m) waiting coming (take (t .filled) after ++ written)
-  ends : {k : ℕ} {T : Tables} → Series k T [] [] (last-line (status T))
 
 pub series-prints : {k : ℕ} {T : Tables} {waiting coming written : List ℕ} → Series k T waiting coming written
     → prints k T (waiting ++ coming) ≡ written

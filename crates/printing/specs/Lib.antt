@@ -1,3 +1,4 @@
 pub mod Printing
+pub mod Whole
 pub mod Input
 pub mod Listing

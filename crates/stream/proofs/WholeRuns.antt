@@ -25,6 +25,7 @@ use Rattle.printing.specs.Printing.{prints, output, fields, fields-in}
 use Rattle.printing.proofs.Streams.{prints-none}
 use Rattle.stream.specs.declared.Run.{Run}
 use Rattle.stream.specs.Stream.{window, Right, Begins, after-turn, Serves, Reads, Rounds}
+use Rattle.stream.specs.Loop.{behind, unless-lines, piece, Loop, goes, ends}
 use Rattle.stream.proofs.Placed.{serves-right}
 use Rattle.stream.proofs.Lasting.{stops-cut, cut-few, last-served}
 
@@ -41,10 +42,6 @@ turn-leaves r t input =
     let e : r .held - r .at - t .used ≡ r .held - (r .at + t .used) = omega arith in
     drop-take (t .used) (r .held - r .at) (drop (r .at) input)
     ∙ ap₂ (λ (j : ℕ) (l : List ℕ). take j l) e (drop-drop (t .used) (r .at) input)
-
--- the bytes that a read put behind what waited: r is the run before it, and v after it
-abbrev pub behind : Run → Run → List ℕ → List ℕ
-behind r v after = take (v .held - (r .held - r .at)) (drop (r .held - r .at) after)
 
 module _ {r : Run} {before after : List ℕ} {v : Run} (q : Reads r before after v) where
   at-front : v .at ≡ 0
@@ -78,16 +75,7 @@ module _ {r : Run} {before after : List ℕ} {v : Run} (q : Reads r before after
 
 -- ---- a round
 
--- these bytes where there are no lines to write, else none
-abbrev pub unless-lines : ℕ → List ℕ → List ℕ
-unless-lines zero l = l
-unless-lines (suc n) l = []
-
 module _ {m : List ℕ} {r : Run} {input out m′ input′ out′ : List ℕ} {v : Run} (ρ : Rounds m r input out m′ input′ out′ v) where
-  -- the piece of the input that it read: none, where it had lines to write
-  abbrev pub piece : List ℕ
-  piece = unless-lines (ρ .served .filled) (behind (ρ .served) v input′)
-
   -- a fact of the run that no read changes
   same-as-served : {A : Type 0} (f : Run → A) → ((e : ρ .served .filled ≡ 0) → f v ≡ f (ρ .served)) → f v ≡ f (ρ .served)
   same-as-served {A} f h = go (ρ .served .filled) refl
@@ -106,12 +94,12 @@ module _ {m : List ℕ} {r : Run} {input out m′ input′ out′ : List ℕ} {v
       same-as-served (λ (x : Run). x .filled) (λ e. ap (λ (x : Run). x .filled) (ρ .reads e .leaves))
       ∙ ap (λ (x : Run). x .filled) (ρ .serves .leaves)
 
-  -- what the turn left waits, and behind it the piece
+  -- what the turn left waits, and behind it the piece ρ
   left-is : waiting (window (ρ .served)) input ≡ drop (ρ .serves .turn .used) (waiting (window r) input)
   left-is = ap (λ (x : Run). waiting (window x) input) (ρ .serves .leaves) ∙ sym (turn-leaves r (ρ .serves .turn) input)
 
-  waits-next : waiting (window v) input′ ≡ drop (ρ .serves .turn .used) (waiting (window r) input) ++ piece
-  waits-next = go (ρ .served .filled) refl ∙ ap (λ (l : List ℕ). l ++ piece) left-is
+  waits-next : waiting (window v) input′ ≡ drop (ρ .serves .turn .used) (waiting (window r) input) ++ piece ρ
+  waits-next = go (ρ .served .filled) refl ∙ ap (λ (l : List ℕ). l ++ piece ρ) left-is
     where
       go : (n : ℕ) → ρ .served .filled ≡ n
           → waiting (window v) input′ ≡ waiting (window (ρ .served)) input ++ unless-lines n (behind (ρ .served) v input′)
@@ -121,25 +109,25 @@ module _ {m : List ℕ} {r : Run} {input out m′ input′ out′ : List ℕ} {v
           ap₂ (λ (x : Run) (l : List ℕ). waiting (window x) l) (w .0) (w .1) ∙ sym (append-nil _)
 
   module _ (coming : List ℕ) where
-    joined : drop (ρ .serves .turn .used) (waiting (window r) input) ++ (piece ++ coming) ≡ waiting (window v) input′ ++ coming
+    joined : drop (ρ .serves .turn .used) (waiting (window r) input) ++ (piece ρ ++ coming) ≡ waiting (window v) input′ ++ coming
     joined =
-        sym (append-assoc (drop (ρ .serves .turn .used) (waiting (window r) input)) piece coming)
+        sym (append-assoc (drop (ρ .serves .turn .used) (waiting (window r) input)) piece ρ coming)
         ∙ ap (λ (l : List ℕ). l ++ coming) (sym waits-next)
 
-    round-prints : prints (r .line) (tables m) (waiting (window r) input ++ (piece ++ coming))
+    round-prints : prints (r .line) (tables m) (waiting (window r) input ++ (piece ρ ++ coming))
         ≡ take (v .filled) out′ ++ prints (v .line) (tables m′) (waiting (window v) input′ ++ coming)
     round-prints =
-        ρ .serves .turns .prints (piece ++ coming) (λ e. absurd (false≢true e))
+        ρ .serves .turns .prints (piece ρ ++ coming) (λ e. absurd (false≢true e))
         ∙ (ap₂ (λ (n k : ℕ). take n out′
-        ++ prints k (tables m′) (drop (ρ .serves .turn .used) (waiting (window r) input) ++ (piece ++ coming)))
+        ++ prints k (tables m′) (drop (ρ .serves .turn .used) (waiting (window r) input) ++ (piece ρ ++ coming)))
         (sym filled-is) (sym line-is)
         ∙ ap (λ (l : List ℕ). take (v .filled) out′ ++ prints (v .line) (tables m′) l) joined)
 
-    round-runs : run small (tables m) (fields (waiting (window r) input ++ (piece ++ coming)))
+    round-runs : run small (tables m) (fields (waiting (window r) input ++ (piece ρ ++ coming)))
         ≡ run small (tables m′) (fields (waiting (window v) input′ ++ coming))
     round-runs =
         let p = ρ .serves .turns in
-        ap (run small (tables m)) (p .first (piece ++ coming) (λ e. absurd (false≢true e)))
+        ap (run small (tables m)) (p .first (piece ρ ++ coming) (λ e. absurd (false≢true e)))
         ∙ (run-append small (tables m) (p .served) _ ∙ ap₂ (λ (T : Tables) (l : List ℕ). run small T (fields l)) (sym (p .leaves)) joined)
 
   -- where a read told the end, what waits is no whole field
@@ -181,18 +169,6 @@ module _ {m : List ℕ} {r : Run} {input out m′ input′ out′ : List ℕ} {v
           omega (arith, same, bytes (ρ .served .at + i))
 
 -- ---- the loop
-
--- What a program's loop does from the run r on, with the memory m and the bytes of its input's buffer. `coming` is the input that is
--- still to be read (the pieces of the rounds, one behind the other), `written` what it writes, and `end` the memory at the end. It makes
--- rounds, and writes the lines of each, until a read tells the end; then a last turn, told so, whose lines it writes, and the last line.
--- The buffers for lines are any that are long enough.
-pub data Loop : List ℕ → Run → List ℕ → List ℕ → List ℕ → List ℕ → Type 0 where
-  goes : {m : List ℕ} {r : Run} {input out m′ input′ out′ : List ℕ} {v : Run} {coming written end : List ℕ}
-      (ρ : Rounds m r input out m′ input′ out′ v) → r .ended ≡ false → 160 ≤ length out
-      → Loop m′ v input′ coming written end → Loop m r input (piece ρ ++ coming) (take (v .filled) out′ ++ written) end
-  ends : {m : List ℕ} {r : Run} {input out m′ out′ : List ℕ} {v : Run}
-      → Serves m r true input out out′ m′ v → r .ended ≡ true → 322 ≤ length out → length out′ ≡ length out
-      → Loop m r input [] (take (v .filled) out′ ++ last-line (status (tables m′))) m′
 
 -- what holds of a run that a round left: at the end of the input no whole field waits
 abbrev Cut : Run → List ℕ → Type 0
