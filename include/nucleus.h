@@ -55,28 +55,82 @@ enum nucleus_service {
 /* Kinds of trap. */
 enum nucleus_trap { NUCLEUS_PROGRAM = 0, NUCLEUS_TLB = 1, NUCLEUS_SYSBP = 2 };
 
-/* Refusals, each "given exactly when". A refusal changes no byte of the tables or of any buffer. */
+/* Refusals. nucleus_refusal_sentence says when each is given. A refusal changes no byte of the tables or of any buffer. 13 is given no more. */
 enum nucleus_refusal {
-    NUCLEUS_ACCEPTED = 0,        /* no refusal */
-    NUCLEUS_NODE_STOPPED = 1,    /* "an event comes when halted or panicked" */
-    NUCLEUS_MALFORMED = 2,       /* "not exactly one well-formed field", or a value in it that cannot be */
-    NUCLEUS_NO_RUNNER = 3,       /* "a runner is needed and there is none" */
-    NUCLEUS_NO_SUCH_THREAD = 4,  /* "the name .. is no live thread's" */
-    NUCLEUS_NO_BLOCK = 5,        /* "a block is needed and none is free" */
-    NUCLEUS_NO_THREAD_BLOCK = 6, /* "no thread block is free" */
-    NUCLEUS_BROTHER_OF_0 = 7,    /* "brother of thread 0" */
-    NUCLEUS_DEVICE_TAKEN = 8,    /* "another thread waits for that device" */
-    NUCLEUS_BAD_DECISION = 9,    /* "a decision other than 0 or 1" */
-    NUCLEUS_OWN_MANAGER = 10,    /* "own name as manager" */
-    NUCLEUS_BAD_TABLES = 11,     /* "the lent tables stand for none that meet the table rules" */
-    NUCLEUS_SHORT_BUFFER = 12,   /* "dump buffer shorter than the dump" */
-    NUCLEUS_SHORT_NUMBERS = 14,  /* of a batch: "the buffer holds fewer than six numbers per complete field" */
-    NUCLEUS_DUMP_CUT = 15,       /* of a load: "cut short, wrong length, or no field 1, 3 or 4" */
-    NUCLEUS_DUMP_ORDER = 16,     /* of a load: "unknown tag, tags out of order, or a second 1, 3 or 4" */
-    NUCLEUS_DUMP_RANGE = 17,     /* of a load: "value outside its range (slice, detail and answer as runner, state and kind allow)" */
-    NUCLEUS_DUMP_NAME = 18,      /* of a load: "a name not live where 01 asks for one" */
-    NUCLEUS_DUMP_RULE = 19       /* of a load: "any other rule, rising order included" */
+    NUCLEUS_ACCEPTED = 0,
+    NUCLEUS_NODE_STOPPED = 1,
+    NUCLEUS_MALFORMED = 2,
+    NUCLEUS_NO_RUNNER = 3,
+    NUCLEUS_NO_SUCH_THREAD = 4,
+    NUCLEUS_NO_BLOCK = 5,
+    NUCLEUS_NO_THREAD_BLOCK = 6,
+    NUCLEUS_BROTHER_OF_0 = 7,
+    NUCLEUS_DEVICE_TAKEN = 8,
+    NUCLEUS_BAD_DECISION = 9,
+    NUCLEUS_OWN_MANAGER = 10,
+    NUCLEUS_BAD_TABLES = 11,
+    NUCLEUS_SHORT_BUFFER = 12,
+    NUCLEUS_SHORT_NUMBERS = 14,
+    NUCLEUS_DUMP_CUT = 15,
+    NUCLEUS_DUMP_ORDER = 16,
+    NUCLEUS_DUMP_RANGE = 17,
+    NUCLEUS_DUMP_NAME = 18,
+    NUCLEUS_DUMP_RULE = 19
 };
+
+/* The name of a refusal, for a log: that of the enum without NUCLEUS_. A number that is no refusal has the name UNKNOWN. */
+static inline const char *nucleus_refusal_name(unsigned refusal)
+{
+    switch (refusal) {
+    case NUCLEUS_ACCEPTED: return "ACCEPTED";
+    case NUCLEUS_NODE_STOPPED: return "NODE_STOPPED";
+    case NUCLEUS_MALFORMED: return "MALFORMED";
+    case NUCLEUS_NO_RUNNER: return "NO_RUNNER";
+    case NUCLEUS_NO_SUCH_THREAD: return "NO_SUCH_THREAD";
+    case NUCLEUS_NO_BLOCK: return "NO_BLOCK";
+    case NUCLEUS_NO_THREAD_BLOCK: return "NO_THREAD_BLOCK";
+    case NUCLEUS_BROTHER_OF_0: return "BROTHER_OF_0";
+    case NUCLEUS_DEVICE_TAKEN: return "DEVICE_TAKEN";
+    case NUCLEUS_BAD_DECISION: return "BAD_DECISION";
+    case NUCLEUS_OWN_MANAGER: return "OWN_MANAGER";
+    case NUCLEUS_BAD_TABLES: return "BAD_TABLES";
+    case NUCLEUS_SHORT_BUFFER: return "SHORT_BUFFER";
+    case NUCLEUS_SHORT_NUMBERS: return "SHORT_NUMBERS";
+    case NUCLEUS_DUMP_CUT: return "DUMP_CUT";
+    case NUCLEUS_DUMP_ORDER: return "DUMP_ORDER";
+    case NUCLEUS_DUMP_RANGE: return "DUMP_RANGE";
+    case NUCLEUS_DUMP_NAME: return "DUMP_NAME";
+    case NUCLEUS_DUMP_RULE: return "DUMP_RULE";
+    default: return "UNKNOWN";
+    }
+}
+
+/* What a refusal says, in a sentence. 11 and 1 to 10 are given to events, 12 to a dump, 14 to a batch, 15 to 19 to a load; 2 also to a pick. */
+static inline const char *nucleus_refusal_sentence(unsigned refusal)
+{
+    switch (refusal) {
+    case NUCLEUS_ACCEPTED: return "nothing is refused";
+    case NUCLEUS_NODE_STOPPED: return "the node has halted or panicked";
+    case NUCLEUS_MALFORMED: return "not exactly one whole event, or its service, argument, trap kind, device or pending devices cannot be";
+    case NUCLEUS_NO_RUNNER: return "only a running thread can cause this event, and nobody runs";
+    case NUCLEUS_NO_SUCH_THREAD: return "the name to send to, receive from, end or take as manager is no live thread's";
+    case NUCLEUS_NO_BLOCK: return "the message would have to wait in an inbox, and all 20 message blocks are taken";
+    case NUCLEUS_NO_THREAD_BLOCK: return "all 20 thread blocks are taken";
+    case NUCLEUS_BROTHER_OF_0: return "thread 0 has no parent, so it gets no brother";
+    case NUCLEUS_DEVICE_TAKEN: return "another thread waits for that device already";
+    case NUCLEUS_BAD_DECISION: return "a manager's decision on a trapped thread is neither 0 nor 1";
+    case NUCLEUS_OWN_MANAGER: return "a thread cannot be its own manager";
+    case NUCLEUS_BAD_TABLES: return "what is lent as tables is none, or breaks a table rule";
+    case NUCLEUS_SHORT_BUFFER: return "the buffer is too short for the dump";
+    case NUCLEUS_SHORT_NUMBERS: return "too few numbers are lent for the batch: each complete event takes six";
+    case NUCLEUS_DUMP_CUT: return "the dump is cut, a field has a wrong length, or a field 1, 3 or 4 is missing";
+    case NUCLEUS_DUMP_ORDER: return "a field's tag is unknown or lower than the one before it, or 1, 3 or 4 stands there twice";
+    case NUCLEUS_DUMP_RANGE: return "a number in a field is out of range, or does not go with runner, state or kind";
+    case NUCLEUS_DUMP_NAME: return "a field has the name of no live thread where a live one has to stand";
+    case NUCLEUS_DUMP_RULE: return "another rule for dumps is broken: order, status, queues, parents and so on";
+    default: return "no refusal has this number";
+    }
+}
 
 /* Status of the node. */
 enum nucleus_status { NUCLEUS_RUNNING = 0, NUCLEUS_IDLE = 1, NUCLEUS_HALTED = 2, NUCLEUS_PANICKED = 3 };
