@@ -1,4 +1,5 @@
-/* The nucleus for a board's C code: C99, or C++. docs/BOARD.md says how to build and link it, and what a caller must keep.
+/* The nucleus for a board's C code: C99, or C++, on a 64-bit machine. docs/BOARD.md says how to build and link it, and what a caller must
+   keep.
    Words in quotes are document 01's, or document 02's for what a request added or changed. The sizes are those of crates/lending and
    crates/board; tests/board holds this file to them. */
 #ifndef NUCLEUS_H
@@ -10,6 +11,17 @@
 #ifdef __cplusplus
 extern "C" {
 #endif
+
+/* ---- The version of this header and its library
+
+   As a number: major * 10000 + minor * 100 + patch. What a change means for a board:
+   major  what was there means something else, or is there no more: a name, a number, a call, a struct, the bytes of events or dumps. The
+          board's code, or the dumps it has kept, may have to change.
+   minor  something is new: a call, a name, a number. A board's code goes on as it is; it is compiled and linked once more.
+   patch  a board sees nothing of it, but perhaps another stack or another time. It is compiled and linked once more.
+   Header and library are one: whoever takes one of them takes the other too. */
+#define NUCLEUS_VERSION 10000
+#define NUCLEUS_VERSION_STRING "1.0.0"
 
 /* ---- Numbers */
 
@@ -55,7 +67,8 @@ enum nucleus_service {
 /* Kinds of trap. */
 enum nucleus_trap { NUCLEUS_PROGRAM = 0, NUCLEUS_TLB = 1, NUCLEUS_SYSBP = 2 };
 
-/* Refusals. nucleus_refusal_sentence says when each is given. A refusal changes no byte of the tables or of any buffer. 13 is given no more. */
+/* Refusals. nucleus_refusal_sentence says when each is given. A refusal changes no byte of the tables or of any buffer. 13 is given no
+   more. */
 enum nucleus_refusal {
     NUCLEUS_ACCEPTED = 0,
     NUCLEUS_NODE_STOPPED = 1,
@@ -105,7 +118,8 @@ static inline const char *nucleus_refusal_name(unsigned refusal)
     }
 }
 
-/* What a refusal says, in a sentence. 11 and 1 to 10 are given to events, 12 to a dump, 14 to a batch, 15 to 19 to a load; 2 also to a pick. */
+/* What a refusal says, in a sentence. 1 to 11 are given to events, 2 also to a pick, 11 also to a check and a dump, 12 to a dump, 14 to a
+   batch, 15 to 19 to a load. */
 static inline const char *nucleus_refusal_sentence(unsigned refusal)
 {
     switch (refusal) {
@@ -233,6 +247,114 @@ typedef char nucleus_lengths_fit[sizeof(size_t) == 8 && sizeof(struct nucleus_du
 typedef char nucleus_offsets_fit[sizeof(size_t) == 8 && sizeof(struct nucleus_loaded) == 16 ? 1 : -1];
 typedef char nucleus_bytes_fit[sizeof(const uint8_t *) == 8 && sizeof(struct nucleus_bytes) == 16 ? 1 : -1];
 
+/* ---- Events, built
+
+   Each writes one event to the front of a caller's array and returns its length. Bytes behind that length stay as they were. Every value
+   that fits its bytes is let through: the nucleus answers it.
+
+       uint8_t event[NUCLEUS_EVENT_BYTES];
+       size_t length = nucleus_send_event(event, 1, 7);
+       struct nucleus_report report = nucleus_step(&tables, event, length);   */
+
+/* For the builders: tag and length, which gives the length of the whole event; and a word, big-endian. */
+static inline size_t nucleus_put_head(uint8_t *event, uint8_t tag, uint8_t value_length)
+{
+    event[0] = tag;
+    event[1] = 0;
+    event[2] = value_length;
+    return 3 + (size_t)value_length;
+}
+
+static inline void nucleus_put_word(uint8_t *at, uint32_t word)
+{
+    at[0] = (uint8_t)(word >> 24);
+    at[1] = (uint8_t)(word >> 16);
+    at[2] = (uint8_t)(word >> 8);
+    at[3] = (uint8_t)word;
+}
+
+static inline size_t nucleus_send_event(uint8_t event[NUCLEUS_EVENT_BYTES], uint8_t name, uint32_t word)
+{
+    event[3] = name;
+    nucleus_put_word(event + 4, word);
+    return nucleus_put_head(event, NUCLEUS_SEND, 5);
+}
+
+/* Name 255 is anybody. */
+static inline size_t nucleus_receive_event(uint8_t event[NUCLEUS_EVENT_BYTES], uint8_t name)
+{
+    event[3] = name;
+    return nucleus_put_head(event, NUCLEUS_RECEIVE, 1);
+}
+
+/* By number; below is one for each service. */
+static inline size_t nucleus_request_event(uint8_t event[NUCLEUS_EVENT_BYTES], uint8_t service, uint8_t argument)
+{
+    event[3] = service;
+    event[4] = argument;
+    return nucleus_put_head(event, NUCLEUS_REQUEST, 2);
+}
+
+static inline size_t nucleus_createbrother_event(uint8_t event[NUCLEUS_EVENT_BYTES])
+{
+    return nucleus_request_event(event, NUCLEUS_CREATEBROTHER, 0);
+}
+
+static inline size_t nucleus_createson_event(uint8_t event[NUCLEUS_EVENT_BYTES])
+{
+    return nucleus_request_event(event, NUCLEUS_CREATESON, 0);
+}
+
+/* Name 255 is oneself. */
+static inline size_t nucleus_terminate_event(uint8_t event[NUCLEUS_EVENT_BYTES], uint8_t name)
+{
+    return nucleus_request_event(event, NUCLEUS_TERMINATE, name);
+}
+
+/* The kind is that of a trap (enum nucleus_trap). There is no service for a kind over 2: then service 0 is asked for, which the nucleus
+   refuses with 2. */
+static inline size_t nucleus_manager_event(uint8_t event[NUCLEUS_EVENT_BYTES], uint8_t kind, uint8_t name)
+{
+    static const uint8_t services[] = {NUCLEUS_PROGRAM_MANAGER, NUCLEUS_TLB_MANAGER, NUCLEUS_SYSBP_MANAGER};
+    return nucleus_request_event(event, kind < sizeof services ? services[kind] : 0, name);
+}
+
+static inline size_t nucleus_getcputime_event(uint8_t event[NUCLEUS_EVENT_BYTES])
+{
+    return nucleus_request_event(event, NUCLEUS_GETCPUTIME, 0);
+}
+
+static inline size_t nucleus_waitforclock_event(uint8_t event[NUCLEUS_EVENT_BYTES])
+{
+    return nucleus_request_event(event, NUCLEUS_WAITFORCLOCK, 0);
+}
+
+static inline size_t nucleus_waitforio_event(uint8_t event[NUCLEUS_EVENT_BYTES], uint8_t device)
+{
+    return nucleus_request_event(event, NUCLEUS_WAITFORIO, device);
+}
+
+static inline size_t nucleus_trap_event(uint8_t event[NUCLEUS_EVENT_BYTES], uint8_t kind, uint32_t cause)
+{
+    event[3] = kind;
+    nucleus_put_word(event + 4, cause);
+    return nucleus_put_head(event, NUCLEUS_TRAP, 5);
+}
+
+static inline size_t nucleus_tick_event(uint8_t event[NUCLEUS_EVENT_BYTES])
+{
+    return nucleus_put_head(event, NUCLEUS_TICK, 0);
+}
+
+/* Bit n of pending is device n. The status is that of the device that nucleus_pick gives for them. */
+static inline size_t nucleus_interrupt_event(uint8_t event[NUCLEUS_EVENT_BYTES], uint64_t pending, uint32_t status)
+{
+    nucleus_put_word(event + 3, (uint32_t)(pending >> 32));
+    nucleus_put_word(event + 7, (uint32_t)pending);
+    nucleus_put_word(event + 11, status);
+    return nucleus_put_head(event, NUCLEUS_INTERRUPT, 12);
+}
+
 /* ---- The calls
 
    No pointer is null, also where a length is 0. Nothing that is lent to a call overlaps: tables, an event or its bytes, a buffer, a dump's
@@ -281,8 +403,8 @@ struct nucleus_dumped nucleus_dump(const struct nucleus_tables *tables, uint8_t 
    19  offset 0: all this is right, and another rule is broken: the status, queues against states, rising names, a cycle of parents .. */
 struct nucleus_loaded nucleus_load(struct nucleus_tables *tables, const uint8_t *bytes, size_t length);
 
-/* Bit n of pending is device n. The pick takes "the lowest pending number from 0 to 31, then the lowest transmitter" (32, 34 .. 46), "then the
-   lowest receiver" (33, 35 .. 47), so that a held key does not delay a log. Refusal 2 with none pending, or one over 47. */
+/* Bit n of pending is device n. The pick takes "the lowest pending number from 0 to 31, then the lowest transmitter" (32, 34 .. 46), "then
+   the lowest receiver" (33, 35 .. 47), so that a held key does not delay a log. Refusal 2 with none pending, or one over 47. */
 struct nucleus_picked nucleus_pick(uint64_t pending);
 
 /* The library's own sizes, to hold this file to. */
