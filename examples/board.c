@@ -1,5 +1,5 @@
 /* A node in plain C, for a board's engineer to copy from; docs/BOARD.md says how to build it.
-   It starts a node, feeds it the events of document 01's listing and prints what the event program prints for them.
+   It starts a node, builds the events of document 01's listing, hands them over and prints what the event program prints for them.
    Then it takes a dump, reads a few things there, loads it into other tables, and compares a dump of those. Every answer is checked. */
 #include "nucleus.h"
 
@@ -7,28 +7,11 @@
 #include <stdio.h>
 #include <string.h>
 
-#define NO_ARGUMENT 0
-
-struct event {
-    size_t length;
-    uint8_t bytes[NUCLEUS_EVENT_BYTES];
-};
-
-/* Tag, length in two bytes, value. */
-static const struct event listing[] = {
-    {5, {NUCLEUS_REQUEST, 0, 2, NUCLEUS_CREATESON, NO_ARGUMENT}},
-    {4, {NUCLEUS_RECEIVE, 0, 1, NUCLEUS_NOBODY}},
-    {8, {NUCLEUS_SEND, 0, 5, 0, 0, 0, 0, 7}},
-    {5, {NUCLEUS_REQUEST, 0, 2, NUCLEUS_GETCPUTIME, NO_ARGUMENT}},
-    {5, {NUCLEUS_REQUEST, 0, 2, NUCLEUS_TERMINATE, NUCLEUS_NOBODY}},
-    {8, {NUCLEUS_SEND, 0, 5, 1, 0, 0, 0, 9}},
-    {5, {NUCLEUS_REQUEST, 0, 2, NUCLEUS_WAITFORCLOCK, NO_ARGUMENT}},
-    {8, {NUCLEUS_SEND, 0, 5, 0, 0, 0, 0, 1}},
-};
-
 /* The room that is lent: whole structs, which the compiler aligns. */
 static struct nucleus_tables node, other;
-static uint8_t dump[NUCLEUS_DUMP_BYTES], again[NUCLEUS_DUMP_BYTES];
+static uint8_t event[NUCLEUS_EVENT_BYTES], dump[NUCLEUS_DUMP_BYTES], again[NUCLEUS_DUMP_BYTES];
+
+static uint8_t status = NUCLEUS_RUNNING; /* behind the last event */
 
 static int failed(const char *what, unsigned refusal)
 {
@@ -36,12 +19,7 @@ static int failed(const char *what, unsigned refusal)
     return 1;
 }
 
-static void print_report(unsigned line, struct nucleus_report r)
-{
-    printf("%u %u %u %u %u %u %" PRIu32 "\n", line, r.refusal, r.status, r.runner, r.kind, r.sender, r.word);
-}
-
-static const char *last_line(uint8_t status)
+static const char *last_line(void)
 {
     switch (status) {
     case NUCLEUS_HALTED: return "SYSTEM HALTED";
@@ -57,18 +35,27 @@ static int sizes_agree(void)
     return s.tables == sizeof node && s.report == sizeof(struct nucleus_report) && s.dump == sizeof dump;
 }
 
+/* The event that was just built, of this length. */
+static int happens(size_t length)
+{
+    static unsigned line;
+    struct nucleus_report r = nucleus_step(&node, event, length);
+    /* An event may well be refused, as the sixth and the eighth here; bad tables are no node any more. */
+    if (r.refusal == NUCLEUS_BAD_TABLES)
+        return failed("the tables are damaged", r.refusal);
+    printf("%u %u %u %u %u %u %" PRIu32 "\n", ++line, r.refusal, r.status, r.runner, r.kind, r.sender, r.word);
+    status = r.status;
+    return 0;
+}
+
 static int run_listing(void)
 {
-    uint8_t status = NUCLEUS_RUNNING;
-    for (unsigned i = 0; i < sizeof listing / sizeof listing[0]; i++) {
-        struct nucleus_report r = nucleus_step(&node, listing[i].bytes, listing[i].length);
-        /* An event may well be refused, as the sixth and the eighth here; bad tables are no node any more. */
-        if (r.refusal == NUCLEUS_BAD_TABLES)
-            return failed("the tables are damaged", r.refusal);
-        print_report(i + 1, r);
-        status = r.status;
-    }
-    puts(last_line(status));
+    if (happens(nucleus_createson_event(event)) || happens(nucleus_receive_event(event, NUCLEUS_NOBODY))
+        || happens(nucleus_send_event(event, 0, 7)) || happens(nucleus_getcputime_event(event))
+        || happens(nucleus_terminate_event(event, NUCLEUS_NOBODY)) || happens(nucleus_send_event(event, 1, 9))
+        || happens(nucleus_waitforclock_event(event)) || happens(nucleus_send_event(event, 0, 1)))
+        return 1;
+    puts(last_line());
     return 0;
 }
 

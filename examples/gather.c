@@ -8,26 +8,12 @@
 #include <stdio.h>
 #include <string.h>
 
-#define NO_ARGUMENT 0
-#define LATHE 3 /* its device number */
+/* Device numbers. */
+#define LATHE 3
+#define KEYS 33 /* what terminal 0 receives */
+#define LOG 42  /* what terminal 5 transmits */
 
-/* Before the first cut threads run, and each event is handed over when it comes: there are two threads then, and 0 waits for the lathe. */
-static const uint8_t create[] = {NUCLEUS_REQUEST, 0, 2, NUCLEUS_CREATESON, NO_ARGUMENT};
-static const uint8_t wait_for_lathe[] = {NUCLEUS_REQUEST, 0, 2, NUCLEUS_WAITFORIO, LATHE};
-
-/* All that the line brings. An interrupt has a bit for each pending device, in eight bytes, and the status word of the one picked. */
-static const uint8_t line[] = {
-    NUCLEUS_TICK, 0, 0,
-    NUCLEUS_TICK, 0, 0,
-    NUCLEUS_INTERRUPT, 0, 12, 0, 0, 0, 0, 0, 0, 0, 1 << LATHE, 0, 0, 0x12, 0x34, /* the lathe, status 4660 */
-    NUCLEUS_TICK, 0, 0,
-    NUCLEUS_INTERRUPT, 0, 12, 0, 0, 0, 1 << 1, 0, 0, 0, 0, 0, 0, 0, 'k', /* device 33, a key; nobody waits for it */
-    NUCLEUS_TICK, 0, 0,
-    NUCLEUS_INTERRUPT, 0, 12, 0, 0, 1 << 2, 0, 0, 0, 0, 0, 0, 0, 0, 1, /* device 42, the log; nobody waits for it */
-    NUCLEUS_TICK, 0, 0, /* the slice of thread 1 ends: thread 0 runs, with the lathe's status */
-    NUCLEUS_TICK, 0, 0, NUCLEUS_TICK, 0, 0, NUCLEUS_TICK, 0, 0, NUCLEUS_TICK, 0, 0,
-    NUCLEUS_TICK, 0, 0, /* and that of thread 0 */
-};
+static uint8_t line[128]; /* all that the line brings */
 
 /* How many of these bytes come during each cut. The first cut is done in the head of an event, the second in a value. */
 static const size_t cuts[] = {26, 24, 25};
@@ -54,6 +40,21 @@ static void print_decision(const uint32_t *decision)
     for (int i = 0; i < NUCLEUS_DECISION_NUMBERS; i++)
         printf(" %" PRIu32, decision[i]);
     putchar('\n');
+}
+
+/* What the line brings, as the board at its other end builds it. */
+static void fill_line(void)
+{
+    size_t n = 0;
+    n += nucleus_tick_event(line + n);
+    n += nucleus_tick_event(line + n);
+    n += nucleus_interrupt_event(line + n, (uint64_t)1 << LATHE, 4660);
+    n += nucleus_tick_event(line + n);
+    n += nucleus_interrupt_event(line + n, (uint64_t)1 << KEYS, 'k'); /* nobody waits for it */
+    n += nucleus_tick_event(line + n);
+    n += nucleus_interrupt_event(line + n, (uint64_t)1 << LOG, 1); /* nor for this */
+    for (int i = 0; i < 6; i++) /* the first ends the slice of thread 1: 0 runs, with the lathe's status; the last that of 0 */
+        n += nucleus_tick_event(line + n);
 }
 
 static int one_event(const uint8_t *event, size_t length)
@@ -97,9 +98,13 @@ static int hand_in(void)
 
 int main(void)
 {
+    uint8_t event[NUCLEUS_EVENT_BYTES];
     size_t come = 0;
+    fill_line();
     nucleus_start(&node);
-    if (one_event(create, sizeof create) || one_event(wait_for_lathe, sizeof wait_for_lathe))
+    /* Before the first cut threads run, and each event is handed over when it comes: there are two threads then, and 0 waits for the
+       lathe. */
+    if (one_event(event, nucleus_createson_event(event)) || one_event(event, nucleus_waitforio_event(event, LATHE)))
         return 1;
     for (size_t i = 0; i < sizeof cuts / sizeof cuts[0]; i++) {
         if (cuts[i] > sizeof gathered - used)
