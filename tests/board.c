@@ -1,8 +1,8 @@
 /* Holds include/nucleus.h to the library, by what the calls do: built and run by tests/board. The last line is 'N passed, M failed'.
 
    Tables are made as a model of this file, which knows document 01 alone, written as a dump and loaded. Every call is made with guard
-   bytes around all that is lent to it, and on a stack of its own, which shows how much of it was written. A line for each call says how many
-   bytes of stack it took at the deepest: 'stack CALL BYTES'. tests/board judges them. */
+   bytes around all that is lent to it, and on a stack of its own, which shows how much of it was written. A line for each call says how
+   many bytes of stack it took at the deepest: 'stack CALL BYTES'. tests/board judges them. C++ compiles this file too. */
 #define _POSIX_C_SOURCE 200809L
 #include "nucleus.h"
 
@@ -271,23 +271,29 @@ struct names {
     uint8_t row[NUCLEUS_THREADS];
 };
 
+struct thread {
+    uint8_t name, parent, state, detail, program, tlb, sysbp, kind, sender;
+    uint32_t ticks, word;
+};
+
+struct message {
+    uint8_t to, from, kind;
+    uint32_t word;
+};
+
+struct held {
+    uint8_t device;
+    uint32_t word;
+};
+
 static struct {
     uint8_t last, runner, slice, since;
     uint32_t beats;
     size_t count, letters, words;
-    struct thread {
-        uint8_t name, parent, state, detail, program, tlb, sysbp, kind, sender;
-        uint32_t ticks, word;
-    } threads[NUCLEUS_THREADS];
+    struct thread threads[NUCLEUS_THREADS];
     struct names ready, clock;
-    struct message {
-        uint8_t to, from, kind;
-        uint32_t word;
-    } messages[MESSAGES];
-    struct held {
-        uint8_t device;
-        uint32_t word;
-    } held[NUCLEUS_DEVICES];
+    struct message messages[MESSAGES];
+    struct held held[NUCLEUS_DEVICES];
 } model;
 
 /* ---- a writer of dumps, from document 01 */
@@ -864,7 +870,7 @@ static struct nucleus_report steps(const char *hex, unsigned times)
 {
     uint8_t bytes[32] = {0};
     size_t n = from_hex(hex, bytes);
-    struct nucleus_report r = {0};
+    struct nucleus_report r = {0, 0, 0, 0, 0, 0};
     for (unsigned k = 0; k < times; k++)
         r = step(bytes, n);
     return r;
@@ -1017,7 +1023,8 @@ static void picks(void)
     } picks[] = {{0, 2, 255}, {1, 0, 0}, {(uint64_t)1 << 47, 0, 47}, {(uint64_t)1 << 48, 2, 255}, {~(uint64_t)0, 2, 255},
                  {(uint64_t)1 << 40 | 1 << 9 | 1 << 5, 0, 5}, {(uint64_t)1 << 63 | 1, 2, 255},
                  {(uint64_t)1 << 42 | (uint64_t)1 << 33, 0, 42}, {(uint64_t)1 << 46 | (uint64_t)1 << 44 | (uint64_t)1 << 33, 0, 44},
-                 {(uint64_t)1 << 47 | (uint64_t)1 << 35, 0, 35}, {(uint64_t)3 << 32 | (uint64_t)1 << 31, 0, 31}, {(uint64_t)3 << 32, 0, 32}};
+                 {(uint64_t)1 << 47 | (uint64_t)1 << 35, 0, 35}, {(uint64_t)3 << 32 | (uint64_t)1 << 31, 0, 31},
+                 {(uint64_t)3 << 32, 0, 32}};
     for (size_t i = 0; i < sizeof picks / sizeof picks[0]; i++) {
         struct nucleus_picked p = pick(picks[i].pending);
         equal(p.refusal, picks[i].refusal, "refusal of a pick", i);
@@ -1025,8 +1032,126 @@ static void picks(void)
     }
 }
 
-/* What a call takes lies below its caller's frame. An empty call shows where that ends: it writes a return address at most, which is counted as
-   taken. It ends next below the place of the calls; else the thread by itself has reached down to it, and nothing is known. */
+/* ---- what the header does by itself */
+
+/* An event is built in a row in which every byte is the same before. */
+static struct {
+    uint8_t before[16];
+    uint8_t event[NUCLEUS_EVENT_BYTES];
+    uint8_t behind[16];
+} row, wanted_row;
+
+/* The row holds these bytes as an event, that is its length, and no other byte of the row was written. Then it is as it was before. */
+static void is_built(const char *hex, size_t length, int filling)
+{
+    memset(&wanted_row, filling, sizeof wanted_row);
+    equal(length, from_hex(hex, wanted_row.event), hex, 30);
+    expect(!differs(&row, &wanted_row, sizeof row), hex, 31);
+    memset(&row, filling, sizeof row);
+}
+
+/* Each builder against bytes that are written out by hand. Values that the nucleus refuses are let through. */
+static void calls_are_built(uint8_t *event, int filling)
+{
+    is_built("10 0005 01 00000007", nucleus_send_event(event, 1, 7), filling);
+    is_built("10 0005 FD A1B2C3D4", nucleus_send_event(event, 253, 0xA1B2C3D4), filling);
+    is_built("10 0005 FF FFFFFFFF", nucleus_send_event(event, 255, 0xFFFFFFFF), filling);
+    is_built("11 0001 03", nucleus_receive_event(event, 3), filling);
+    is_built("11 0001 FF", nucleus_receive_event(event, NUCLEUS_NOBODY), filling);
+    is_built("13 0005 00 0000000A", nucleus_trap_event(event, NUCLEUS_PROGRAM, 10), filling);
+    is_built("13 0005 01 00000000", nucleus_trap_event(event, NUCLEUS_TLB, 0), filling);
+    is_built("13 0005 02 E1E2E3E4", nucleus_trap_event(event, NUCLEUS_SYSBP, 0xE1E2E3E4), filling);
+    is_built("13 0005 FF 01020304", nucleus_trap_event(event, 255, 0x01020304), filling);
+    is_built("14 0000", nucleus_tick_event(event), filling);
+    is_built("15 000C 0102030405060708 A1B2C3D4", nucleus_interrupt_event(event, 0x0102030405060708, 0xA1B2C3D4), filling);
+    is_built("15 000C 0000000200000000 0000001B", nucleus_interrupt_event(event, (uint64_t)1 << 33, 27), filling);
+    is_built("15 000C 8000000000000001 FFFFFFFF", nucleus_interrupt_event(event, (uint64_t)1 << 63 | 1, 0xFFFFFFFF), filling);
+    is_built("15 000C 0000000000000000 00000000", nucleus_interrupt_event(event, 0, 0), filling);
+}
+
+static void requests_are_built(uint8_t *event, int filling)
+{
+    is_built("12 0002 02 01", nucleus_request_event(event, 2, 1), filling);
+    is_built("12 0002 00 FE", nucleus_request_event(event, 0, 254), filling);
+    is_built("12 0002 FF 00", nucleus_request_event(event, 255, 0), filling);
+    is_built("12 0002 01 00", nucleus_createbrother_event(event), filling);
+    is_built("12 0002 02 00", nucleus_createson_event(event), filling);
+    is_built("12 0002 03 09", nucleus_terminate_event(event, 9), filling);
+    is_built("12 0002 03 FF", nucleus_terminate_event(event, NUCLEUS_NOBODY), filling);
+    is_built("12 0002 04 07", nucleus_manager_event(event, NUCLEUS_PROGRAM, 7), filling);
+    is_built("12 0002 05 08", nucleus_manager_event(event, NUCLEUS_TLB, 8), filling);
+    is_built("12 0002 06 FD", nucleus_manager_event(event, NUCLEUS_SYSBP, 253), filling);
+    is_built("12 0002 00 05", nucleus_manager_event(event, 3, 5), filling); /* no service, and not the one behind the managers */
+    is_built("12 0002 00 05", nucleus_manager_event(event, 255, 5), filling);
+    is_built("12 0002 07 00", nucleus_getcputime_event(event), filling);
+    is_built("12 0002 08 00", nucleus_waitforclock_event(event), filling);
+    is_built("12 0002 09 21", nucleus_waitforio_event(event, 33), filling);
+    is_built("12 0002 09 FF", nucleus_waitforio_event(event, 255), filling);
+}
+
+static void builders(void)
+{
+    for (int filling = 0; filling < 256; filling += 51) {
+        memset(&row, filling, sizeof row);
+        calls_are_built(row.event, filling);
+        requests_are_built(row.event, filling);
+    }
+    start();
+    equal(step(row.event, nucleus_manager_event(row.event, 3, 0)).refusal, NUCLEUS_MALFORMED, "a manager for kind 3", 0);
+}
+
+/* A number with its name, that of the enum or UNKNOWN, in the order of numbers. */
+#define NAMED(name) {NUCLEUS_##name, #name}
+#define UNKNOWN "UNKNOWN"
+static const struct {
+    unsigned number;
+    const char *name;
+} refusals[] = {
+    NAMED(ACCEPTED), NAMED(NODE_STOPPED), NAMED(MALFORMED), NAMED(NO_RUNNER), NAMED(NO_SUCH_THREAD), NAMED(NO_BLOCK),
+    NAMED(NO_THREAD_BLOCK), NAMED(BROTHER_OF_0), NAMED(DEVICE_TAKEN), NAMED(BAD_DECISION), NAMED(OWN_MANAGER), NAMED(BAD_TABLES),
+    NAMED(SHORT_BUFFER), {13, UNKNOWN}, NAMED(SHORT_NUMBERS), NAMED(DUMP_CUT), NAMED(DUMP_ORDER), NAMED(DUMP_RANGE),
+    NAMED(DUMP_NAME), NAMED(DUMP_RULE), {20, UNKNOWN}, {255, UNKNOWN}, {256, UNKNOWN}, {~0u, UNKNOWN},
+};
+
+/* How many of 0 to 19 have this sentence. */
+static unsigned with_sentence(const char *sentence)
+{
+    unsigned n = 0;
+    for (unsigned i = 0; i < 20; i++)
+        n += !strcmp(nucleus_refusal_sentence(i), sentence);
+    return n;
+}
+
+/* Each number of 0 to 19 has a name and a sentence that no other one has, 13 those that all other numbers have. They are printed, for
+   tests/board: 'refusal NUMBER NAME SENTENCE'. */
+static void names_and_sentences(void)
+{
+    const char *none = nucleus_refusal_sentence(13);
+    for (size_t i = 0; i < sizeof refusals / sizeof refusals[0]; i++) {
+        unsigned number = refusals[i].number;
+        const char *name = nucleus_refusal_name(number), *sentence = nucleus_refusal_sentence(number);
+        int known = strcmp(refusals[i].name, UNKNOWN) != 0;
+        expect(number == i || (number >= 20 && !known), "each number of 0 to 19 is tried", number);
+        expect(!strcmp(name, refusals[i].name), "the name of a refusal", number);
+        expect(sentence[0] && known == (strcmp(sentence, none) != 0), "a refusal has a sentence, and other numbers have none", number);
+        equal(with_sentence(sentence), 1, "refusals with the sentence of this one", number);
+        printf("refusal %u %s %s\n", number, name, sentence);
+    }
+}
+
+#if NUCLEUS_VERSION < 10000
+#error "the version is a number for #if"
+#endif
+
+static void the_version(void)
+{
+    char shown[32];
+    snprintf(shown, sizeof shown, "%d.%d.%d", NUCLEUS_VERSION / 10000, NUCLEUS_VERSION / 100 % 100, NUCLEUS_VERSION % 100);
+    expect(!strcmp(shown, NUCLEUS_VERSION_STRING), "the version as a number and as a string", NUCLEUS_VERSION);
+}
+
+/* What a call takes lies below its caller's frame. An empty call shows where that ends: it writes a return address at most, which is
+   counted as taken. It ends next below the place of the calls; else the thread by itself has reached down to it, and nothing is known. */
 static void stacks(void)
 {
     call(NO_CALL, 0);
@@ -1067,6 +1192,9 @@ int main(void)
     any_length();
     the_end_of_all();
     picks();
+    builders();
+    names_and_sentences();
+    the_version();
     equal(refusals_met, 0xFDFFF, "refusals met, as bits: 0 to 12, 14 to 19", 0);
     stacks();
     printf("%u passed, %u failed\n", passed, failed);

@@ -68,11 +68,12 @@ static void noted_is(const char *wanted)
     noted[0] = 0;
 }
 
-static void call(uint8_t tag, uint8_t value_length, uint8_t a, uint8_t b, const char *wanted)
+static uint8_t event[NUCLEUS_EVENT_BYTES];
+
+/* The running thread causes the event that was just built. */
+static void call(size_t length, const char *wanted)
 {
-    uint8_t event[8] = {tag, 0, value_length, a};
-    event[value_length == 2 ? 4 : 7] = b; /* an argument, or the last byte of a word */
-    on_call(event, (size_t)value_length + 3);
+    on_call(event, length);
     noted_is(wanted);
 }
 
@@ -94,11 +95,11 @@ static void comes(const char *script)
 static void three_wait(void)
 {
     on_power(), noted_is("new:0 resumed:0 ");
-    call(NUCLEUS_REQUEST, 2, NUCLEUS_CREATESON, 0, "new:1 answer:0,4,254,1 resumed:0 ");
-    call(NUCLEUS_REQUEST, 2, NUCLEUS_CREATESON, 0, "new:2 answer:0,4,254,2 resumed:0 ");
-    call(NUCLEUS_REQUEST, 2, NUCLEUS_WAITFORIO, 5, "resumed:1 ");
-    call(NUCLEUS_REQUEST, 2, NUCLEUS_WAITFORCLOCK, 0, "resumed:2 ");
-    call(NUCLEUS_REQUEST, 2, NUCLEUS_WAITFORIO, 3, "waits ");
+    call(nucleus_createson_event(event), "new:1 answer:0,4,254,1 resumed:0 ");
+    call(nucleus_createson_event(event), "new:2 answer:0,4,254,2 resumed:0 ");
+    call(nucleus_waitforio_event(event, 5), "resumed:1 ");
+    call(nucleus_waitforclock_event(event), "resumed:2 ");
+    call(nucleus_waitforio_event(event, 3), "waits ");
 }
 
 /* Takes what was noted, but who is resumed, or that nobody is, only the last time. */
@@ -134,24 +135,26 @@ static void same_as_single(const char *script)
 
 static void gathered_calls(void)
 {
-    static const uint8_t create[] = {NUCLEUS_REQUEST, 0, 2, NUCLEUS_CREATESON, 0}, to_nobody[] = {NUCLEUS_SEND, 0, 5, 99, 0, 0, 0, 1};
-    static const uint8_t receive[] = {NUCLEUS_RECEIVE, 0, 1, NUCLEUS_NOBODY}, end[] = {NUCLEUS_REQUEST, 0, 2, NUCLEUS_TERMINATE, 255};
-
     /* thread 0 is handed its answer, though 1 runs again when the cut is done; and a cut in which nothing comes */
     on_power(), noted_is("new:0 resumed:0 ");
-    call(NUCLEUS_REQUEST, 2, NUCLEUS_CREATESON, 0, "new:1 answer:0,4,254,1 resumed:0 ");
-    call(NUCLEUS_REQUEST, 2, NUCLEUS_WAITFORIO, 5, "resumed:1 ");
+    call(nucleus_createson_event(event), "new:1 answer:0,4,254,1 resumed:0 ");
+    call(nucleus_waitforio_event(event, 5), "resumed:1 ");
     on_cut(), comes("t5ttttttttt"), noted_is("");
     on_cut_done(), noted_is("answer:0,4,254,C1C2C305 resumed:1 ");
     on_cut(), on_cut_done(), noted_is("resumed:1 ");
 
     /* calls of the runner, as from a file: each new thread gets its state, and a refusal is told to who ran then */
-    on_cut(), gather(create, sizeof create), gather(to_nobody, sizeof to_nobody), gather(create, sizeof create);
-    gather(receive, sizeof receive), gather(to_nobody, sizeof to_nobody), noted_is("");
+    on_cut();
+    gather(event, nucleus_createson_event(event));
+    gather(event, nucleus_send_event(event, 99, 1));
+    gather(event, nucleus_createson_event(event));
+    gather(event, nucleus_receive_event(event, NUCLEUS_NOBODY));
+    gather(event, nucleus_send_event(event, 99, 1));
+    noted_is("");
     on_cut_done(), noted_is("new:2 answer:1,4,254,2 told:1,4 new:3 answer:1,4,254,3 told:0,4 resumed:0 ");
 
     /* nobody remains: the ticks behind that change nothing */
-    on_cut(), gather(end, sizeof end), comes("tt"), noted_is("");
+    on_cut(), gather(event, nucleus_terminate_event(event, NUCLEUS_NOBODY)), comes("tt"), noted_is("");
     on_cut_done(), noted_is("stopped:2 ");
 
     same_as_single("t");
@@ -163,14 +166,14 @@ static void gathered_calls(void)
 int main(void)
 {
     on_power(), noted_is("new:0 resumed:0 ");
-    call(NUCLEUS_REQUEST, 2, NUCLEUS_CREATESON, 0, "new:1 answer:0,4,254,1 resumed:0 ");
-    call(NUCLEUS_RECEIVE, 1, NUCLEUS_NOBODY, 0, "resumed:1 ");
-    call(NUCLEUS_SEND, 5, 0, 7, "resumed:1 ");
-    call(NUCLEUS_REQUEST, 2, NUCLEUS_TERMINATE, NUCLEUS_NOBODY, "answer:0,1,1,7 resumed:0 ");
-    call(NUCLEUS_SEND, 5, 9, 4, "told:0,4 resumed:0 ");
-    call(NUCLEUS_REQUEST, 2, NUCLEUS_CREATEBROTHER, 0, "told:0,7 resumed:0 ");
-    call(NUCLEUS_REQUEST, 2, NUCLEUS_WAITFORIO, 5, "waits ");
-    call(NUCLEUS_SEND, 5, 0, 7, "waits "); /* refused 3: nobody is there to be told */
+    call(nucleus_createson_event(event), "new:1 answer:0,4,254,1 resumed:0 ");
+    call(nucleus_receive_event(event, NUCLEUS_NOBODY), "resumed:1 ");
+    call(nucleus_send_event(event, 0, 7), "resumed:1 ");
+    call(nucleus_terminate_event(event, NUCLEUS_NOBODY), "answer:0,1,1,7 resumed:0 ");
+    call(nucleus_send_event(event, 9, 4), "told:0,4 resumed:0 ");
+    call(nucleus_createbrother_event(event), "told:0,7 resumed:0 ");
+    call(nucleus_waitforio_event(event, 5), "waits ");
+    call(nucleus_send_event(event, 0, 7), "waits "); /* refused 3: nobody is there to be told */
     on_tick(), noted_is("waits ");
     pending = (uint64_t)1 << 5 | (uint64_t)1 << 33;
     on_device(), noted_is("answer:0,4,254,C1C2C305 resumed:0 ");
@@ -178,17 +181,17 @@ int main(void)
     on_device(), noted_is("");
     pending = (uint64_t)1 << 48;
     on_device(), noted_is("");
-    call(NUCLEUS_REQUEST, 2, NUCLEUS_WAITFORIO, 33, "answer:0,4,254,C1C2C321 resumed:0 ");
-    call(NUCLEUS_REQUEST, 2, NUCLEUS_WAITFORIO, 33, "waits ");
+    call(nucleus_waitforio_event(event, 33), "answer:0,4,254,C1C2C321 resumed:0 ");
+    call(nucleus_waitforio_event(event, 33), "waits ");
     pending = (uint64_t)1 << 33 | (uint64_t)1 << 42; /* the log on terminal 5 goes before the key on terminal 0 */
     on_device(), noted_is("waits ");
     on_device(), noted_is("answer:0,4,254,C1C2C321 resumed:0 ");
-    call(NUCLEUS_REQUEST, 2, NUCLEUS_WAITFORIO, 42, "answer:0,4,254,C1C2C32A resumed:0 ");
+    call(nucleus_waitforio_event(event, 42), "answer:0,4,254,C1C2C32A resumed:0 ");
     on_tick(), noted_is("resumed:0 ");
-    call(NUCLEUS_RECEIVE, 1, NUCLEUS_NOBODY, 0, "stopped:3 ");
+    call(nucleus_receive_event(event, NUCLEUS_NOBODY), "stopped:3 ");
     on_tick(), noted_is("stopped:3 ");
     on_power(), noted_is("new:0 resumed:0 ");
-    call(NUCLEUS_TRAP, 5, NUCLEUS_PROGRAM, 1, "stopped:2 ");
+    call(nucleus_trap_event(event, NUCLEUS_PROGRAM, 1), "stopped:2 ");
     gathered_calls();
     printf("%u passed, %u failed\n", passed, failed);
     return failed != 0;
