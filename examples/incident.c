@@ -1,6 +1,6 @@
 /* The incident, in plain C, with the builders of the header; docs/BOARD.md says how to build it.
    A fetch asks the store, and is ended while the store waits for its disk. A new fetch is made, and asks for something else. Then the store
-   answers the one that has ended. These are the 18 events that crates/laws computes (proofs/Examples.antt, `incident`). The new fetch has
+   answers the one that has ended. These are the 18 events that crates/laws computes (specs/Examples.antt, `incident`). The new fetch has
    another name, so the late answer is refused, and the new fetch is handed the answer to its own question.
    The exit status is 1 if anybody is handed the late answer. */
 #include "nucleus.h"
