@@ -16,7 +16,7 @@ TOP = os.path.dirname(os.path.dirname(os.path.abspath(__file__)))
 HEADER = os.path.join(TOP, "include", "nucleus.h")
 PROGRAMS = ("node", "snapshot", "inspect")
 # More event bytes than this are not run: answers and events are held whole.
-MOST = 1 << 26
+MOST = 1 << 22
 
 
 class Wrong(Exception):
@@ -33,6 +33,7 @@ STATUS_WORDS = ("running", "idle", "halted", "panicked")
 STATE_WORDS = ("running", "ready", "receiving", "at the clock", "at a device", "trapped")
 KIND_WORDS = ("nothing", "message", "notice", "sender gone", "service result")
 TRAP_WORDS = ("program", "tlb", "sysbp")
+DUMP_RULE = 19  # the refusal of a dump that names no field: its offset is 0
 
 # A line of node.
 Answer = namedtuple("Answer", "line refusal status runner kind sender word")
@@ -50,16 +51,16 @@ Tables = namedtuple("Tables", "node threads ready clock messages held")
 
 
 def module_of(path):
-    """The Python script there, as a module; nothing is left beside it."""
+    """The Python script there, as a module."""
+    sys.dont_write_bytecode = True  # nothing is to be left beside the script
     loader = importlib.machinery.SourceFileLoader(os.path.basename(path), path)
     module = importlib.util.module_from_spec(importlib.util.spec_from_loader(loader.name, loader))
-    kept, sys.dont_write_bytecode = sys.dont_write_bytecode, True
     loader.exec_module(module)
-    sys.dont_write_bytecode = kept
     return module
 
 
 EVENTS = module_of(os.path.join(TOP, "tools", "events"))
+TICK = EVENTS.TICK
 
 
 def read(path):
@@ -112,6 +113,11 @@ def cut(data):
 def written(field):
     """The field as tools/events --back writes it."""
     return EVENTS.line_of(field)
+
+
+def lack(field):
+    """What a field that is cut off lacks; nothing if it is whole."""
+    return EVENTS.lack(field)
 
 
 # The programs.
@@ -197,6 +203,7 @@ def tables_of(fields):
 # Refusals.
 
 
+@functools.lru_cache(maxsize=None)
 def refusals(header=HEADER):
     """The name and the sentence of each refusal by its number, as the header for C says them."""
     with open(header) as source:
