@@ -129,7 +129,7 @@ def words_before():
     build()
     for name in PROGRAMS:
         if not os.access(built(name), os.X_OK):
-            raise Wrong(f"target/bin/{name} is missing; 'rt check {' '.join(PROGRAMS)}' builds it")
+            raise Wrong(f"target/bin/{name} is missing; './run --build' builds it")
     said = subprocess.run([os.path.join(TOP, "tests", "with-programs")], stdout=subprocess.PIPE)
     if said.returncode != 0:
         raise Wrong("the programs cannot be run on this processor")
@@ -166,11 +166,11 @@ def rows(lines):
 
 def answers(data):
     """An Answer for each field, and the last line."""
-    *lines, last = output("node", data).decode().splitlines()
-    found = [Answer(*row) for row in rows(lines)]
-    if [answer.line for answer in found] != list(range(1, len(cut(data)) + 1)):
+    lines = output("node", data).decode().splitlines()
+    found = [Answer(*row) for row in rows(lines[:-1])]
+    if not lines or [answer.line for answer in found] != list(range(1, len(cut(data)) + 1)):
         raise Wrong(f"node gave {len(found)} answers to {len(cut(data))} events")
-    return found, last
+    return found, lines[-1]
 
 
 def tables_after(data):
