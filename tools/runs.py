@@ -123,17 +123,12 @@ def lack(field):
 # The programs.
 
 
-@functools.lru_cache(maxsize=None)
-def words_before():
-    """Sees once to it that the programs are built. Gives what stands before them here: an emulator, or nothing."""
-    build()
-    for name in PROGRAMS:
-        if not os.access(built(name), os.X_OK):
-            raise Wrong(f"target/bin/{name} is missing; './run --build' builds it")
-    said = subprocess.run([os.path.join(TOP, "tests", "with-programs")], stdout=subprocess.PIPE)
-    if said.returncode != 0:
-        raise Wrong("the programs cannot be run on this processor")
-    return said.stdout.decode().splitlines()
+def begun(command, **more):
+    """A command, run to its end."""
+    try:
+        return subprocess.run(command, **more)
+    except OSError as error:
+        raise Wrong(f"cannot run {os.path.relpath(command[0], TOP)}: {error.strerror}") from None
 
 
 def built(name):
@@ -143,17 +138,27 @@ def built(name):
 def build():
     """./run --build, whose progress is for whoever waits. A ./run that has no such option builds nothing here."""
     run = os.path.join(TOP, "run")
-    with open(run) as script:
-        knows = "--build" in script.read()
-    if knows and subprocess.run([run, "--build"], stdin=subprocess.DEVNULL, stdout=sys.stderr).returncode != 0:
+    if b"--build" in read(run) and begun([run, "--build"], stdin=subprocess.DEVNULL, stdout=sys.stderr).returncode != 0:
         raise Wrong("the programs could not be built")
+
+
+@functools.lru_cache(maxsize=None)
+def words_before():
+    """Sees once to it that the programs are there. Gives what stands before them here: an emulator, or nothing."""
+    build()
+    for name in PROGRAMS:
+        if not os.access(built(name), os.X_OK):
+            raise Wrong(f"target/bin/{name} is missing; './run --build' builds it")
+    said = begun([os.path.join(TOP, "tests", "with-programs")], stdout=subprocess.PIPE)
+    if said.returncode != 0:
+        raise Wrong("the programs cannot be run on this processor")
+    return said.stdout.decode().splitlines()
 
 
 def output(name, given):
     """What a program prints. It says something on standard error exactly if it cannot go on."""
     settings = {word: value for word, value in os.environ.items() if not word.startswith("QEMU_")}
-    before = words_before()
-    done = subprocess.run(before + [built(name)], input=given, stdout=subprocess.PIPE, stderr=subprocess.PIPE, env=settings)
+    done = begun(words_before() + [built(name)], input=given, stdout=subprocess.PIPE, stderr=subprocess.PIPE, env=settings)
     if done.returncode != 0 or done.stderr:
         said = done.stderr.decode(errors="replace").strip() or f"{name}: ended with status {done.returncode}"
         raise Wrong(said.splitlines()[0])
@@ -205,9 +210,8 @@ def tables_of(fields):
 
 @functools.lru_cache(maxsize=None)
 def refusals(header=HEADER):
-    """The name and the sentence of each refusal by its number, as the header for C says them."""
-    with open(header) as source:
-        text = source.read()
+    """The name and the sentence of each refusal by its number, as the header for C says them: 4 is 'no such thread'."""
+    text = read(header).decode()
     names = re.search(r"enum nucleus_refusal \{(.*?)\};", text, re.S)[1]
     sentences = dict(re.findall(r'case NUCLEUS_(\w+):\s*return "((?:[^"\\]|\\.)*)";', body_of("nucleus_refusal_sentence", text)))
     numbers = {name: int(number) for name, number in re.findall(r"NUCLEUS_(\w+) = (\d+)", names)}
