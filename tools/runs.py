@@ -77,7 +77,7 @@ def named(path):
 
 
 def is_text(data):
-    """No control byte but tab, line feed and return, which every event but a rare broken one has; and all of it UTF-8."""
+    """Text is UTF-8 with no control byte but tab, line feed and return. An event has another: its tag."""
     try:
         data.decode("utf-8")
     except UnicodeDecodeError:
