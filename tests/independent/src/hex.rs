@@ -1,4 +1,4 @@
-//! Fields in hex, in the groups that document 01 shows.
+//! Fields in hex, in the groups that document 01 shows, and bytes without groups.
 
 use crate::dump;
 use crate::event;
@@ -34,4 +34,9 @@ fn groups_of(tag: u8, length: usize) -> &'static [usize] {
 
 fn digits(bytes: &[u8]) -> String {
     bytes.iter().map(|byte| format!("{byte:02X}")).collect()
+}
+
+/// Small digits and nothing between them.
+pub fn plain(bytes: &[u8]) -> String {
+    bytes.iter().map(|byte| format!("{byte:02x}")).collect()
 }

@@ -18,7 +18,8 @@
 //! * `rubbish`   event files that look at nothing
 //! * `rings`     rows and rings of threads that wait for each other
 //! * `census`    what runs reach
-//! * `valid`     random tables that meet the table rules, and their dumps
+//! * `valid`     random tables that meet the table rules, and their dumps; `long` those of nearly full tables
+//! * `wrap`      nodes whose counts and beats are about to pass 2^32
 //! * `damage`    damaged dumps; `breaks` those with one table rule broken, `spoil` those with a fault of one cause
 //! * `verdicts`  what bytes were refused for, counted
 //! * `compare`   the comparison of programs under test with this one
@@ -36,6 +37,7 @@ pub mod fault;
 pub mod generator;
 pub mod hex;
 pub mod lent;
+pub mod long;
 pub mod node;
 pub mod numbers;
 pub mod program;
@@ -48,6 +50,7 @@ pub mod tables;
 pub mod thread;
 pub mod valid;
 pub mod verdicts;
+pub mod wrap;
 
 pub use dump::load;
 pub use event::pick;

@@ -6,6 +6,7 @@
 
 use nucleus::batch::{self, NUMBERS};
 use nucleus::generator::{Form, Generator};
+use nucleus::hex::plain as hex;
 use nucleus::Node;
 use std::io::{self, BufWriter, Write};
 use std::process::ExitCode;
@@ -61,8 +62,4 @@ fn write_batch(output: &mut impl Write, run: u64, gathered: &[u8]) -> io::Result
     let numbers: Vec<String> = done.numbers.iter().map(u32::to_string).collect();
     let (refusal, read) = (done.refusal, done.read);
     writeln!(output, "batch {room} {} : {refusal} : {} : {read} : {}", hex(bytes), numbers.join(" "), hex(&node.dump()))
-}
-
-fn hex(bytes: &[u8]) -> String {
-    bytes.iter().map(|byte| format!("{byte:02x}")).collect()
 }

@@ -2,6 +2,7 @@
 //! `HEX : refusal offset`. Of no bytes HEX is empty.
 
 use nucleus::damage::{damage_by, kinds};
+use nucleus::hex::plain as hex;
 use nucleus::random::Random;
 use nucleus::{dump, load, valid};
 use std::io::{self, BufWriter, Write};
@@ -54,8 +55,4 @@ fn short_dump(longest: usize, random: &mut Random) -> Vec<u8> {
             return bytes;
         }
     }
-}
-
-fn hex(bytes: &[u8]) -> String {
-    bytes.iter().map(|byte| format!("{byte:02x}")).collect()
 }

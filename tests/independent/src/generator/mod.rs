@@ -82,6 +82,12 @@ impl Generator {
         }
     }
 
+    /// A run from this node on that does not stop. Time goes on in it, and threads ask about it.
+    pub fn counting(node: Node, seed: u64, count: u64) -> Generator {
+        let moods = vec![(4, Mood::Count), (1, Mood::Clock), (1, Mood::Mixed)];
+        Generator { node, moods, mood: Mood::Count, fate: Fate::Lives, ..Generator::new(seed, count, Form::Single) }
+    }
+
     pub fn node(&self) -> &Node {
         &self.node
     }

@@ -25,6 +25,8 @@ pub enum Mood {
     Mixed,
     /// Only when hardly anybody can act.
     Rescue,
+    /// Only where it is asked for: time goes on, and threads ask about it.
+    Count,
 }
 
 pub const MOODS: [(u64, Mood); 16] = [
@@ -104,6 +106,10 @@ pub fn actions(mood: Mood) -> &'static [(u64, Action)] {
         ],
         Mood::Rescue => &[
             (30, EndMany), (15, EndAny), (20, SendWaiting), (20, Continue), (10, Son), (10, Tick), (5, ReceiveHere),
+        ],
+        Mood::Count => &[
+            (40, Tick), (40, TickToBeat), (40, CpuTime), (24, WaitClockBeside), (5, WaitClock), (3, Son), (2, SendBusy),
+            (2, ReceiveHere), (1, Interrupt),
         ],
         Mood::Mixed => &[
             (4, Son), (2, Brother), (5, SendAny), (2, SendSelf), (4, SendBusy), (5, SendWaiting), (2, SendTrapped),
