@@ -1,9 +1,7 @@
 //! Long dumps: the longest there is, and others of nearly full tables.
 
-use crate::damage::{damage_by, Damage};
 use crate::dump;
-use crate::fault::CAUSES;
-use crate::numbers::{Refusal, BLOCKS, DEVICES, FIRST, KINDS, NAMES, NOBODY, SLICE, THREADS};
+use crate::numbers::{BLOCKS, DEVICES, FIRST, KINDS, NAMES, NOBODY, SLICE, THREADS};
 use crate::random::Random;
 use crate::tables::{state, RawHeld, RawMessage, RawThread, Tables};
 use crate::valid;
@@ -11,8 +9,8 @@ use crate::valid;
 /// The length of the longest dump.
 pub const LONGEST: usize = 1202;
 
-/// 20 threads in a ring of managers, those from this place on trapped with their notices unread, 20 ordinary messages, a word for each device.
-/// From 0 on it is the longest dump; from 1 on the first thread runs, and there are 39 messages and notices.
+/// 20 threads in a ring of managers, those from this place on trapped with their notices unread; 20 ordinary messages; a word for each
+/// device. From 0 on it is the longest dump; from 1 on the first thread runs, and there are 39 messages and notices.
 pub fn full(first: usize, random: &mut Random) -> Tables {
     let mut tables = Tables { name_given_last: random.below(NAMES.into()) as u8, ..Tables::default() };
     tables.threads = ring(random);
@@ -38,7 +36,17 @@ fn ring(random: &mut Random) -> Vec<RawThread> {
         let parent = if place == 0 { NOBODY } else { names[place - 1] };
         let (name, count) = (names[place], random.bits() as u32);
         let (answer_kind, answer_sender, answer_word) = (0, NOBODY, 0);
-        RawThread { name, parent, state: state::TRAPPED, detail: kind, managers, count, answer_kind, answer_sender, answer_word }
+        RawThread {
+            name,
+            parent,
+            state: state::TRAPPED,
+            detail: kind,
+            managers,
+            count,
+            answer_kind,
+            answer_sender,
+            answer_word,
+        }
     };
     (0..THREADS).map(|place| thread(place, random)).collect()
 }
@@ -80,11 +88,4 @@ pub fn any(least: usize, random: &mut Random) -> Vec<u8> {
             return bytes;
         }
     }
-}
-
-/// The dump damaged for some cause of this number, if it gives room for it.
-pub fn damaged(bytes: &[u8], number: Refusal, random: &mut Random) -> Option<Vec<u8>> {
-    let causes: Vec<_> = CAUSES.into_iter().filter(|cause| cause.refusal() == number).collect();
-    let cause = random.choose(&causes)?;
-    damage_by(bytes, Damage::Fault(cause), random)
 }

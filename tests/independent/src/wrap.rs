@@ -13,12 +13,14 @@ pub fn node(longest: usize, random: &mut Random) -> Node {
         let mut tables = valid::tables(random);
         bring_near(&mut tables, random);
         if tables.has_runner() && dump::write(&tables).len() <= longest {
-            return Node::from_tables(&tables).expect("no rule ties counts, beats and ticks since the beat to anything");
+            return Node::from_tables(&tables)
+                .expect("no rule ties counts, beats and ticks since the beat to anything");
         }
     }
 }
 
-/// The fourth beat at the latest is beat 0, and a count is 0 after twelve ticks at the latest. The next beat is often one or two ticks away.
+/// The fourth beat at the latest is beat 0, and a count is 0 after twelve ticks at the latest. The next beat is often one or two
+/// ticks away.
 fn bring_near(tables: &mut Tables, random: &mut Random) {
     tables.beats = u32::MAX - random.below(4) as u32;
     if random.one_in(2) {

@@ -1,8 +1,8 @@
-//! long SEED EACH: writes long dumps, each as a line `HEX : refusal offset`. Four are good: the longest there is, one with a runner, and two of
-//! any nearly full tables. Then EACH damaged ones for every number from 15 to 19, made of these four in turn.
+//! long SEED: writes long dumps, each as a line `HEX : refusal offset`. Four are good: the longest there is, one with a runner, and
+//! two of any nearly full tables. Then one for each way of damage that leaves something of the dump.
 
+use nucleus::damage::{damage_by, kinds, Damage};
 use nucleus::hex::plain as hex;
-use nucleus::numbers::OF_BYTES;
 use nucleus::random::Random;
 use nucleus::{dump, load, long};
 use std::io::{self, BufWriter, Write};
@@ -10,11 +10,11 @@ use std::process::ExitCode;
 
 fn main() -> ExitCode {
     let arguments: Vec<u64> = std::env::args().skip(1).filter_map(|a| a.parse().ok()).collect();
-    let [seed, each] = arguments[..] else {
-        eprintln!("usage: long SEED EACH");
+    let [seed] = arguments[..] else {
+        eprintln!("usage: long SEED");
         return ExitCode::FAILURE;
     };
-    match write_dumps(seed, each) {
+    match write_dumps(seed) {
         Ok(()) => ExitCode::SUCCESS,
         Err(error) => {
             eprintln!("long: {error}");
@@ -23,25 +23,41 @@ fn main() -> ExitCode {
     }
 }
 
-/// Nearly full tables have dumps of this length at least.
+/// Nearly full tables have dumps of so many bytes at least, and a damage leaves so many at most.
 const LEAST: usize = 900;
+const MOST: usize = 2_500;
 
-fn write_dumps(seed: u64, each: u64) -> io::Result<()> {
+fn write_dumps(seed: u64) -> io::Result<()> {
     let mut output = BufWriter::new(io::stdout().lock());
     let mut random = Random::new(seed);
-    let full = [0, 1].map(|first| dump::write(&long::full(first, &mut random)));
-    let any = [0; 2].map(|_| long::any(LEAST, &mut random));
-    let good = [full, any].concat();
-    for bytes in &good {
-        write_line(&mut output, bytes)?;
+    for bytes in good(&mut random) {
+        write_line(&mut output, &bytes)?;
     }
-    let numbers = OF_BYTES.into_iter().flat_map(|number| (0..each).map(move |_| number));
-    for (place, number) in numbers.enumerate() {
-        let bytes = &good[place % good.len()];
-        let damaged = std::iter::repeat_with(|| long::damaged(bytes, number, &mut random)).flatten().next();
-        write_line(&mut output, &damaged.unwrap_or_default())?;
+    for kind in kinds().into_iter().filter(|&kind| kind != Damage::AnyFields) {
+        write_line(&mut output, &damaged(kind, &mut random))?;
     }
     output.flush()
+}
+
+fn good(random: &mut Random) -> [Vec<u8>; 4] {
+    let full = [0, 1].map(|first| dump::write(&long::full(first, random)));
+    let any = [0; 2].map(|_| long::any(LEAST, random));
+    let ([longest, running], [one, other]) = (full, any);
+    assert_eq!(longest.len(), long::LONGEST);
+    [longest, running, one, other]
+}
+
+/// One of four such dumps, damaged in this way; of four others, if none gives room for it.
+fn damaged(kind: Damage, random: &mut Random) -> Vec<u8> {
+    loop {
+        let mut dumps = good(random);
+        dumps.rotate_left(random.below(4) as usize);
+        let found =
+            dumps.iter().find_map(|bytes| damage_by(bytes, kind, random).filter(|bytes| bytes.len() <= MOST));
+        if let Some(bytes) = found {
+            return bytes;
+        }
+    }
 }
 
 fn write_line(output: &mut impl Write, bytes: &[u8]) -> io::Result<()> {

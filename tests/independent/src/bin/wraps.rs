@@ -1,6 +1,6 @@
-//! wraps SEED RUNS EVENTS: writes RUNS runs of EVENTS events each as text, from nodes whose counts and beats are about to pass 2^32. A run is a
-//! line `run HEX` with the dump that it begins with, a line `HEX : refusal status runner kind sender word` per event, and a line `dump HEX` with
-//! the dump at its end.
+//! wraps SEED RUNS EVENTS: writes RUNS runs of EVENTS events each as text, from nodes whose counts and beats are about to pass 2^32.
+//! A run is a line `run HEX` with the dump that it begins with, a line `HEX : refusal status runner kind sender word` per event, and a
+//! line `dump HEX` with the dump at its end.
 
 use nucleus::generator::Generator;
 use nucleus::hex::plain as hex;
