@@ -13,3 +13,7 @@ pub mod Bytes
 pub mod Batch
 pub mod Dump
 pub mod Faults
+pub mod Lent
+pub mod Batches
+pub mod Board
+pub mod Programs

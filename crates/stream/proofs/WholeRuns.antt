@@ -94,7 +94,7 @@ module _ {m : List ℕ} {r : Run} {input out m′ input′ out′ : List ℕ} {v
       same-as-served (λ (x : Run). x .filled) (λ e. ap (λ (x : Run). x .filled) (ρ .reads e .leaves))
       ∙ ap (λ (x : Run). x .filled) (ρ .serves .leaves)
 
-  -- what the turn left waits, and behind it the piece ρ
+  -- what the turn left waits, and behind it the piece
   left-is : waiting (window (ρ .served)) input ≡ drop (ρ .serves .turn .used) (waiting (window r) input)
   left-is = ap (λ (x : Run). waiting (window x) input) (ρ .serves .leaves) ∙ sym (turn-leaves r (ρ .serves .turn) input)
 
@@ -111,7 +111,7 @@ module _ {m : List ℕ} {r : Run} {input out m′ input′ out′ : List ℕ} {v
   module _ (coming : List ℕ) where
     joined : drop (ρ .serves .turn .used) (waiting (window r) input) ++ (piece ρ ++ coming) ≡ waiting (window v) input′ ++ coming
     joined =
-        sym (append-assoc (drop (ρ .serves .turn .used) (waiting (window r) input)) piece ρ coming)
+        sym (append-assoc (drop (ρ .serves .turn .used) (waiting (window r) input)) (piece ρ) coming)
         ∙ ap (λ (l : List ℕ). l ++ coming) (sym waits-next)
 
     round-prints : prints (r .line) (tables m) (waiting (window r) input ++ (piece ρ ++ coming))
