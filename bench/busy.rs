@@ -1,9 +1,9 @@
-//! busy SEED EVENTS small|big: writes EVENTS event fields of a busy node to standard output, at limits of 20 threads and 20 blocks, or of 64
-//! and 128: nearly all threads are alive, nearly all blocks are used, and a quarter of the threads can run.
+//! busy SEED EVENTS small|big: writes EVENTS event fields of a busy node to standard output, at limits of 20 threads and 20 blocks, or of
+//! 64 and 128: nearly all threads are alive, nearly all blocks are used, and a quarter of the threads can run.
 //!
-//! Events are drawn at random, and tried on plain Rust first. One that would leave the node less busy is drawn again: that halts or panics it,
-//! or takes threads, messages or threads that can run below what a busy node has. Refused events come up as they do: a full table of threads,
-//! no free block, a device that is waited for, a dead name.
+//! Events are drawn at random, and tried on plain Rust first. One that would leave the node less busy is drawn again: that halts or
+//! panics it, or takes threads, messages or threads that can run below what a busy node has. Refused events come up as they do: a full
+//! table of threads, no free block, a device that is waited for, a dead name.
 
 use nucleus::random::Random;
 use std::io::{self, Write};

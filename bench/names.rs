@@ -1,10 +1,10 @@
 //! names EVENTS small|big block|spread: writes EVENTS event fields to standard output: creations and endings at limits of 20 threads and 20
 //! blocks, or of 64 and 128. Before each creation all the threads but one that there is room for are alive: 19, or 63.
 //!
-//! Thread 0 makes sons until they are so many. Then it makes one more and ends one, over and over. From the second round of the names on the
-//! same threads stay. Their names are a block from 0 on, so that one creation in each round has them all in its way; or they are spread over
-//! the names, so that each is in the way of another creation. Nothing else differs: event by event both files ask for the same service, with
-//! as many threads alive.
+//! Thread 0 makes sons until they are so many. Then it makes one more and ends one, over and over. From the second round of the names on
+//! the same threads stay. Their names are a block from 0 on, so that one creation in each round has them all in its way; or they are
+//! spread over the names, so that each is in the way of another creation. Nothing else differs: event by event both files ask for the
+//! same service, with as many threads alive.
 
 use std::io::{self, Write};
 use std::process::ExitCode;

@@ -1,5 +1,6 @@
-//! stack FILE..: the most bytes of stack that one step takes, over all events of the files: on a slice, by value, and as the board's C code calls it
-//! if libboard.a is there. It is what lies below the caller's frame: the return address, and all that the step and what it calls write.
+//! stack FILE..: the most bytes of stack that one step takes, over all events of the files: on a slice, by value, and as the board's C
+//! code calls it if libboard.a is there. It is what lies below the caller's frame: the return address, and all that the step and what it
+//! calls write.
 //!
 //! The stack below is painted before the call, and the lowest byte that has changed is sought after it.
 

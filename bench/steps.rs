@@ -1,8 +1,7 @@
-//! steps ROUNDS FILE..: times the steps of three programs over the same events in one run: plain Rust, the independent program and the proved
-//! nucleus. Then the check by itself, of plain Rust and of the proved nucleus, on the same tables.
-//! steps names ROUNDS FILE..: the steps alone, without the check by itself.
-//! steps big ROUNDS FILE..: times the step of plain Rust and the proved one at limits of 64 threads and 128 blocks.
-//! steps only NAME FILE: runs one of them once, for a profiler. NAME: one of RUNS or BIG, check or plain-check.
+//! steps ROUNDS FILE..: times the steps of three programs over the same events in one run: plain Rust, the independent program and the
+//! proved nucleus. Then the check by itself, of plain Rust and of the proved nucleus, on the same tables. steps names ROUNDS FILE..: the
+//! steps alone, without the check by itself. steps big ROUNDS FILE..: times the step of plain Rust and the proved one at limits of 64
+//! threads and 128 blocks. steps only NAME FILE: runs one of them once, for a profiler. NAME: one of RUNS or BIG, check or plain-check.
 //!
 //! A time is the best of ROUNDS. The counts of accepted events must agree; a time is never a test.
 

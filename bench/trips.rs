@@ -1,6 +1,6 @@
-//! trips SEED DUMPS DAMAGES: reads random dumps, and DAMAGES damaged ones of each, by the proved reader, and writes what was read again by the
-//! proved writer. The independent program says which bytes are a dump, and of others with which number and offset they are refused; what is
-//! written again must be those bytes. The last line is 'N passed, M failed'.
+//! trips SEED DUMPS DAMAGES: reads random dumps, and DAMAGES damaged ones of each, by the proved reader, and writes what was read again
+//! by the proved writer. The independent program says which bytes are a dump, and of others with which number and offset they are
+//! refused; what is written again must be those bytes. The last line is 'N passed, M failed'.
 
 #[allow(dead_code)]
 mod proved;

@@ -1,6 +1,6 @@
-//! Which rule bytes break that are no dump, and in which field (document 02, CR 4). The first walk looks at tags and lengths alone and notes
-//! the live names. Only if these are right do values mean something: the second walk looks at them, field by field. What passes both breaks
-//! another rule of those that the strict reader asks.
+//! Which rule bytes break that are no dump, and in which field (document 02, CR 4). The first walk looks at tags and lengths alone and
+//! notes the live names. Only if these are right do values mean something: the second walk looks at them, field by field. What passes
+//! both breaks another rule of those that the strict reader asks.
 
 use crate::numbers::{refusal, BEAT, DEVICES, NAMES, NOBODY, NOTICE, ORDINARY, SERVICE, SLICE};
 use crate::threads::{Answer, State};

@@ -15,8 +15,8 @@
 //! * `dump`, `load`: the dump's writer and reader
 //! * `fault`    where bytes are bad that are no dump
 //!
-//! With the feature `big` (crate big) the limits are 64 threads and 128 blocks, and there is the step alone: the table rules here have sets of
-//! 32 places.
+//! With the feature `big` (crate big) the limits are 64 threads and 128 blocks, and there is the step alone: the table rules here have
+//! sets of 32 places.
 
 #![forbid(unsafe_code)]
 #![cfg_attr(feature = "big", allow(dead_code))]

@@ -1,5 +1,5 @@
-//! The table rules, for refusal 11 and for dumps. One pass over the threads finds the place of each name and who is in which state; after it each
-//! look-up is one load, and every row is walked once.
+//! The table rules, for refusal 11 and for dumps. One pass over the threads finds the place of each name and who is in which state; after
+//! it each look-up is one load, and every row is walked once.
 
 use crate::numbers::{BEAT, BLOCKS, DEVICES, FIRST, NAMES, NOBODY, NOTICE, ORDINARY, SLICE};
 use crate::threads::{State, Thread};
@@ -43,8 +43,8 @@ impl Found {
 }
 
 impl Plain {
-    /// The order of rows is part of the layout, so it is asked too. That counts are within the arrays, and numbers stand for states, is seen
-    /// to where they are read into rows.
+    /// The order of rows is part of the layout, so it is asked too. That counts are within the arrays, and numbers stand for states, is
+    /// seen to where they are read into rows.
     pub fn meets_rules(&self) -> bool {
         let Some(found) = self.find() else { return false };
         self.last < NAMES
@@ -88,8 +88,8 @@ impl Plain {
         }
     }
 
-    /// Thread 0 alone has no parent, and every line of parents comes to it (if 0 has one, no line ends). A line is climbed only as far as no
-    /// earlier one went.
+    /// Thread 0 alone has no parent, and every line of parents comes to it (if 0 has one, no line ends). A line is climbed only as far as
+    /// no earlier one went.
     fn parents_right(&self, found: &Found) -> bool {
         let mut rooted = 0u32;
         for place in 0..self.threads.len() {
@@ -124,8 +124,8 @@ impl Plain {
         true
     }
 
-    /// Receivers rise; both names are live; no receiver waits for it; 20 ordinary ones at most; a notice's sender is trapped on its receiver
-    /// and has no other.
+    /// Receivers rise; both names are live; no receiver waits for it; 20 ordinary ones at most; a notice's sender is trapped on its
+    /// receiver and has no other.
     fn messages_right(&self, found: &Found) -> bool {
         let (mut ordinary, mut notices, mut least) = (0, 0u32, 0);
         for message in self.messages.iter() {

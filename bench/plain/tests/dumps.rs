@@ -1,5 +1,5 @@
-//! Good and damaged dumps: both programs read them, or both refuse them with the same number at the same offset, and what is read is written
-//! as the same bytes.
+//! Good and damaged dumps: both programs read them, or both refuse them with the same number at the same offset, and what is read is
+//! written as the same bytes.
 
 mod common;
 use common::*;

@@ -1,6 +1,6 @@
-//! Whether lent words stand for tables that meet the table rules. The numbers that they say are written as the bytes of a dump, in the order in
-//! which they stand, and the independent program says whether those bytes are a dump. So the order of rows and numbers that no writer gives are
-//! judged by "Bytes are a dump exactly if these rules hold and the writer gives those bytes".
+//! Whether lent words stand for tables that meet the table rules. The numbers that they say are written as the bytes of a dump, in the
+//! order in which they stand, and the independent program says whether those bytes are a dump. So the order of rows and numbers that no
+//! writer gives are judged by "Bytes are a dump exactly if these rules hold and the writer gives those bytes".
 
 use crate::layout::Said;
 use nucleus::{dump, load, Node, Rule};

@@ -1,7 +1,7 @@
 //! What each word of the lent room says: crates/memory/specs/Layout.antt and crates/words/specs/Saying.antt, said again here.
 //!
-//! The reader is strict: it knows which words are written for something, and takes no other. It notes which words it looked at. All others say
-//! nothing: hints, spare words, an ending's set, a word that is held for no device, and what stands behind a count.
+//! The reader is strict: it knows which words are written for something, and takes no other. It notes which words it looked at. All
+//! others say nothing: hints, spare words, an ending's set, a word that is held for no device, and what stands behind a count.
 
 use crate::judge::Ground;
 use nucleus::tables::{state, RawHeld, RawMessage, RawThread};
@@ -195,8 +195,8 @@ fn status(numbers: &Numbers) -> u8 {
 
 // ---- writing
 
-/// Writes the words that say something, for any numbers. Rows that find no place are only counted, and a number that no word says is written as one
-/// that the reader does not take.
+/// Writes the words that say something, for any numbers. Rows that find no place are only counted, and a number that no word says is
+/// written as one that the reader does not take.
 pub fn put(words: &mut Words, numbers: &Numbers, limits: Limits) {
     let most = limits.0 as usize;
     let runner = or_none(numbers.runner);

@@ -2,8 +2,8 @@
 //! answer, and every byte that they leave, is held to the independent program. The last line is 'N passed, M failed'; a case is the sizes,
 //! a kind of tables, or that everything came up which is to come up.
 //!
-//! Most are whole tables with each bit of the room flipped in turn. A flip in a word that counts is refused with 11 or stands for other tables;
-//! any other flip changes no answer and no dump, then or later: what is demanded behind it rests on the tables alone.
+//! Most are whole tables with each bit of the room flipped in turn. A flip in a word that counts is refused with 11 or stands for other
+//! tables; any other flip changes no answer and no dump, then or later: what is demanded behind it rests on the tables alone.
 
 use nucleus::random::Random;
 use nucleus::Node;

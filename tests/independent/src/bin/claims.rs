@@ -48,7 +48,8 @@ fn write_runs(seed: u64, runs: u64, events: u64) -> io::Result<()> {
 /// A claim takes the time of its events.
 const IN_A_BATCH: usize = 40;
 
-/// The ends of the batches differ from run to run: some bytes are left out, so that fields are cut, and the room is too little in every third.
+/// The ends of the batches differ from run to run: some bytes are left out, so that fields are cut, and the room is too little in every
+/// third.
 fn write_batch(output: &mut impl Write, run: u64, gathered: &[u8]) -> io::Result<()> {
     let bytes = &gathered[..gathered.len().saturating_sub((run % 7) as usize)];
     let enough = NUMBERS * batch::complete_fields(bytes).len();

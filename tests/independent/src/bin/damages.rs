@@ -1,5 +1,5 @@
-//! damages SEED COUNT: damages COUNT random dumps and says for each kind how often the bytes still are a dump and how often they are refused
-//! with each number, and for each cause how often the answer rests on it alone.
+//! damages SEED COUNT: damages COUNT random dumps and says for each kind how often the bytes still are a dump and how often they are
+//! refused with each number, and for each cause how often the answer rests on it alone.
 
 use nucleus::damage::{self, Damage};
 use nucleus::load;

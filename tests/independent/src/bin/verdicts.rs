@@ -1,5 +1,5 @@
-//! verdicts SEED COUNT LONGEST: writes COUNT dumps of at most LONGEST bytes, damaged in every way in turn, one in seven good, each as a line
-//! `HEX : refusal offset`. Of no bytes HEX is empty.
+//! verdicts SEED COUNT LONGEST: writes COUNT dumps of at most LONGEST bytes, damaged in every way in turn, one in seven good, each as a
+//! line `HEX : refusal offset`. Of no bytes HEX is empty.
 
 use nucleus::damage::{damage_by, kinds};
 use nucleus::hex::plain as hex;

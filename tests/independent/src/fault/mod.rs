@@ -1,7 +1,7 @@
 //! What is at fault in bytes that are no dump: request 4 of document 02.
 //!
-//! Each rule looks at the bytes by itself, so that several faults can stand beside each other. The first number of the list counts, and within
-//! it the earliest field.
+//! Each rule looks at the bytes by itself, so that several faults can stand beside each other. The first number of the list counts, and
+//! within it the earliest field.
 //!
 //! * `cause`   the causes of each number
 //! * `form`    15 and 16: fields, lengths and tags

@@ -1,7 +1,7 @@
 //! Dumps spoilt with a fault of a given cause.
 //!
-//! As far as it goes there is no other fault of that number before it or in the same field, so that the answer rests on this cause; faults of
-//! later numbers may come with it. `None` says that the dump gives no room for it.
+//! As far as it goes there is no other fault of that number before it or in the same field, so that the answer rests on this cause;
+//! faults of later numbers may come with it. `None` says that the dump gives no room for it.
 
 mod form;
 mod names;
