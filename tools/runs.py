@@ -136,9 +136,8 @@ def built(name):
 
 
 def build():
-    """./run --build, whose progress is for whoever waits. A ./run that has no such option builds nothing here."""
-    run = os.path.join(TOP, "run")
-    if b"--build" in read(run) and begun([run, "--build"], stdin=subprocess.DEVNULL, stdout=sys.stderr).returncode != 0:
+    """./run --build, whose progress is for whoever waits."""
+    if begun([os.path.join(TOP, "run"), "--build"], stdin=subprocess.DEVNULL, stdout=sys.stderr).returncode != 0:
         raise Wrong("the programs could not be built")
 
 

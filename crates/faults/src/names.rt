@@ -27,7 +27,7 @@ ghost use Rattle.rules.specs.Faults.{entry-lives as entry-lives-of, head-lives 
 ghost use Rattle.rules.specs.Faults.{message-lives as message-lives-of, value-lives as value-lives-of, names-nobody as names-nobody-of};
 ghost use Rattle.faults.specs.Names.{lives-in, Named};
 
-// Names of 256 bytes.
+// A mark for each number that a byte can have: 1 if a thread of that name lives.
 const BYTES: usize = 256;
 
 // The names of all fields 2. No length is wrong: so each has its name.
