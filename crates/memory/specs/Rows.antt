@@ -58,7 +58,7 @@ abbrev pub Roomy : Rows → Type 0
 Roomy r = Room (r .limits) (r .room)
 
 -- and every count is within the limits
-pub record Counts (L : Limits) (own : Limits) (words t r c l : ℕ) : Type 0 where
+pub record CountsWithin (L : Limits) (own : Limits) (words t r c l : ℕ) : Type 0 where
   pub limits : own ≡ L
   pub roomy : Room own words
   pub threads : t ≤ L .threads
@@ -67,7 +67,7 @@ pub record Counts (L : Limits) (own : Limits) (words t r c l : ℕ) : Type 0 whe
   pub messages : l ≤ L .threads + L .blocks
 
 abbrev pub Fits : Limits → Rows → Type 0
-Fits L r = Counts L (r .limits) (r .room) (r .count) (r .readies) (r .clocks) (r .letters)
+Fits L r = CountsWithin L (r .limits) (r .room) (r .count) (r .readies) (r .clocks) (r .letters)
 
 -- no thread, no message, no held word, no time passed
 abbrev pub nothing : Tables

@@ -331,7 +331,7 @@ pub fn thread_at(m: &[u32], i: usize) -> Thread
 // ---- a test on the thread at a place: its state is not made, so a walk over many is short
 
 // Does it wait for the clock?
-pub fn beats_at(m: &[u32], i: usize) -> bool
+pub fn on_clock_at(m: &[u32], i: usize) -> bool
     requires { ⌜ Roomy (rows-of (now m)) × (i < rows-of (now m) .limits .threads) ⌝ }
     ensures { λ b. ⌜ b ≡ on-clock (getD (rows-of (now (m .entry)) .threads) i no-thread .state) ⌝ }
 {

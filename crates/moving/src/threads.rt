@@ -70,7 +70,7 @@ pub fn wake_clock(m: &mut [u32], beats: u32)
     let n = rows::count(m);
     let mut i = 0;
     while i < n {
-        if rows::beats_at(m, i) {
+        if rows::on_clock_at(m, i) {
             rows::turn(m, i, State::Ready, Answer::Result(beats));
             i += 1;
         } else {

@@ -32,8 +32,8 @@ loop-holds c = begins the-threads
     (turn-starts _ _ _ _
     (omega (arith, c .count .ensures, c .before .before .before .pre .1, threads-long (c .before .before .before .args .m .now))))
 
-beats-at-requires : tie.Need-beats-at-requires Inv-loop μ-loop
-beats-at-requires c κs = by (Within _) (c .before .before .loop .inv .only) (
+on-clock-at-requires : tie.Need-on-clock-at-requires Inv-loop μ-loop
+on-clock-at-requires c κs = by (Within _) (c .before .before .loop .inv .only) (
   c .before .before .before .before .before .before .pre .0,
   omega (
     arith,
@@ -65,7 +65,7 @@ loop-again c = writes the-threads _ (c .before .before .before .before .before .
     (c .before .before .turn .ensures)
     (turn-next _ _ _ _ _ _ _ no-thread (c .before .before .before .before .before .before .before .before .loop .inv .so)
     (c .before .before .before .before .before .before .before .loop-test .taken)
-    (sym (c .before .before .before .before .before .beats-at .ensures) ∙ c .before .before .before .before .if1 .taken) refl)
+    (sym (c .before .before .before .before .before .on-clock-at .ensures) ∙ c .before .before .before .before .if1 .taken) refl)
 
 add-i-2 : tie.Need-add-i-2 Inv-loop μ-loop
 add-i-2 c = omega arith
@@ -76,7 +76,7 @@ loop-less-2 c = omega arith
 loop-again-2 : tie.Need-loop-again-2 Inv-loop μ-loop
 loop-again-2 c = stays the-threads (c .before .before .before .before .loop .inv)
     (turn-by _ _ _ _ _ _ no-thread (c .before .before .before .before .loop .inv .so) (c .before .before .before .loop-test .taken)
-    (sym (c .before .beats-at .ensures) ∙ c .if1 .left))
+    (sym (c .before .on-clock-at .ensures) ∙ c .if1 .left))
 
 same-length : tie.Need-same-length Inv-loop μ-loop
 same-length c =
@@ -94,7 +94,7 @@ wake-clock-spec =
     μ-loop
     count-requires
     loop-holds
-    beats-at-requires
+    on-clock-at-requires
     turn-requires
     add-i
     loop-less

@@ -1,4 +1,4 @@
--- `memory::memory::beats_at` meets its contract.
+-- `memory::memory::on_clock_at` meets its contract.
 use mathlib.Core.Path.{sym, ap, _∙_}
 use native.Mathlib.Omega.{arith}
 use borrow.Author.Needs.{needs}
@@ -6,8 +6,8 @@ use Rattle.rules.specs.States.{on-clock}
 use Rattle.laws.specs.Words.{Thread}
 use Rattle.memory.specs.Memory.{rows-of}
 use Rattle.memory.proofs.Fields.{thread-entry}
-use Rattle.memory.proofs.memory.beats_at.Statement.{statement}
-use Rattle.memory.proofs.memory.beats_at.Tie as tie
+use Rattle.memory.proofs.memory.on_clock_at.Statement.{statement}
+use Rattle.memory.proofs.memory.on_clock_at.Tie as tie
 
 mul-at : tie.Need-mul-at
 mul-at c = search needs
@@ -43,8 +43,8 @@ unfolding rows-of
 returns c = let s = c .before .before .before .before in
     c .on-clock .ensures ∙ ap (λ (t : Thread). on-clock (t .state)) (sym (thread-entry (s .args .m .now) (s .args .i) (s .pre .1)))
 
-pub beats-at-spec : {M : Type 1} → statement M
-beats-at-spec =
+pub on-clock-at-spec : {M : Type 1} → statement M
+on-clock-at-spec =
     tie.close
     (tie.spec
     mul-at
