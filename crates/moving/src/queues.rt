@@ -7,7 +7,7 @@ ghost use Rattle.memory.specs.Rows.{view, Roomy, ReadyIs, ClockIs};
 ghost use Rattle.memory.specs.Memory.{rows-of};
 
 // A name joins the tail of the ready queue.
-pub fn join(m: &mut [u32], name: u8)
+pub fn join_ready(m: &mut [u32], name: u8)
     requires { ⌜ Roomy (rows-of (now m)) × (rows-of (now m) .readies < rows-of (now m) .limits .threads) ⌝ }
     ensures { λ _. ⌜ ReadyIs (rows-of (now (m .entry))) (rows-of (now (m .exit))) (view (rows-of (now (m .entry))) .ready
         ++ (name ∷ [])) ⌝ }
@@ -32,8 +32,8 @@ pub fn drop_front(m: &mut [u32])
     rows::set_readies(m, last);
 }
 
-// All who wait for the clock join, in order of waiting.
-pub fn join_clock(m: &mut [u32])
+// All who wait for the clock join the ready queue, in order of waiting.
+pub fn clock_joins_ready(m: &mut [u32])
     requires { ⌜ Roomy (rows-of (now m)) × (rows-of (now m) .readies + rows-of (now m) .clocks ≤ rows-of (now m) .limits .threads) ⌝ }
     ensures { λ _. ⌜ ReadyIs (rows-of (now (m .entry))) (rows-of (now (m .exit))) (view (rows-of (now (m .entry))) .ready
         ++ view (rows-of (now (m .entry))) .clock) ⌝ }
@@ -42,13 +42,13 @@ pub fn join_clock(m: &mut [u32])
     let mut i = 0;
     while i < n {
         let x = rows::clock_at(m, i);
-        join(m, x);
+        join_ready(m, x);
         i += 1;
     }
 }
 
-// A name joins those who wait for the clock.
-pub fn join_waiters(m: &mut [u32], name: u8)
+// A name joins the tail of the clock queue.
+pub fn join_clock(m: &mut [u32], name: u8)
     requires { ⌜ Roomy (rows-of (now m)) × (rows-of (now m) .clocks < rows-of (now m) .limits .threads) ⌝ }
     ensures { λ _. ⌜ ClockIs (rows-of (now (m .entry))) (rows-of (now (m .exit))) (view (rows-of (now (m .entry))) .clock
         ++ (name ∷ [])) ⌝ }

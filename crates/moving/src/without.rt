@@ -148,7 +148,7 @@ pub fn receivers(m: &mut [u32], marks: &[u8; 256])
             let name = rows::name_at(m, i);
             let a = told_gone(s);
             rows::turn(m, i, State::Ready, a);
-            queues::join(m, name);
+            queues::join_ready(m, name);
             i += 1;
         } else {
             i += 1;

@@ -40,7 +40,7 @@ pub fn fill_ready(m: &mut [u32], name: u8)
     ensures { λ _. ⌜ Fills (now (m .entry)) (now (m .exit))
         (with-ready (tables (now (m .entry)) .ready ++ (name ∷ [])) (tables (now (m .entry)))) ⌝ }
 {
-    queues::join(m, name);
+    queues::join_ready(m, name);
 }
 
 pub fn fill_clock(m: &mut [u32], name: u8)
@@ -48,7 +48,7 @@ pub fn fill_clock(m: &mut [u32], name: u8)
     ensures { λ _. ⌜ Fills (now (m .entry)) (now (m .exit))
         (with-clock (tables (now (m .entry)) .clock ++ (name ∷ [])) (tables (now (m .entry)))) ⌝ }
 {
-    queues::join_waiters(m, name);
+    queues::join_clock(m, name);
 }
 
 // A message behind the others.

@@ -49,7 +49,7 @@ pub fn join_ready(m: &mut [u32], name: u8)
     ensures { λ _. ⌜ Leaves (now (m .entry)) (now (m .exit))
         (with-ready (tables (now (m .entry)) .ready ++ (name ∷ [])) (tables (now (m .entry)))) ⌝ }
 {
-    queues::join(m, name);
+    queues::join_ready(m, name);
 }
 
 // The front of the ready queue goes.
@@ -67,7 +67,7 @@ pub fn join_clock(m: &mut [u32], name: u8)
     ensures { λ _. ⌜ Leaves (now (m .entry)) (now (m .exit))
         (with-clock (tables (now (m .entry)) .clock ++ (name ∷ [])) (tables (now (m .entry)))) ⌝ }
 {
-    queues::join_waiters(m, name);
+    queues::join_clock(m, name);
 }
 
 // All who wait for the clock become ready, in order of waiting, with the number of the beat.
@@ -78,6 +78,6 @@ pub fn wake_clock(m: &mut [u32], beats: u32)
         (with-clock [] (tables (now (m .entry))))) ⌝ }
 {
     threads::wake_clock(m, beats);
-    queues::join_clock(m);
+    queues::clock_joins_ready(m);
     rows::set_clocks(m, 0);
 }

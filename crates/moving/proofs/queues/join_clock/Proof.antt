@@ -1,88 +1,69 @@
--- `moving::queues::join_clock` meets its contract. The loop: the ready queue and the waiters that are left are the ready queue and all
--- waiters.
-use Prim.Native.Nat.{_-_}
-use mathlib.Core.Path.{_≡_, ap}
+-- `moving::queues::join_clock` meets its contract. The name is written behind the last, and the count goes up by one.
+use Prim.Native.Nat.{ℕ}
+use mathlib.Core.Path.{ap, _∙_}
+use mathlib.Core.List.{[], _∷_, _++_}
 use native.Mathlib.Omega.{arith}
+use lib.ListN.{take}
 use borrow.Author.Needs.{needs}
-use Rattle.memory.specs.Rows.{Rows, Roomy}
+use Rattle.memory.specs.Rows.{Roomy}
 use Rattle.memory.specs.Memory.{rows-of}
-use Rattle.memory.proofs.Sizes.{ready-long, clock-long, same-room}
-use Rattle.moving.proofs.Steps.{by, Within, Joins, joins-starts, joins-next, joins-ends}
+use Rattle.memory.proofs.Sizes.{clock-long}
+use Rattle.moving.proofs.Steps.{by, the-clock, one-more, clock-is}
 use Rattle.moving.proofs.queues.join_clock.Statement.{statement}
 use Rattle.moving.proofs.queues.join_clock.Tie as tie
 
-abbrev Inv-loop : tie.InvT-loop
-Inv-loop m₀ n i₀ m i = Joins (rows-of m₀) (rows-of m) i × (n ≡ rows-of m₀ .clocks)
-
-abbrev μ-loop : tie.MeasureT-loop
-μ-loop m₀ n i₀ m i = n - i
-
-clocks-requires : tie.Need-clocks-requires Inv-loop μ-loop
+clocks-requires : tie.Need-clocks-requires
 clocks-requires c κs = search needs
 
-loop-holds : tie.Need-loop-holds Inv-loop μ-loop
-loop-holds c = (
-  joins-starts _ (ready-long (c .before .before .before .args .m .now)) (clock-long (c .before .before .before .args .m .now))
-      (c .before .before .before .pre .1),
-  c .clocks .ensures,
+put-clock-requires : tie.Need-put-clock-requires
+put-clock-requires c κs =
+    (c .before .before .before .before .pre .0, omega (arith, c .before .clocks .ensures, c .before .before .before .before .pre .1))
+
+add-set-clocks : tie.Need-add-set-clocks
+add-set-clocks c = omega (
+  arith,
+  c .before .before .before .before .before .before .before .before .pre .0 .low,
+  c .before .before .before .before .before .before .before .before .pre .1,
+  c .before .before .before .before .before .clocks .ensures,
 )
 
-clock-at-requires : tie.Need-clock-at-requires Inv-loop μ-loop
-clock-at-requires c κs = by (Within _) (c .before .before .loop .inv .0 .only) (
-  c .before .before .before .before .before .before .pre .0,
-  omega (arith, c .before .before .before .before .before .before .pre .1, c .before .before .loop .inv .1, c .before .loop-test .taken),
-)
-
-join-requires : tie.Need-join-requires Inv-loop μ-loop
-join-requires c κs = let e = c .before .before .before .before .loop .inv .0 in (
-  by Roomy (e .only) (c .before .before .before .before .before .before .before .before .pre .0),
+set-clocks-requires : tie.Need-set-clocks-requires
+set-clocks-requires c κs = (
+  by Roomy (c .before .before .before .put-clock .ensures)
+      (c .before .before .before .before .before .before .before .before .pre .0),
   omega (
     arith,
-    ap (λ (r : Rows). r .limits .threads) (e .only),
-    e .appended .room,
+    c .before .before .before .before .before .before .before .before .pre .0 .low,
     c .before .before .before .before .before .before .before .before .pre .1,
-    c .before .before .before .before .loop .inv .1,
-    c .before .before .before .loop-test .taken,
+    c .before .before .before .before .before .clocks .ensures,
   ),
 )
 
-add-i : tie.Need-add-i Inv-loop μ-loop
-add-i c = omega arith
+same-length : tie.Need-same-length
+same-length c = search needs
 
-loop-less : tie.Need-loop-less Inv-loop μ-loop
-loop-less c = omega arith
-
-loop-again : tie.Need-loop-again Inv-loop μ-loop
-loop-again c = (
-  joins-next _ _ _ _ _ (c .before .before .before .before .before .before .before .loop .inv .0)
-      (omega (
-        arith,
-        c .before .before .before .before .before .before .before .loop .inv .1,
-        c .before .before .before .before .before .before .loop-test .taken,
-      )) (c .before .before .before .before .clock-at .ensures) (c .before .before .join .ensures),
-  c .before .before .before .before .before .before .before .loop .inv .1,
-)
-
-same-length : tie.Need-same-length Inv-loop μ-loop
-same-length c =
-    same-room (c .before .before .before .before .before .args .m .now) _ (ap (λ (r : Rows). r .room) (c .before .loop .inv .0 .only))
-
-returns : tie.Need-returns Inv-loop μ-loop
-returns c = joins-ends _ _ _ (c .before .loop .inv .0) (omega (arith, c .before .loop .inv .1, c .loop-test .left))
-    (c .before .before .before .before .before .pre .1)
+returns : tie.Need-returns
+returns c = let r = rows-of (c .before .before .before .before .before .before .before .before .before .before .before .args .m .now) in
+    let n = c .before .before .before .before .before .before .before .before .clocks .ensures in
+    let O = one-more the-clock r _ _
+    (omega (
+      arith,
+      clock-long (c .before .before .before .before .before .before .before .before .before .before .before .args .m .now),
+      n,
+      c .before .before .before .before .before .before .before .before .before .before .before .pre .1,
+    )) (c .before .before .before .before .before .before .put-clock .ensures) in
+    clock-is _ (O .only) (c .before .before .set-clocks .ensures) (O .so .0
+    ∙ ap (λ (k : ℕ). take k (r .clock)
+    ++ (c .before .before .before .before .before .before .before .before .before .before .before .args .name ∷ [])) n)
+    (omega (arith, n, c .before .before .before .before .before .before .before .before .before .before .before .pre .1))
 
 pub join-clock-spec : {M : Type 1} → statement M
 join-clock-spec =
     tie.close
     (tie.spec
-    Inv-loop
-    μ-loop
     clocks-requires
-    loop-holds
-    clock-at-requires
-    join-requires
-    add-i
-    loop-less
-    loop-again
+    put-clock-requires
+    add-set-clocks
+    set-clocks-requires
     same-length
     returns)

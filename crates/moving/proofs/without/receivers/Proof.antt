@@ -69,8 +69,8 @@ turn-requires c κs = by (Within (c .before .before .before .before .before .bef
       ),
     )
 
-join-requires : tie.Need-join-requires Inv-loop μ-loop
-join-requires c κs = (
+join-ready-requires : tie.Need-join-ready-requires Inv-loop μ-loop
+join-ready-requires c κs = (
   by Roomy (c .before .before .before .turn .ensures)
       (by Roomy
       (c .before .before .before .before .before .before .before .before .before .before .before .before .before .before .loop .inv .0
@@ -117,7 +117,7 @@ loop-again c = let e = free-tests
           (c .before .before .before .before .before .before .before .before .told-gone .ensures
           ∙ ap told-gone
           (c .before .before .before .before .before .before .before .before .before .before .before .before .before .before .state-at
-          .ensures)) (c .before .before .before .before .before .before .turn .ensures) (c .before .before .join .ensures),
+          .ensures)) (c .before .before .before .before .before .before .turn .ensures) (c .before .before .join-ready .ensures),
       c .before .before .before .before .before .before .before .before .before .before .before .before .before .before .before .before
           .before .loop .inv .1,
     )
@@ -150,4 +150,4 @@ returns c = free-ends (c .before .loop .inv .0) (omega (arith, c .before .loop .
 
 pub receivers-spec : {M : Type 1} → statement M
 receivers-spec = tie.close (tie.spec Inv-loop μ-loop count-requires loop-holds state-at-requires misses-requires name-at-requires
-    told-gone-requires turn-requires join-requires add-i loop-less loop-again add-i-2 loop-less-2 loop-again-2 same-length returns)
+    told-gone-requires turn-requires join-ready-requires add-i loop-less loop-again add-i-2 loop-less-2 loop-again-2 same-length returns)

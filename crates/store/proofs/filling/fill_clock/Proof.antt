@@ -7,9 +7,9 @@ use Rattle.store.proofs.Searched.{clock-length, roomy}
 use Rattle.store.proofs.filling.fill_clock.Statement.{statement}
 use Rattle.store.proofs.filling.fill_clock.Tie as tie
 
-join-waiters-requires : tie.Need-join-waiters-requires
+join-clock-requires : tie.Need-join-clock-requires
 unfolding limits
-join-waiters-requires c κs =
+join-clock-requires c κs =
     let s = c .before .before in
     (roomy (s .args .m .now) (s .pre .0), omega (arith, s .pre .1, clock-length (s .args .m .now) (s .pre .0)))
 
@@ -20,7 +20,7 @@ returns : tie.Need-returns
 unfolding tables
 returns c =
     let s = c .before .before .before .before .before in
-    clock-is (s .pre .0) (c .before .before .join-waiters .ensures)
+    clock-is (s .pre .0) (c .before .before .join-clock .ensures)
 
 pub fill-clock-spec : {M : Type 1} → statement M
-fill-clock-spec = tie.close (tie.spec join-waiters-requires same-length returns)
+fill-clock-spec = tie.close (tie.spec join-clock-requires same-length returns)

@@ -7,9 +7,9 @@ use Rattle.store.proofs.Searched.{ready-length, roomy}
 use Rattle.store.proofs.queues.join_ready.Statement.{statement}
 use Rattle.store.proofs.queues.join_ready.Tie as tie
 
-join-requires : tie.Need-join-requires
+join-ready-requires : tie.Need-join-ready-requires
 unfolding limits
-join-requires c κs =
+join-ready-requires c κs =
     let s = c .before .before in
     (roomy (s .args .m .now) (s .pre .0 .shaped), omega (arith, s .pre .1, ready-length (s .args .m .now) (s .pre .0 .shaped)))
 
@@ -20,7 +20,7 @@ returns : tie.Need-returns
 unfolding tables
 returns c =
     let s = c .before .before .before .before .before in
-    leaves (ready-is (s .pre .0 .shaped) (c .before .before .join .ensures)) (s .pre .0 .rising)
+    leaves (ready-is (s .pre .0 .shaped) (c .before .before .join-ready .ensures)) (s .pre .0 .rising)
 
 pub join-ready-spec : {M : Type 1} → statement M
-join-ready-spec = tie.close (tie.spec join-requires same-length returns)
+join-ready-spec = tie.close (tie.spec join-ready-requires same-length returns)

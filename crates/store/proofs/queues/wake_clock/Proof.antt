@@ -19,9 +19,9 @@ use Rattle.store.proofs.queues.wake_clock.Tie as tie
 wake-clock-requires : tie.Need-wake-clock-requires
 wake-clock-requires c κs = few-threads (c .before .before .args .m .now) (c .before .before .pre .0 .shaped)
 
-join-clock-requires : tie.Need-join-clock-requires
+clock-joins-ready-requires : tie.Need-clock-joins-ready-requires
 unfolding limits
-join-clock-requires c κs =
+clock-joins-ready-requires c κs =
     let at-wake-clock = c .before .before .before in
     let s = at-wake-clock .before .before .before in
     by (λ (r : Rows). Roomy r × (r .readies + r .clocks ≤ r .limits .threads)) (at-wake-clock .wake-clock .ensures .only) (
@@ -31,10 +31,10 @@ join-clock-requires c κs =
 
 set-clocks-requires : tie.Need-set-clocks-requires
 set-clocks-requires c κs =
-    let at-join-clock = c .before .before .before in
-    let at-wake-clock = at-join-clock .before .before .before .before in
+    let at-clock-joins-ready = c .before .before .before in
+    let at-wake-clock = at-clock-joins-ready .before .before .before .before in
     let s = at-wake-clock .before .before .before in (
-      by Roomy (at-join-clock .join-clock .ensures .only)
+      by Roomy (at-clock-joins-ready .clock-joins-ready .ensures .only)
           (by Roomy (at-wake-clock .wake-clock .ensures .only) (roomy (s .args .m .now) (s .pre .0 .shaped))),
       omega arith,
     )
@@ -45,11 +45,11 @@ same-length c = search needs
 returns : tie.Need-returns
 unfolding tables wake-those
 returns c =
-    let at-join-clock = c .before .before .before .before .before .before in
-    let at-wake-clock = at-join-clock .before .before .before .before in
+    let at-clock-joins-ready = c .before .before .before .before .before .before in
+    let at-wake-clock = at-clock-joins-ready .before .before .before .before in
     let s = at-wake-clock .before .before .before in
     let a = threads-are (s .pre .0 .shaped) (at-wake-clock .wake-clock .ensures) in
-    let b = ready-is (a .shaped) (at-join-clock .join-clock .ensures) in
+    let b = ready-is (a .shaped) (at-clock-joins-ready .clock-joins-ready .ensures) in
     leaves
     (after (λ T. with-clock [] T) (after (λ T. with-ready (T .ready ++ T .clock) T) a b)
     (clock-none (b .shaped) (c .before .before .set-clocks .ensures)))
@@ -57,4 +57,4 @@ returns c =
     (in-state Ready (Result (s .args .beats))) (λ t. refl))
 
 pub wake-clock-spec : {M : Type 1} → statement M
-wake-clock-spec = tie.close (tie.spec wake-clock-requires join-clock-requires set-clocks-requires same-length returns)
+wake-clock-spec = tie.close (tie.spec wake-clock-requires clock-joins-ready-requires set-clocks-requires same-length returns)

@@ -1,4 +1,4 @@
--- `moving::queues::join` meets its contract. The name is written behind the last, and the count goes up by one.
+-- `moving::queues::join_ready` meets its contract. The name is written behind the last, and the count goes up by one.
 use Prim.Native.Nat.{ℕ}
 use mathlib.Core.Path.{ap, _∙_}
 use mathlib.Core.List.{[], _∷_, _++_}
@@ -9,8 +9,8 @@ use Rattle.memory.specs.Rows.{Roomy}
 use Rattle.memory.specs.Memory.{rows-of}
 use Rattle.memory.proofs.Sizes.{ready-long}
 use Rattle.moving.proofs.Steps.{by, the-ready, one-more, ready-is}
-use Rattle.moving.proofs.queues.join.Statement.{statement}
-use Rattle.moving.proofs.queues.join.Tie as tie
+use Rattle.moving.proofs.queues.join_ready.Statement.{statement}
+use Rattle.moving.proofs.queues.join_ready.Tie as tie
 
 readies-requires : tie.Need-readies-requires
 readies-requires c κs = search needs
@@ -55,8 +55,8 @@ returns c = let r = rows-of (c .before .before .before .before .before .before .
     (omega (arith, O .so .1, long, n, c .before .before .before .before .before .before .before .before .before .before .before .pre .1))
     (omega (arith, n, c .before .before .before .before .before .before .before .before .before .before .before .pre .1))
 
-pub join-spec : {M : Type 1} → statement M
-join-spec =
+pub join-ready-spec : {M : Type 1} → statement M
+join-ready-spec =
     tie.close
     (tie.spec
     readies-requires
