@@ -8,7 +8,7 @@ use Rattle.rules.specs.Waking.{Outcome, _handing_}
 use Rattle.laws.specs.Words.{Answer}
 use Rattle.laws.specs.Types.{Inv, Ruled}
 use Rattle.store.specs.Store.{limits, tables, Holding, Leaves, Hands}
-use Rattle.handling.specs.Standing.{Holds, AtRest}
+use Rattle.handling.specs.Standing.{MidEvent, AtRest}
 
 -- nothing changed
 pub as-it-was : {m : List ℕ} → Holding m → Leaves m m (tables m)
@@ -31,12 +31,12 @@ pub carried : {m m′ : List ℕ} {T : Tables} (P : Limits → Tables → Type 0
 carried P a p = rw (a .same, a .says) p
 
 -- places and names are right, where they are in the tables
-pub still-holds : {m m′ : List ℕ} {T : Tables} → Leaves m m′ T → Inv (limits m) T → Holds m′
+pub still-holds : {m m′ : List ℕ} {T : Tables} → Leaves m m′ T → Inv (limits m) T → MidEvent m′
 still-holds a I = record { holding = a .holding; inv = carried Inv a I }
 
 pub still-at-rest : {m m′ : List ℕ} {T : Tables} → Leaves m m′ T → Ruled (limits m) T → AtRest m′
 still-at-rest a R = record { holding = a .holding; ruled = carried Ruled a R }
 
 -- what stands holds
-pub holds : {m : List ℕ} → AtRest m → Holds m
+pub holds : {m : List ℕ} → AtRest m → MidEvent m
 holds S = record { holding = S .holding; inv = S .ruled .inv }

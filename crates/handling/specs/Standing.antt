@@ -4,8 +4,8 @@ use mathlib.Core.List.{List}
 use Rattle.laws.specs.Types.{Inv, Ruled}
 use Rattle.store.specs.Store.{limits, tables, Holding}
 
--- between two parts of one event: places and names are right
-pub record Holds (m : List ℕ) : Type 0 where
+-- between two parts of one event: places and names are right, and other table rules need not hold
+pub record MidEvent (m : List ℕ) : Type 0 where
   pub holding : Holding m
   pub inv : Inv (limits m) (tables m)
 

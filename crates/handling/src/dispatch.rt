@@ -9,11 +9,11 @@ ghost use mathlib.Core.Path.{_≡_};
 ghost use Rattle.rules.specs.Waking.{_handing_};
 ghost use Rattle.rules.specs.Dispatch.{run-next as run-next-of, dispatch as dispatch-of, status as status-of};
 ghost use Rattle.store.specs.Store.{tables, Shaped, Hands};
-ghost use Rattle.handling.specs.Standing.{Holds};
+ghost use Rattle.handling.specs.Standing.{MidEvent};
 
 // The front of the ready queue runs with a full slice, and its waiting answer is handed over.
 fn run_next(m: &mut [u32], given: Answer) -> Answer
-    requires { ⌜ Holds (now m) ⌝ }
+    requires { ⌜ MidEvent (now m) ⌝ }
     ensures { λ a. ⌜ Hands (now (m .entry)) (now (m .exit)) a
         (run-next-of (tables (now (m .entry)) .ready) (tables (now (m .entry)) handing given)) ⌝ }
 {
@@ -30,7 +30,7 @@ fn run_next(m: &mut [u32], given: Answer) -> Answer
 
 // After each event, if nobody runs.
 pub fn dispatch(m: &mut [u32], given: Answer) -> Answer
-    requires { ⌜ Holds (now m) ⌝ }
+    requires { ⌜ MidEvent (now m) ⌝ }
     ensures { λ a. ⌜ Hands (now (m .entry)) (now (m .exit)) a (dispatch-of (tables (now (m .entry)) handing given)) ⌝ }
 {
     let r = store::runner(m);

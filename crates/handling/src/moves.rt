@@ -12,7 +12,7 @@ ghost use lib.ListN.{length};
 ghost use Rattle.rules.specs.Lists.{any};
 ghost use Rattle.rules.specs.Waking.{accepts, wake as wake-of, deliver as deliver-of, stop as stop-of};
 ghost use Rattle.store.specs.Store.{limits, tables, Holding, Leaves};
-ghost use Rattle.handling.specs.Standing.{Holds};
+ghost use Rattle.handling.specs.Standing.{MidEvent};
 
 // The thread of a name becomes ready with an answer, at the tail of the queue.
 pub fn wake(m: &mut [u32], name: u8, a: Answer)
@@ -42,7 +42,7 @@ pub fn is_awaited(m: &[u32], x: Message) -> bool
 
 // A message or notice: to a receiver that waits for it as its answer, else into the inbox.
 pub fn deliver(m: &mut [u32], x: Message)
-    requires { ⌜ Holds (now m) × (any (accepts x) (tables (now m) .threads) ≡ false →
+    requires { ⌜ MidEvent (now m) × (any (accepts x) (tables (now m) .threads) ≡ false →
         length (tables (now m) .messages) < limits (now m) .threads + limits (now m) .blocks) ⌝ }
     ensures { λ _. ⌜ Leaves (now (m .entry)) (now (m .exit)) (deliver-of x (tables (now (m .entry)))) ⌝ }
 {

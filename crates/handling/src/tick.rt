@@ -9,11 +9,11 @@ ghost use Rattle.rules.specs.Numbers.{beat-ticks};
 ghost use Rattle.rules.specs.Tick.{charge as charge-of, beat as beat-of, rotate as rotate-of, tick as tick-of};
 ghost use Rattle.laws.specs.Types.{Steady};
 ghost use Rattle.store.specs.Store.{tables, Leaves};
-ghost use Rattle.handling.specs.Standing.{Holds, AtRest};
+ghost use Rattle.handling.specs.Standing.{MidEvent, AtRest};
 
 // The runner's count rises, its slice falls.
 fn charge(m: &mut [u32])
-    requires { ⌜ Holds (now m) × Steady (tables (now m)) ⌝ }
+    requires { ⌜ MidEvent (now m) × Steady (tables (now m)) ⌝ }
     ensures { λ _. ⌜ Leaves (now (m .entry)) (now (m .exit)) (charge-of (tables (now (m .entry)))) ⌝ }
 {
     let r = store::runner(m);
@@ -28,7 +28,7 @@ fn charge(m: &mut [u32])
 
 // At every twentieth tick the beat rises and the clock waiters become ready.
 fn beat(m: &mut [u32])
-    requires { ⌜ Holds (now m) × (tables (now m) .since < beat-ticks) ⌝ }
+    requires { ⌜ MidEvent (now m) × (tables (now m) .since < beat-ticks) ⌝ }
     ensures { λ _. ⌜ Leaves (now (m .entry)) (now (m .exit)) (beat-of (tables (now (m .entry)))) ⌝ }
 {
     let since = store::since(m) + 1;
@@ -44,7 +44,7 @@ fn beat(m: &mut [u32])
 
 // A used-up slice sends the runner to the tail.
 fn rotate(m: &mut [u32])
-    requires { ⌜ Holds (now m) ⌝ }
+    requires { ⌜ MidEvent (now m) ⌝ }
     ensures { λ _. ⌜ Leaves (now (m .entry)) (now (m .exit)) (rotate-of (tables (now (m .entry)))) ⌝ }
 {
     let r = store::runner(m);

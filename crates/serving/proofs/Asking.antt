@@ -20,14 +20,14 @@ use Rattle.laws.proofs.Single.{rest-once, rest-none}
 use Rattle.laws.proofs.Names.{name-free}
 use Rattle.laws.proofs.Room.{queues-room}
 use Rattle.store.specs.Store.{limits, tables, Leaves, Hands, word-for}
-use Rattle.handling.specs.Standing.{Holds, AtRest}
+use Rattle.handling.specs.Standing.{MidEvent, AtRest}
 use Rattle.handling.proofs.Leaving.{and-then, and-hands}
 
 -- ---- a newcomer
 
 module _ {m : List ℕ} (p : Parent) (n : ℕ) (x : Thread) (e : n ≡ next-name (tables m)) (f : x ≡ new-thread n p Ready) where
   -- its name is no thread's
-  pub newcomer-free : Holds m → limits m .threads < names → live (x .name) (tables m) ≡ false
+  pub newcomer-free : MidEvent m → limits m .threads < names → live (x .name) (tables m) ≡ false
   newcomer-free H l =
       ap (λ (y : Thread). live (y .name) (tables m)) f
       ∙ ap (λ (k : ℕ). live k (tables m)) e
@@ -47,7 +47,7 @@ module _ {m : List ℕ} (p : Parent) (n : ℕ) (x : Thread) (e : n ≡ next-name
       (with-threads (insert (λ t. ltb (t .name) k) (new-thread k p Ready) (tables m .threads)) (tables m))) handing Result k) e)
 
 -- it has room in the ready queue, since those who are ready are threads
-pub newcomer-room : {m m₁ : List ℕ} {T : Tables} → Holds m → length (tables m .threads) < limits m .threads → Leaves m m₁ T →
+pub newcomer-room : {m m₁ : List ℕ} {T : Tables} → MidEvent m → length (tables m .threads) < limits m .threads → Leaves m m₁ T →
     T .ready ≡ tables m .ready →
     length (tables m₁ .ready) < limits m₁ .threads
 newcomer-room {m} H l a e = rw (a .same, a .says, e) (omega (arith, queues-room (limits m) (tables m) (H .inv)))

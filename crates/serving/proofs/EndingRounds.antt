@@ -19,7 +19,7 @@ use Rattle.laws.proofs.Closure.{outside}
 use Rattle.laws.proofs.Rounds.{room-kept, outside-falls, one-round-more, no-round-more, grow-same, ended-room, closed-is-ended}
 use Rattle.laws.proofs.Room.{released-room}
 use Rattle.store.specs.Store.{limits, tables, found, Leaves, Finds, Removes}
-use Rattle.handling.specs.Standing.{Holds}
+use Rattle.handling.specs.Standing.{MidEvent}
 use Rattle.handling.proofs.Leaving.{carried}
 
 -- how many threads of these tables are not in a set
@@ -85,7 +85,7 @@ module _ {m m₁ : List ℕ} (a : Finds m m₁ (grow (tables m .threads) (found 
 
 -- ---- from a live thread alone on
 
-module _ {m : List ℕ} (n : ℕ) (H : Holds m) (h : live n (tables m) ≡ true) where
+module _ {m : List ℕ} (n : ℕ) (H : MidEvent m) (h : live n (tables m) ≡ true) where
   begin-room : 1 + left-out (tables m) (n ∷ []) ≤ limits m .threads
   begin-room = omega (arith, ended-room (tables m .threads) n h, H .inv .few)
 

@@ -26,7 +26,7 @@ use Rattle.laws.proofs.Room.{notice-room}
 use Rattle.store.specs.declared.Taken.{Taken}
 use Rattle.store.specs.declared.Taken.the-variants.{Missing, Took}
 use Rattle.store.specs.Store.{limits, tables, Holding, Leaves, Hands, Takes}
-use Rattle.handling.specs.Standing.{Holds, AtRest}
+use Rattle.handling.specs.Standing.{MidEvent, AtRest}
 use Rattle.handling.proofs.Leaving.{in-words, and-then, and-hands, carried, still-holds, holds}
 use Rattle.handling.proofs.Moving.{woken-room}
 
@@ -45,7 +45,7 @@ decides-by T once me to = go (live to T) refl
 
 -- ---- a decision
 
-module _ {m : List ℕ} (H : Holds m) (me to : ℕ) (yes : decides me to (tables m) ≡ true) where
+module _ {m : List ℕ} (H : MidEvent m) (me to : ℕ) (yes : decides me to (tables m) ≡ true) where
   abbrev T : Tables
   T = tables m
 
@@ -141,12 +141,12 @@ trap-by T me k cause g e = rw e
 
 module _ {m : List ℕ} (me s : ℕ) (S : AtRest m) (runs : tables m .runner ≡ Runs me s) where
   -- where it ends, it lives
-  pub runner-ends : Holds m × (live me (tables m) ≡ true)
+  pub runner-ends : MidEvent m × (live me (tables m) ≡ true)
   runner-ends = (holds S, runner-live (S .ruled .inv) me s runs)
 
   -- where it is trapped, threads and queues agree still, and there is room for its notice
   module _ {m₁ : List ℕ} (k : TrapKind) (a : Leaves m m₁ (stop me (Trapped k) (tables m))) where
-    pub trapped-holds : Holds m₁
+    pub trapped-holds : MidEvent m₁
     unfolding is-running is-ready on-clock
     trapped-holds = still-holds a (stop-inv me s runs (Trapped k) (refl, refl, refl) (S .ruled .inv))
 

@@ -9,7 +9,7 @@ ghost use Rattle.rules.specs.Lists.{has, count as count-of, times};
 ghost use Rattle.rules.specs.Tables.{live};
 ghost use Rattle.rules.specs.Ending.{grow as grow-of, ended-set as ended-set-of, end as end-of};
 ghost use Rattle.store.specs.Store.{limits, tables, found, Finding, Finds, Marks, Leaves};
-ghost use Rattle.handling.specs.Standing.{Holds};
+ghost use Rattle.handling.specs.Standing.{MidEvent};
 
 // The set closed under dependants: as long as a round adds somebody, another follows.
 // Threads not yet in the set are fewer with each round.
@@ -31,7 +31,7 @@ fn close(m: &mut [u32], marks: &mut [u8; 256])
 
 // The smallest set that holds a live thread and, with each member, its children and those trapped on it.
 fn ended_set(m: &mut [u32], marks: &mut [u8; 256], name: u8)
-    requires { ⌜ Holds (now m) × (live name (tables (now m)) ≡ true) × Marks [] (now marks) ⌝ }
+    requires { ⌜ MidEvent (now m) × (live name (tables (now m)) ≡ true) × Marks [] (now marks) ⌝ }
     ensures { λ _. ⌜ Finds (now (m .entry)) (now (m .exit)) (ended-set-of (tables (now (m .entry)) .threads) name)
         × Marks (found (now (m .exit))) (now (marks .exit)) ⌝ }
 {
@@ -40,7 +40,7 @@ fn ended_set(m: &mut [u32], marks: &mut [u8; 256], name: u8)
 }
 
 pub fn end(m: &mut [u32], name: u8)
-    requires { ⌜ Holds (now m) × (live name (tables (now m)) ≡ true) ⌝ }
+    requires { ⌜ MidEvent (now m) × (live name (tables (now m)) ≡ true) ⌝ }
     ensures { λ _. ⌜ Leaves (now (m .entry)) (now (m .exit)) (end-of name (tables (now (m .entry)))) ⌝ }
 {
     let mut marks = [255u8; 256];

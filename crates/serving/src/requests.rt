@@ -22,7 +22,7 @@ ghost use Rattle.rules.specs.Requests.{free-name, next-name as next-name-of, cr
 ghost use Rattle.rules.specs.Requests.{create-son as create-son-of, terminate as terminate-of, set-manager as set-manager-of};
 ghost use Rattle.rules.specs.Requests.{get-cpu-time as get-cpu-time-of, wait-for-clock as wait-for-clock-of, wait-for-io as wait-for-io-of};
 ghost use Rattle.store.specs.Store.{limits, tables, Holding, Hands};
-ghost use Rattle.handling.specs.Standing.{Holds, AtRest};
+ghost use Rattle.handling.specs.Standing.{MidEvent, AtRest};
 
 // The next name modulo 254.
 fn successor(name: u8) -> u8
@@ -85,7 +85,7 @@ pub fn new_thread(name: u8, p: Parent, s: State) -> Thread
 
 // A newcomer, ready at the tail. The result is its name.
 fn create(m: &mut [u32], p: Parent) -> Answer
-    requires { ⌜ Holds (now m) × (limits (now m) .threads < names) × (length (tables (now m) .threads) < limits (now m) .threads) ⌝ }
+    requires { ⌜ MidEvent (now m) × (limits (now m) .threads < names) × (length (tables (now m) .threads) < limits (now m) .threads) ⌝ }
     ensures { λ a. ⌜ Hands (now (m .entry)) (now (m .exit)) a (create-of p (tables (now (m .entry)))) ⌝ }
 {
     let name = next_name(m);
@@ -97,7 +97,7 @@ fn create(m: &mut [u32], p: Parent) -> Answer
 }
 
 pub fn create_brother(m: &mut [u32], me: u8) -> Answer
-    requires { ⌜ Holds (now m) × (limits (now m) .threads < names) × (length (tables (now m) .threads) < limits (now m) .threads) ⌝ }
+    requires { ⌜ MidEvent (now m) × (limits (now m) .threads < names) × (length (tables (now m) .threads) < limits (now m) .threads) ⌝ }
     ensures { λ a. ⌜ Hands (now (m .entry)) (now (m .exit)) a (create-brother-of me (tables (now (m .entry)))) ⌝ }
 {
     let p = store::parent_of(m, me);
@@ -105,14 +105,14 @@ pub fn create_brother(m: &mut [u32], me: u8) -> Answer
 }
 
 pub fn create_son(m: &mut [u32], me: u8) -> Answer
-    requires { ⌜ Holds (now m) × (limits (now m) .threads < names) × (length (tables (now m) .threads) < limits (now m) .threads) ⌝ }
+    requires { ⌜ MidEvent (now m) × (limits (now m) .threads < names) × (length (tables (now m) .threads) < limits (now m) .threads) ⌝ }
     ensures { λ a. ⌜ Hands (now (m .entry)) (now (m .exit)) a (create-son-of me (tables (now (m .entry)))) ⌝ }
 {
     create(m, Parent::ParentIs(me))
 }
 
 pub fn terminate(m: &mut [u32], me: u8, who: Target) -> Answer
-    requires { ⌜ Holds (now m) × (live me (tables (now m)) ≡ true) × (ends-nobody (tables (now m)) who ≡ false) ⌝ }
+    requires { ⌜ MidEvent (now m) × (live me (tables (now m)) ≡ true) × (ends-nobody (tables (now m)) who ≡ false) ⌝ }
     ensures { λ a. ⌜ Hands (now (m .entry)) (now (m .exit)) a (terminate-of me who (tables (now (m .entry)))) ⌝ }
 {
     match who {
@@ -124,7 +124,7 @@ pub fn terminate(m: &mut [u32], me: u8, who: Target) -> Answer
 
 // An entry that is not set yet is set; else the requester ends.
 pub fn set_manager(m: &mut [u32], me: u8, k: TrapKind, n: u8) -> Answer
-    requires { ⌜ Holds (now m) × (live me (tables (now m)) ≡ true) ⌝ }
+    requires { ⌜ MidEvent (now m) × (live me (tables (now m)) ≡ true) ⌝ }
     ensures { λ a. ⌜ Hands (now (m .entry)) (now (m .exit)) a (set-manager-of me k n (tables (now (m .entry)))) ⌝ }
 {
     let g = store::manager_of(m, me, k);

@@ -13,7 +13,7 @@ ghost use Rattle.rules.specs.Lists.{any};
 ghost use Rattle.rules.specs.Waking.{accepts};
 ghost use Rattle.rules.specs.Send.{message as message-of, decides as decides-of, decide as decide-of, send as send-of};
 ghost use Rattle.store.specs.Store.{limits, tables, Holding, Leaves};
-ghost use Rattle.handling.specs.Standing.{Holds};
+ghost use Rattle.handling.specs.Standing.{MidEvent};
 
 // Is the receiver trapped, and the sender the manager that it waits for?
 pub fn decides(m: &[u32], me: u8, to: u8) -> bool
@@ -36,7 +36,7 @@ pub fn message(to: u8, me: u8, word: u32) -> Message
 
 // The decision 0 continues the trapped thread and discards its notice, another ends it.
 fn decide(m: &mut [u32], me: u8, to: u8, word: u32)
-    requires { ⌜ Holds (now m) × (decides-of me to (tables (now m)) ≡ true) ⌝ }
+    requires { ⌜ MidEvent (now m) × (decides-of me to (tables (now m)) ≡ true) ⌝ }
     ensures { λ _. ⌜ Leaves (now (m .entry)) (now (m .exit)) (decide-of me to word (tables (now (m .entry)))) ⌝ }
 {
     if word == 0 {
@@ -48,7 +48,7 @@ fn decide(m: &mut [u32], me: u8, to: u8, word: u32)
 }
 
 pub fn send(m: &mut [u32], me: u8, to: u8, word: u32)
-    requires { ⌜ Holds (now m) × (decides-of me to (tables (now m)) ≡ false →
+    requires { ⌜ MidEvent (now m) × (decides-of me to (tables (now m)) ≡ false →
         any (accepts (message-of to me word)) (tables (now m) .threads) ≡ false →
         length (tables (now m) .messages) < limits (now m) .threads + limits (now m) .blocks) ⌝ }
     ensures { λ _. ⌜ Leaves (now (m .entry)) (now (m .exit)) (send-of me to word (tables (now (m .entry)))) ⌝ }

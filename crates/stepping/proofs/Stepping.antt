@@ -27,7 +27,7 @@ use Rattle.laws.proofs.PlacesKept.{runner-live, act-inv}
 use Rattle.laws.proofs.Kept.{step-ruled}
 use Rattle.store.specs.Store.{limits, tables, nothing, Holding, Leaves, Hands}
 use Rattle.store.proofs.Limits.{names-left}
-use Rattle.handling.specs.Standing.{Holds, AtRest}
+use Rattle.handling.specs.Standing.{MidEvent, AtRest}
 use Rattle.stepping.specs.Stepping.{Steps}
 
 -- ---- the start
@@ -117,7 +117,7 @@ module _ (L : Limits) (T : Tables) {e : Event} {r : Runner} (c : Call) (i : e �
 
 -- what an accepted event leaves can be dispatched
 pub acted : {m m′ : List ℕ} {a : Answer} (e : Event) → AtRest m → refusal (limits m) (tables m) e ≡ 0 → Hands m m′ a (act (tables m) e) →
-    Holds m′
+    MidEvent m′
 acted {m} e S f h = record {
   holding = h .holding;
   inv = rw (h .same, ap (λ (o : Outcome). o .tables) (h .says)) (act-inv e (names-left m (S .holding .shaped)) f (S .ruled .inv));

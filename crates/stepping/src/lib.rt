@@ -1,4 +1,4 @@
-// What the bytes of an event mean, when it is refused, and the step.
+// What the bytes of an event mean, when it is refused, the step and the start.
 pub mod decode;
 pub mod refusals;
 pub mod start;

@@ -19,7 +19,7 @@ ghost use Rattle.rules.specs.Tables.{live};
 ghost use Rattle.rules.specs.Refusals.{over, wants-nobody as wants-nobody-of, ends-nobody as ends-nobody-of, call-rules, first-of};
 ghost use Rattle.rules.specs.Refusals.{_refuses_, refusal as refusal-of};
 ghost use Rattle.store.specs.Store.{limits, tables, Holding};
-ghost use Rattle.handling.specs.Standing.{Holds};
+ghost use Rattle.handling.specs.Standing.{MidEvent};
 
 // 1: halted or panicked.
 fn is_over(s: Status) -> bool
@@ -76,7 +76,7 @@ fn send_refusal(m: &[u32], me: u8, to: u8, word: u32) -> u8
 }
 
 fn device_refusal(m: &[u32], d: u8) -> u8
-    requires { ⌜ Holds (now m) ⌝ }
+    requires { ⌜ MidEvent (now m) ⌝ }
     ensures { λ n. ⌜ n ≡ first-of (call-rules (limits (now (m .entry))) (tables (now (m .entry))) 0 (IoCall d)) ⌝ }
 {
     if store::waiter(m, d) == numbers::NOBODY {
@@ -98,7 +98,7 @@ fn manager_refusal(m: &[u32], me: u8, n: u8) -> u8
 
 // 4, 9, 5, 7, 6, 10, 8: what a call of the runner can meet.
 fn call_refusal(m: &[u32], me: u8, c: Call) -> u8
-    requires { ⌜ Holds (now m) ⌝ }
+    requires { ⌜ MidEvent (now m) ⌝ }
     ensures { λ n. ⌜ n ≡ first-of (call-rules (limits (now (m .entry))) (tables (now (m .entry))) me c) ⌝ }
 {
     match c {
@@ -121,7 +121,7 @@ fn call_refusal(m: &[u32], me: u8, c: Call) -> u8
 }
 
 pub fn refusal(m: &[u32], e: Event) -> u8
-    requires { ⌜ Holds (now m) ⌝ }
+    requires { ⌜ MidEvent (now m) ⌝ }
     ensures { λ n. ⌜ n ≡ refusal-of (limits (now (m .entry))) (tables (now (m .entry))) e ⌝ }
 {
     let s = dispatch::status(m);
