@@ -31,7 +31,7 @@ pub cut-is-the-only-one : (fs : Input) (r : List ℕ) → all one-field fs ≡ t
     → (complete (joined fs ++ r) ≡ fs) × (unread (joined fs ++ r) ≡ r)
 cut-is-the-only-one = batch.cut-is-the-only-one
 
--- The refusal is 14 exactly if the buffer holds fewer than six numbers per complete field.
+-- The refusal is 14 exactly if the buffer is too short for six numbers for each complete field.
 pub refused-14 : (room : ℕ) (bytes : List ℕ) → (taken room bytes .refusal ≡ 14) ↔ (room < needed bytes)
 refused-14 = batch.refused-14
 
@@ -50,8 +50,8 @@ pub decisions-fit : (L : Limits) (T : Tables) (room : ℕ) (bytes : List ℕ) �
     length (numbers (batch L T room bytes .decisions)) ≤ room
 decisions-fit = batch.decisions-fit
 
--- Each event of a batch, wherever it stands in it, has the decision of a single call on what the calls before it left, refused and
--- malformed events included; and the last call leaves the tables of the batch.
+-- In a batch that is not refused each event, wherever it stands in it, has the decision of a single call on what the calls before it left,
+-- refused and malformed events included; and the last call leaves the tables of the batch.
 pub equals-single-calls : (L : Limits) (T : Tables) (room : ℕ) (bytes : List ℕ) →
     batch L T room bytes .refusal ≡ 0 → (es fs : Input) (e : List ℕ) → complete bytes ≡ es ++ (e ∷ fs) →
     (batch L T room bytes .decisions ≡ decisions L T es

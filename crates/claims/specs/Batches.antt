@@ -43,7 +43,8 @@ pub told-by-the-rules : {es : Input} {m : List ℕ} → Series es m →
     after ≡ numbers ds ++ drop (length (numbers ds)) before
 told-by-the-rules = batching-runs.told-by-the-rules
 
--- The decision of each event of the next batch, wherever it stands in it, hands over what the events up to it have made due.
+-- The rules' decision on each of the events that come next hands over what has its cause in the events up to it; `told-by-the-rules` says
+-- that these are the decisions of the next batch.
 pub handed-has-its-cause : {es : Input} {m : List ℕ} → Series es m →
     (fs gs : Input) (e : List ℕ) →
     let d = step small (run small start (es ++ fs)) e .decision in

@@ -22,8 +22,8 @@ use Rattle.laws.proofs.Said as said
 pub malformed-exactly : (bytes : List ℕ) → (decode bytes ≡ Malformed) ↔ Flaw bytes
 malformed-exactly = flaws.malformed-exactly
 
--- A device that is picked is pending, is one of 0 to 47, and is the foremost: the lowest pending number from 0 to 31, then the lowest
--- transmitter 32 + 2d, then the lowest receiver 33 + 2d (`Foremost`, in these words).
+-- A device that is picked is pending, is one of 0 to 47, and is the foremost: the lowest of those pending in 0 to 31; else the lowest
+-- transmitter, 32 + 2d; else the lowest receiver, 33 + 2d.
 pub pick-foremost : (w : ℕ) → pick w .refusal ≡ 0 → (pending w (pick w .device) ≡ true) × (pick w .device < devices)
     × Foremost w (pick w .device)
 pick-foremost = pick.pick-foremost

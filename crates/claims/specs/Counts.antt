@@ -25,11 +25,11 @@ pub every-twentieth : (L : Limits) (es : Input) → (beats-in L start es ≡ tic
     × (run L start es .since ≡ ticks-in L start es % beat-ticks)
 every-twentieth = counts.every-twentieth
 
--- The beat number is the number of beats, modulo 2^32.
+-- The beat number is what it was before a run and the beats in it, modulo 2^32.
 pub beats-counted : (L : Limits) (T : Tables) (es : Input) → T .beats < wrap → run L T es .beats ≡ (T .beats + beats-in L T es) % wrap
 beats-counted = counts.beats-counted
 
--- A live thread's count is the number of ticks accepted while it ran, modulo 2^32.
+-- The count of a thread that lives through a run is what it was before and the ticks accepted while it ran, modulo 2^32.
 pub ticks-counted-alive : (L : Limits) (n : ℕ) (l : L .threads < names) →
     (T : Tables) (es : Input) → table-rules L T ≡ true → lives-through L n T es ≡ true →
     ticks-at n (run L T es .threads) ≡ (ticks-at n (T .threads) + ticks-of L n T es) % wrap

@@ -24,7 +24,7 @@ use Rattle.laws.proofs.Late as late
 use Rattle.laws.proofs.Names as names
 use Rattle.laws.proofs.Naming as naming
 
--- The ended set holds the named thread and, with each member, its children and those trapped on it.
+-- The thread that ends is in the ended set, and so are the children of each member and those trapped on it.
 pub ended-holds : (ts : List Thread) →
     (n : ℕ) → has n (ended-set ts n) ≡ true
 ended-holds = closure.ended-holds
@@ -42,18 +42,19 @@ ended-least = closure.ended-least
 pub ending-forgets : (n : ℕ) (T : Tables) → Forgotten (ended-set (T .threads) n) (end n T)
 ending-forgets = ending.ending-forgets
 
--- Everybody else is still there, with the same state and answer, unless it received from a member.
+-- Everybody else is still there, with the same parent and count, and the same state and answer unless it received from a member: then it is
+-- ready, and told that this one is gone. Its entries that name a member are gone, and the others as they were.
 pub survivors : (n : ℕ) (T : Tables) (t : Thread) → List·Memᴰ t (T .threads) → has (t .name) (ended-set (T .threads) n) ≡ false →
     (u : Thread) × List·Memᴰ u (end n T .threads) × Survives (ended-set (T .threads) n) t u
 survivors = ending.survivors
 
--- What a thread is handed from a thread was sent to it, by the named sender, in this very life of the receiver.
+-- A message or notice that a thread is handed was sent to it, by the named sender, in this very life of the receiver.
 pub handed-was-owed : (L : Limits) → 1 ≤ L .threads → L .threads < names → (es : Input) (e : List ℕ) (n : ℕ) (a : Answer) →
     step L (run L start es) e .decision .runner ≡ n → step L (run L start es) e .decision .answer ≡ a → from-a-thread a ≡ true →
     Owed L (es ++ (e ∷ [])) n a
 handed-was-owed = late.handed-was-owed
 
--- If at some time no thread had a name, whatever a later thread of that name is handed was sent to it after that time.
+-- If at some time no thread had a name, each message or notice that a later thread of that name is handed was sent to it after that time.
 pub no-late-answer : (L : Limits) → 1 ≤ L .threads → L .threads < names → (es fs : Input) (e : List ℕ) (n : ℕ) (a : Answer) →
     live n (run L start es) ≡ false →
     step L (run L start (es ++ fs)) e .decision .runner ≡ n → step L (run L start (es ++ fs)) e .decision .answer ≡ a →

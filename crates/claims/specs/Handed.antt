@@ -36,7 +36,7 @@ pub result-was-asked : (L : Limits) → 1 ≤ L .threads → L .threads < names 
     step L (run L start es) e .decision .runner ≡ n → step L (run L start es) e .decision .answer ≡ Result w → Asked L (es ++ (e ∷ [])) n w
 result-was-asked = handed.result-was-asked
 
--- If at some time no thread had a name, a result of a later thread of that name came after that time; nothing is due to a newcomer.
+-- If at some time no thread had a name, a result of a later thread of that name came after that time; a newcomer has asked for nothing.
 pub no-late-result : (L : Limits) → 1 ≤ L .threads → L .threads < names → (es fs : Input) (e : List ℕ) (n w : ℕ) →
     live n (run L start es) ≡ false →
     step L (run L start (es ++ fs)) e .decision .runner ≡ n → step L (run L start (es ++ fs)) e .decision .answer ≡ Result w →
@@ -60,7 +60,8 @@ due-until-run = due.due-until-run
 pub inbox-moves : (L : Limits) (T : Tables) (bytes : List ℕ) (n : ℕ) → table-rules L T ≡ true → Moves L T bytes n
 inbox-moves = inboxes.inbox-moves
 
--- An accepted receive takes the first that is wanted and leaves the rest in order; for 255 that is the first of all.
+-- An accepted receive takes the first in the inbox that is wanted, where there is one, and leaves the rest in order; for 255 that is the
+-- first of all.
 pub oldest-is-taken : (L : Limits) (T : Tables) (bytes : List ℕ) (n q : ℕ) (w : Wanted) → table-rules L T ≡ true →
     step L T bytes .decision .refusal ≡ 0 →
     T .runner ≡ Runs n q → decode bytes ≡ ByRunner (Receive w) → any (wanted-from w) (inbox n T) ≡ true → Taken L T bytes n
@@ -70,7 +71,8 @@ pub anybody-takes-the-first : (L : Limits) (T : Tables) (bytes : List ℕ) (n : 
     X .before ≡ []
 anybody-takes-the-first = inboxes.anybody-takes-the-first
 
--- Over a run that discards nothing from an inbox, what is taken of a sender is what was there and what came, in that order.
+-- Over a run that discards nothing from an inbox, of each sender: what was there and then what came is what was taken and then what is
+-- left, in that order.
 pub first-in-first-out : (L : Limits) (n f : ℕ) →
     (T : Tables) (es : Input) (ins outs : List Message) → Passes L n T es ins outs →
     of-sender f (inbox n T) ++ of-sender f ins ≡ of-sender f outs ++ of-sender f (inbox n (run L T es))

@@ -110,8 +110,8 @@ pub refused-with : (m bytes m′ : List ℕ) (v : Verdict) → Loads m bytes m�
     × (v .offset ≤ length bytes)
 refused-with = loading-promises.refused-with
 
--- Any two results that the reader's promise allows agree: in the refusal and the offset; in the tables and their dump, where it
--- accepts; in every word, where it does not.
+-- Any two results that the reader's promise allows agree: in the refusal and the offset; in the tables and their dump, where it accepts; in
+-- every word, where it does not. `load_value` and `nucleus_load` have the same promise.
 pub load-in-determined : (m bytes a b : List ℕ) (r s : Verdict) → Loads m bytes a r → Loads m bytes b s →
     (r ≡ s) × (r .refusal ≡ 0 → (tables a ≡ tables b) × (dump (tables a) ≡ dump (tables b))) × (r .refusal ≢ 0 → a ≡ b)
 load-in-determined = loading-promises.load-in-determined

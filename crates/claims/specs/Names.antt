@@ -30,15 +30,16 @@ use Rattle.laws.proofs.Examples as examples
 use Rattle.laws.proofs.Trace as trace
 use Rattle.laws.proofs.Incident as incident
 
--- No event but an accepted request 1 or 2 brings a thread, or changes the name given last; not even the end of that name's thread does.
+-- What an event does that is no request 1 or 2, and dispatch: neither brings a thread or changes the name given last; not even the end of
+-- that name's thread does.
 pub no-other-brings : (T : Tables) (e : Event) → creates e ≡ false → NobodyComes T (act T e .tables)
 no-other-brings = comings.no-other-brings
 
 pub dispatch-brings-nobody : (o : Outcome) → NobodyComes (o .tables) (dispatch o .tables)
 dispatch-brings-nobody = comings.dispatch-brings-nobody
 
--- From a start or a read dump, for any limits under 254 threads: between two givings of one name at least 253 − (threads − 1) threads
--- of other names are created.
+-- From a start or a read dump, for any limits under 254 threads: if a name is given twice, at least 253 − (threads − 1) threads of other
+-- names are created in between.
 pub a-name-rests : (L : Limits) → 1 ≤ L .threads → L .threads < names → {T : Tables} {given : List ℕ} → Begun L T given →
     (es : Input) (n : ℕ) →
     (t : Twice n (given ++ givings L T es)) → rest L ≤ others n (t .between)
@@ -99,7 +100,8 @@ pub newcomer-is-not-yet-named : (L : Limits) (T : Tables) (bytes : List ℕ) (n 
     given-by L T bytes ≡ n ∷ [] → NotYetNamed n (step L T bytes .tables)
 newcomer-is-not-yet-named = living.newcomer-is-not-yet-named
 
--- A son that is made and ended at once leaves the tables as they were, but for the name given last, which is its own.
+-- Where somebody runs and a thread can be made: a son that is made and ended at once leaves the tables as before, but for the name given
+-- last, which is its own.
 pub made-and-ended-leaves-no-trace : (L : Limits) (T : Tables) → L .threads < names → table-rules L T ≡ true → (m s : ℕ) →
     T .runner ≡ Runs m s → length (T .threads) < L .threads →
     run L T (ask 2 0 ∷ ask 3 (next-name T) ∷ []) ≡ with-last (next-name T) T
@@ -110,7 +112,9 @@ pub made-and-ended-gives-its-name : (L : Limits) (T : Tables) → L .threads < n
     givings L T (ask 2 0 ∷ ask 3 (next-name T) ∷ []) ≡ next-name T ∷ []
 made-and-ended-gives-its-name = trace.made-and-ended-gives-its-name
 
--- The incident, whole: below.
+-- The incident, whole. From a start, where a name is given again: the thread that had it has ended; at least 253 − (threads − 1) threads of
+-- other names were created since it was given, 234 with 20 threads; and whatever the newcomer is handed comes from an event behind the one
+-- that made it.
 pub newcomer-gets-its-own : (L : Limits) → 1 ≤ L .threads → L .threads < names →
     (es : Input) (event : List ℕ) (n : ℕ) (g : GivenAgain L es event n) → ANewLife L (rest L) es event n (g .between)
 newcomer-gets-its-own = incident.newcomer-gets-its-own

@@ -71,12 +71,12 @@ pub accepted-exactly : (L : Limits) (T : Tables) (e : Event) →
     (refusal L T e ≡ 0) ↔ (any (λ r. r .holds) (the-ten L T e) ≡ false)
 accepted-exactly = refusals.accepted-exactly
 
--- No other number is given.
+-- No number is given but these and 0.
 pub refusals-are-listed : (L : Limits) (T : Tables) (e : Event) →
     List·Memᴰ (refusal L T e) (0 ∷ 1 ∷ 2 ∷ 3 ∷ 4 ∷ 9 ∷ 5 ∷ 7 ∷ 6 ∷ 10 ∷ 8 ∷ [])
 refusals-are-listed = refusals.refusals-are-listed
 
--- A refused event leaves the tables as they were; the decision has its number, the status and runner as they stand, no answer.
+-- A refused event changes nothing in the tables; the decision has its number, no answer, and the status and the runner that were there.
 pub refused-changes-nothing : (L : Limits) (T : Tables) (bytes : List ℕ) →
     refusal L T (decode bytes) ≢ 0 →
     (step L T bytes .tables ≡ T)

@@ -33,7 +33,8 @@ pub cpu-time-is-counted : (L : Limits) (es : Input) (bytes : List ℕ) → 1 ≤
     step L (run L start es) bytes .decision .answer ≡ Result (life-ticks L (requester (run L start es)) 0 start es % wrap)
 cpu-time-is-counted = lives.cpu-time-is-counted
 
--- The same of any live thread's count; a thread that was not there before an event has count 0.
+-- The same of any live thread's count, and from any ruled tables, with what it was there; a thread that was not there before an event has
+-- count 0.
 pub count-of-a-life : (L : Limits) (n : ℕ) (l : L .threads < names) →
     (T : Tables) (es : Input) (a : ℕ) → table-rules L T ≡ true →
     (live n T ≡ true → ticks-at n (T .threads) ≡ a % wrap) →
@@ -97,8 +98,8 @@ pub first-manager-is-set : (L : Limits) (T : Tables) (bytes : List ℕ) (k : Tra
     × (with-threads (T .threads) (step L T bytes .tables) ≡ T)
 first-manager-is-set = requests.first-manager-is-set
 
--- One thread more, of a name that nobody had, ready, without managers or answer, with count 0; its parent is the requester's parent, or
--- the requester; the others are as they were.
+-- An accepted request 1 or 2 makes one thread more, of a name that nobody had, which is the result: ready, without managers or answer, with
+-- count 0; its parent is the requester's parent, or the requester; the others are as they were.
 pub brother-has-the-parent : (L : Limits) (T : Tables) (bytes : List ℕ) (l : L .threads < names) (R : table-rules L T ≡ true) →
     Accepted L T bytes CreateBrother → (r : Thread) → List·Memᴰ r (T .threads) → r .name ≡ requester T →
     Made (r .parent) T (step L T bytes .tables) (step L T bytes .decision .answer)

@@ -25,7 +25,8 @@ tested-ruled = sound.tested-ruled
 pub ruled-tested : {L : Limits} {T : Tables} → Ruled L T → table-rules L T ≡ true
 ruled-tested = sound.ruled-tested
 
--- The test on parents holds exactly if every thread but 0 has a live parent that is nearer to the top.
+-- Where no name stands twice, the test on parents holds exactly if 0 has no parent and every other thread has a live one that is nearer to
+-- the top.
 pub family-exactly : (T : Tables) → ((n : ℕ) → count (named n) (T .threads) ≤ 1) → (parents-right T ≡ true) ↔ Family (T .threads)
 family-exactly = descent.family-exactly
 

@@ -15,8 +15,8 @@ use Rattle.laws.specs.Rest.{big}
 use Rattle.laws.specs.Wait.{ticks-accepted, served-by, became-ready}
 use Rattle.laws.proofs.Wait as wait
 
--- From ruled tables: a thread in the ready queue has run or has ended before 5 × (threads − 1) ticks have been accepted, whatever else
--- happens.
+-- From ruled tables: a thread in the ready queue has run or has ended by the last of the next 5 × (threads − 1) accepted ticks, whatever
+-- else happens.
 pub wait-bound : (L : Limits) (T : Tables) (n : ℕ) (es : Input) → 1 ≤ L .threads → L .threads < names →
     table-rules L T ≡ true → has n (T .ready) ≡ true →
     full-slice * (L .threads - 1) ≤ ticks-accepted L T es →
