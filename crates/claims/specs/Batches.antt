@@ -2,7 +2,7 @@
 use Prim.Native.Nat.{ℕ, _≤_}
 use mathlib.Core.Path.{_≡_}
 use mathlib.Core.Bool.{true, false}
-use mathlib.Core.List.{List, _++_, [], _∷_}
+use mathlib.Core.List.{List, [], _++_, _∷_}
 use mathlib.Core.Logic.{_↔_}
 use lib.ListN.{length, drop}
 use denote.Ref.{RefT, ptr, now}
@@ -31,44 +31,41 @@ use Rattle.batching.proofs.Runs as batching-runs
 use Rattle.batching.proofs.Determined as batching-determined
 use Rattle.batching.proofs.Example as batching-example
 
--- After a start, steps and batches in any mix, by any results that the promises allow, the memory is valid and stands for the rules'
--- run of the events that were run.
-pub stands-for-the-run : {es : Input} {m : List ℕ} → Series es m → (valid m ≡ true) × (tables m ≡ run small start es)
-stands-for-the-run = batching-runs.stands-for-the-run
+module _ {es : Input} {m : List ℕ} (s : Series es m) where
+  -- After a start, steps and batches in any mix, by any results that the promises allow, the memory is valid and stands for the rules' run
+  -- of the events that were run.
+  pub stands-for-the-run : (valid m ≡ true) × (tables m ≡ run small start es)
+  stands-for-the-run = batching-runs.stands-for-the-run s
 
--- The numbers of the next batch are those of the rules' decisions.
-pub told-by-the-rules : {es : Input} {m : List ℕ} → Series es m →
-    {bytes before m′ after : List ℕ} {n : ℕ} → Served m bytes before m′ after n →
-    let ds = decisions small (run small start es) (taken (length before) bytes .events) in
-    after ≡ numbers ds ++ drop (length (numbers ds)) before
-told-by-the-rules = batching-runs.told-by-the-rules
+  -- The numbers of the next batch are those of the rules' decisions.
+  pub told-by-the-rules : {bytes before m′ after : List ℕ} {n : ℕ} → Served m bytes before m′ after n →
+      let ds = decisions small (run small start es) (taken (length before) bytes .events) in
+      after ≡ numbers ds ++ drop (length (numbers ds)) before
+  told-by-the-rules = batching-runs.told-by-the-rules s
 
--- The rules' decision on each of the events that come next hands over what has its cause in the events up to it; `told-by-the-rules` says
--- that these are the decisions of the next batch.
-pub handed-has-its-cause : {es : Input} {m : List ℕ} → Series es m →
-    (fs gs : Input) (e : List ℕ) →
-    let d = step small (run small start (es ++ fs)) e .decision in
-    (decisions small (run small start es) (fs ++ (e ∷ gs))
-    ≡ decisions small (run small start es) fs ++ (d ∷ decisions small (run small start ((es ++ fs) ++ (e ∷ []))) gs))
-    × Cause small ((es ++ fs) ++ (e ∷ [])) (d .runner) (d .answer)
-handed-has-its-cause = batching-runs.handed-has-its-cause
+  -- The rules' decision on each of the events that come next hands over what has its cause in the events up to it; `told-by-the-rules` says
+  -- that these are the decisions of the next batch.
+  pub handed-has-its-cause : (fs gs : Input) (e : List ℕ) →
+      let d = step small (run small start (es ++ fs)) e .decision in
+      (decisions small (run small start es) (fs ++ (e ∷ gs))
+      ≡ decisions small (run small start es) fs ++ (d ∷ decisions small (run small start ((es ++ fs) ++ (e ∷ []))) gs))
+      × Cause small ((es ++ fs) ++ (e ∷ [])) (d .runner) (d .answer)
+  handed-has-its-cause = batching-runs.handed-has-its-cause s
 
--- A thread that an event of the next batch makes ready, wherever that stands in it, has run or ended by the 95th tick accepted after
--- it: of the ticks behind it in the batch, and of those that come later.
-pub waits-at-most-95 : {es : Input} {m : List ℕ} → Series es m →
-    {bytes before m′ after : List ℕ} {k : ℕ} → Served m bytes before m′ after k →
-    (fs gs : Input) (e : List ℕ) → taken (length before) bytes .events ≡ fs ++ (e ∷ gs) → (more : Input) (n : ℕ) →
-    let T = run small (tables m) fs in
-    let U = step small T e .tables in
-    (tables m′ ≡ run small U gs)
-    × (became-ready small T e n ≡ true → 95 ≤ ticks-accepted small U (gs ++ more) → served-by small 95 n U (gs ++ more) ≡ true)
-waits-at-most-95 = batching-runs.waits-at-most-95
+  -- A thread that an event of the next batch makes ready, wherever that stands in it, has run or ended by the 95th tick accepted after it:
+  -- of the ticks behind it in the batch, and of those that come later.
+  pub waits-at-most-95 : {bytes before m′ after : List ℕ} {k : ℕ} → Served m bytes before m′ after k →
+      (fs gs : Input) (e : List ℕ) → taken (length before) bytes .events ≡ fs ++ (e ∷ gs) → (more : Input) (n : ℕ) →
+      let T = run small (tables m) fs in
+      let U = step small T e .tables in
+      (tables m′ ≡ run small U gs)
+      × (became-ready small T e n ≡ true → 95 ≤ ticks-accepted small U (gs ++ more) → served-by small 95 n U (gs ++ more) ≡ true)
+  waits-at-most-95 = batching-runs.waits-at-most-95 s
 
--- With threads and nobody to run: panicked exactly if no series of ticks and interrupts makes any thread ready.
-pub panics-exactly : {es : Input} {m : List ℕ} → Series es m →
-    tables m .runner ≡ NoRunner → any (λ t. true) (tables m .threads) ≡ true →
-    (status (tables m) ≡ Panicked) ↔ ((os : List Event) → all from-outside os ≡ true → some-ready (outside (tables m) os) ≡ false)
-panics-exactly = batching-runs.panics-exactly
+  -- With threads and nobody to run: panicked exactly if no series of ticks and interrupts makes any thread ready.
+  pub panics-exactly : tables m .runner ≡ NoRunner → any (λ t. true) (tables m .threads) ≡ true →
+      (status (tables m) ≡ Panicked) ↔ ((os : List Event) → all from-outside os ≡ true → some-ready (outside (tables m) os) ≡ false)
+  panics-exactly = batching-runs.panics-exactly s
 
 -- Any two results of a batch that its promise allows agree: in the refusal, in every number, in the unread end, its bytes and where it
 -- stands, in tables and dump, and in every word where no event is accepted. `nucleus_batch` has the same promise.

@@ -1,9 +1,8 @@
 -- Ending, and no late answer.
-use Prim.Native.Nat.{ℕ, _≤_, _<_, _+_, _%_, _-_}
+use Prim.Native.Nat.{ℕ, _≤_, _<_, _+_, _%_}
 use mathlib.Core.Path.{_≡_}
 use mathlib.Core.Bool.{true, Bool, false}
-use mathlib.Core.List.{List, List·Memᴰ, [], _∷_, _++_}
-use mathlib.Core.Logic.{_≢_}
+use mathlib.Core.List.{List, [], List·Memᴰ, _∷_, _++_}
 use lib.ListN.{length}
 use Rattle.rules.specs.Lists.{has}
 use Rattle.rules.specs.Ending.{ended-set, depends, end}
@@ -11,32 +10,26 @@ use Rattle.rules.specs.Tables.{Tables, start, live}
 use Rattle.rules.specs.Numbers.{Limits, names}
 use Rattle.rules.specs.Step.{step}
 use Rattle.rules.specs.Runs.{Input, run}
-use Rattle.rules.specs.Requests.{next-name, free-name}
+use Rattle.rules.specs.Requests.{next-name}
 use Rattle.laws.specs.Words.{Thread, Answer, SenderGone}
 use Rattle.laws.specs.Closure.{Closed}
 use Rattle.laws.specs.Ending.{Forgotten, Survives}
 use Rattle.laws.specs.Late.{from-a-thread, Owed, SentIn, Told}
-use Rattle.laws.specs.Naming.{walked}
-use Rattle.laws.specs.Types.{Rising}
 use Rattle.laws.proofs.Closure as closure
 use Rattle.laws.proofs.Ending as ending
 use Rattle.laws.proofs.Late as late
 use Rattle.laws.proofs.Names as names
-use Rattle.laws.proofs.Naming as naming
 
--- The thread that ends is in the ended set, and so are the children of each member and those trapped on it.
-pub ended-holds : (ts : List Thread) →
-    (n : ℕ) → has n (ended-set ts n) ≡ true
-ended-holds = closure.ended-holds
+module _ (ts : List Thread) where
+  -- The thread that ends is in the ended set, and so are the children of each member and those trapped on it.
+  pub ended-holds : (n : ℕ) → has n (ended-set ts n) ≡ true
+  ended-holds = closure.ended-holds ts
+  pub ended-closed : (n : ℕ) (t : Thread) → List·Memᴰ t ts → depends (ended-set ts n) t ≡ true → has (t .name) (ended-set ts n) ≡ true
+  ended-closed = closure.ended-closed ts
 
-pub ended-closed : (ts : List Thread) →
-    (n : ℕ) (t : Thread) → List·Memᴰ t ts → depends (ended-set ts n) t ≡ true → has (t .name) (ended-set ts n) ≡ true
-ended-closed = closure.ended-closed
-
--- It is contained in every such set.
-pub ended-least : (ts : List Thread) →
-    (p : ℕ → Bool) → Closed p ts → (n : ℕ) → p n ≡ true → (x : ℕ) → has x (ended-set ts n) ≡ true → p x ≡ true
-ended-least = closure.ended-least
+  -- It is contained in every such set.
+  pub ended-least : (p : ℕ → Bool) → Closed p ts → (n : ℕ) → p n ≡ true → (x : ℕ) → has x (ended-set ts n) ≡ true → p x ≡ true
+  ended-least = closure.ended-least ts
 
 -- After an ending no thread, parent, wanted name, manager, message, queue or runner names a member.
 pub ending-forgets : (n : ℕ) (T : Tables) → Forgotten (ended-set (T .threads) n) (end n T)
@@ -48,45 +41,32 @@ pub survivors : (n : ℕ) (T : Tables) (t : Thread) → List·Memᴰ t (T .threa
     (u : Thread) × List·Memᴰ u (end n T .threads) × Survives (ended-set (T .threads) n) t u
 survivors = ending.survivors
 
--- A message or notice that a thread is handed was sent to it, by the named sender, in this very life of the receiver.
-pub handed-was-owed : (L : Limits) → 1 ≤ L .threads → L .threads < names → (es : Input) (e : List ℕ) (n : ℕ) (a : Answer) →
-    step L (run L start es) e .decision .runner ≡ n → step L (run L start es) e .decision .answer ≡ a → from-a-thread a ≡ true →
-    Owed L (es ++ (e ∷ [])) n a
-handed-was-owed = late.handed-was-owed
+module _ (L : Limits) (some : 1 ≤ L .threads) (few : L .threads < names) where
+  -- A message or notice that a thread is handed was sent to it, by the named sender, in this very life of the receiver.
+  pub handed-was-owed : (es : Input) (e : List ℕ) (n : ℕ) (a : Answer) →
+      step L (run L start es) e .decision .runner ≡ n → step L (run L start es) e .decision .answer ≡ a → from-a-thread a ≡ true →
+      Owed L (es ++ (e ∷ [])) n a
+  handed-was-owed = late.handed-was-owed L some few
 
--- If at some time no thread had a name, each message or notice that a later thread of that name is handed was sent to it after that time.
-pub no-late-answer : (L : Limits) → 1 ≤ L .threads → L .threads < names → (es fs : Input) (e : List ℕ) (n : ℕ) (a : Answer) →
-    live n (run L start es) ≡ false →
-    step L (run L start (es ++ fs)) e .decision .runner ≡ n → step L (run L start (es ++ fs)) e .decision .answer ≡ a →
-    from-a-thread a ≡ true → SentIn L (run L start es) (fs ++ (e ∷ [])) n a
-no-late-answer = late.no-late-answer
+  -- If at some time no thread had a name, each message or notice that a later thread of that name is handed was sent to it after that time.
+  pub no-late-answer : (es fs : Input) (e : List ℕ) (n : ℕ) (a : Answer) → live n (run L start es) ≡ false →
+      step L (run L start (es ++ fs)) e .decision .runner ≡ n → step L (run L start (es ++ fs)) e .decision .answer ≡ a →
+      from-a-thread a ≡ true → SentIn L (run L start es) (fs ++ (e ∷ [])) n a
+  no-late-answer = late.no-late-answer L some few
 
--- Nothing is owed to a newcomer.
-pub newcomer-is-owed-nothing : (L : Limits) → 1 ≤ L .threads → L .threads < names → (es : Input) (e : List ℕ) (n : ℕ) {a : Answer} →
-    live n (run L start es) ≡ false → Owed L (es ++ (e ∷ [])) n a → ⊥
-newcomer-is-owed-nothing = late.newcomer-is-owed-nothing
+  -- Nothing is owed to a newcomer.
+  pub newcomer-is-owed-nothing : (es : Input) (e : List ℕ) (n : ℕ) {a : Answer} →
+      live n (run L start es) ≡ false → Owed L (es ++ (e ∷ [])) n a → ⊥
+  newcomer-is-owed-nothing = late.newcomer-is-owed-nothing L some few
 
--- "Sender gone" is told only to a thread that received from the one that ended.
-pub gone-was-waited-for : (L : Limits) → 1 ≤ L .threads → L .threads < names → (es : Input) (e : List ℕ) (n m : ℕ) →
-    step L (run L start es) e .decision .runner ≡ n → step L (run L start es) e .decision .answer ≡ SenderGone m →
-    Told L (es ++ (e ∷ [])) n m
-gone-was-waited-for = late.gone-was-waited-for
+  -- "Sender gone" is told only to a thread that received from the one that ended.
+  pub gone-was-waited-for : (es : Input) (e : List ℕ) (n m : ℕ) →
+      step L (run L start es) e .decision .runner ≡ n → step L (run L start es) e .decision .answer ≡ SenderGone m →
+      Told L (es ++ (e ∷ [])) n m
+  gone-was-waited-for = late.gone-was-waited-for L some few
 
 -- The name given is the first of the successors, modulo 254, that no live thread has.
 pub name-is-first-free : (T : Tables) → T .last < names → length (T .threads) < names →
     (i : ℕ) × (1 ≤ i) × (next-name T ≡ (T .last + i) % names) × (live (next-name T) T ≡ false)
     × ((j : ℕ) → 1 ≤ j → j < i → live ((T .last + j) % names) T ≡ true)
 name-is-first-free = names.name-is-first-free
-
--- A walk along threads that stand by rising name finds that name, and where it has passed 253 a second one from 0 on does.
-pub walk-gives : (T : Tables) →
-    Rising (T .threads) → (n : ℕ) → walked ((n + 1) % names) (T .threads) ≡ free-name (names - (n + 1) % names) n T
-walk-gives = naming.walk-gives
-
-pub next-above : (T : Tables) → length (T .threads) < names → (x : ℕ) →
-    x ≡ free-name (names - (T .last + 1) % names) (T .last) T → x ≢ 0 → x ≡ next-name T
-next-above = naming.next-above
-
-pub next-round : (T : Tables) → length (T .threads) < names → (x : ℕ) →
-    x ≡ free-name (names - (T .last + 1) % names) (T .last) T → x ≡ 0 → free-name names (names - 1) T ≡ next-name T
-next-round = naming.next-round

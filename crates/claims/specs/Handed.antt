@@ -23,35 +23,34 @@ use Rattle.laws.proofs.Inboxes as inboxes
 use Rattle.laws.proofs.Once as once
 use Rattle.laws.proofs.Sent as sent
 
--- From a start, after any run: whatever answer the next decision hands over has its cause. A message or notice was sent to this thread
--- in its present life; "sender gone" was told to one that received from the ended; a result is that of the thread's own request.
-pub whatever-is-handed : (L : Limits) → 1 ≤ L .threads → L .threads < names → (es : Input) (e : List ℕ) →
-    Cause L (es ++ (e ∷ [])) (step L (run L start es) e .decision .runner) (step L (run L start es) e .decision .answer)
-whatever-is-handed = handed.whatever-is-handed
+module _ (L : Limits) (some : 1 ≤ L .threads) (few : L .threads < names) where
+  -- From a start, after any run: whatever answer the next decision hands over has its cause. A message or notice was sent to this thread in
+  -- its present life; "sender gone" was told to one that received from the ended; a result is that of the thread's own request.
+  pub whatever-is-handed : (es : Input) (e : List ℕ) →
+      Cause L (es ++ (e ∷ [])) (step L (run L start es) e .decision .runner) (step L (run L start es) e .decision .answer)
+  whatever-is-handed = handed.whatever-is-handed L some few
 
--- Of results: the last event is the thread's own accepted request, and the word is the name given, 0, its own count, or the word that
--- was held for the device and is held no more; or it woke by a beat while it waited for the clock, or by an interrupt of the device it
--- waited for, and has been live and ready with that word since.
-pub result-was-asked : (L : Limits) → 1 ≤ L .threads → L .threads < names → (es : Input) (e : List ℕ) (n w : ℕ) →
-    step L (run L start es) e .decision .runner ≡ n → step L (run L start es) e .decision .answer ≡ Result w → Asked L (es ++ (e ∷ [])) n w
-result-was-asked = handed.result-was-asked
+  -- Of results: the last event is the thread's own accepted request, and the word is the name given, 0, its own count, or the word that was
+  -- held for the device and is held no more; or it woke by a beat while it waited for the clock, or by an interrupt of the device it waited
+  -- for, and has been live and ready with that word since.
+  pub result-was-asked : (es : Input) (e : List ℕ) (n w : ℕ) →
+      step L (run L start es) e .decision .runner ≡ n → step L (run L start es) e .decision .answer ≡ Result w →
+      Asked L (es ++ (e ∷ [])) n w
+  result-was-asked = handed.result-was-asked L some few
 
--- If at some time no thread had a name, a result of a later thread of that name came after that time; a newcomer has asked for nothing.
-pub no-late-result : (L : Limits) → 1 ≤ L .threads → L .threads < names → (es fs : Input) (e : List ℕ) (n w : ℕ) →
-    live n (run L start es) ≡ false →
-    step L (run L start (es ++ fs)) e .decision .runner ≡ n → step L (run L start (es ++ fs)) e .decision .answer ≡ Result w →
-    AskedIn L (run L start es) (fs ++ (e ∷ [])) n w
-no-late-result = handed.no-late-result
-
-pub newcomer-has-asked-nothing : (L : Limits) → 1 ≤ L .threads → L .threads < names → (es : Input) (e : List ℕ) (n w : ℕ) →
-    live n (run L start es) ≡ false → Asked L (es ++ (e ∷ [])) n w → ⊥
-newcomer-has-asked-nothing = handed.newcomer-has-asked-nothing
+  -- If at some time no thread had a name, a result of a later thread of that name came after that time; a newcomer has asked for nothing.
+  pub no-late-result : (es fs : Input) (e : List ℕ) (n w : ℕ) → live n (run L start es) ≡ false →
+      step L (run L start (es ++ fs)) e .decision .runner ≡ n → step L (run L start (es ++ fs)) e .decision .answer ≡ Result w →
+      AskedIn L (run L start es) (fs ++ (e ∷ [])) n w
+  no-late-result = handed.no-late-result L some few
+  pub newcomer-has-asked-nothing : (es : Input) (e : List ℕ) (n w : ℕ) →
+      live n (run L start es) ≡ false → Asked L (es ++ (e ∷ [])) n w → ⊥
+  newcomer-has-asked-nothing = handed.newcomer-has-asked-nothing L some few
 
 -- A ready thread keeps its answer, over any event and any run, until it runs and is handed exactly that, once, or ends.
 pub answer-is-due : (L : Limits) (T : Tables) (bytes : List ℕ) (n : ℕ) (a : Answer) → L .threads < names → table-rules L T ≡ true →
     ThereIs (T .threads) n Ready a → Becomes L T bytes n a
 answer-is-due = due.answer-is-due
-
 pub due-until-run : (L : Limits) (T : Tables) (es : Input) (n : ℕ) (a : Answer) → L .threads < names → table-rules L T ≡ true →
     ThereIs (T .threads) n Ready a → Until L n a T es
 due-until-run = due.due-until-run
@@ -66,7 +65,6 @@ pub oldest-is-taken : (L : Limits) (T : Tables) (bytes : List ℕ) (n q : ℕ) (
     step L T bytes .decision .refusal ≡ 0 →
     T .runner ≡ Runs n q → decode bytes ≡ ByRunner (Receive w) → any (wanted-from w) (inbox n T) ≡ true → Taken L T bytes n
 oldest-is-taken = inboxes.oldest-is-taken
-
 pub anybody-takes-the-first : (L : Limits) (T : Tables) (bytes : List ℕ) (n : ℕ) (X : Taken L T bytes n) → X .wanted ≡ Anybody →
     X .before ≡ []
 anybody-takes-the-first = inboxes.anybody-takes-the-first

@@ -23,52 +23,47 @@ use Rattle.buffer.specs.Puts.{Puts}
 use Rattle.checking.specs.Stands.{stands}
 use Rattle.lending.specs.Lent.{valid, Answered, Started}
 use Rattle.lending.specs.Runs.{Series}
-use Rattle.lending.specs.declared.Loaded.{Loaded}
-use Rattle.lending.specs.declared.Tables.{Tables as Lent}
 use Rattle.loading.specs.Loading.{Loads, accepted}
 use Rattle.store.specs.Store.{tables}
 use Rattle.lending.proofs.Runs as lending-runs
 use Rattle.lending.proofs.Determined as lending-determined
 use Rattle.loading.proofs.Promises as loading-promises
 
--- After a start and steps, by any results that the promises of `start_in` and `step_in` allow, the memory is valid and stands for the
--- rules' run of those events.
-pub stands-for-the-run : {es : Input} {m : List ℕ} → Series es m → (valid m ≡ true) × (tables m ≡ run small start es)
-stands-for-the-run = lending-runs.stands-for-the-run
+module _ {es : Input} {m : List ℕ} (s : Series es m) where
+  -- After a start and steps, by any results that the promises of `start_in` and `step_in` allow, the memory is valid and stands for the
+  -- rules' run of those events.
+  pub stands-for-the-run : (valid m ≡ true) × (tables m ≡ run small start es)
+  stands-for-the-run = lending-runs.stands-for-the-run s
 
--- The next decision is that of the rules.
-pub decided-by-the-rules : {es : Input} {m : List ℕ} → Series es m →
-    (e m′ : List ℕ) (d : Decision) → Answered m e m′ d → d ≡ step small (run small start es) e .decision
-decided-by-the-rules = lending-runs.decided-by-the-rules
+  -- With threads and nobody to run: panicked exactly if no series of ticks and interrupts makes any thread ready.
+  pub panics-exactly : tables m .runner ≡ NoRunner → any (λ t. true) (tables m .threads) ≡ true →
+      (status (tables m) ≡ Panicked) ↔ ((os : List Event) → all from-outside os ≡ true → some-ready (outside (tables m) os) ≡ false)
+  panics-exactly = lending-runs.panics-exactly s
 
--- Whatever the next decision hands over has its cause in these events.
-pub handed-has-its-cause : {es : Input} {m : List ℕ} → Series es m →
-    (e m′ : List ℕ) (d : Decision) → Answered m e m′ d → Cause small (es ++ (e ∷ [])) (d .runner) (d .answer)
-handed-has-its-cause = lending-runs.handed-has-its-cause
+  module _ (e m′ : List ℕ) (d : Decision) (c : Answered m e m′ d) where
+    -- The next decision is that of the rules.
+    pub decided-by-the-rules : d ≡ step small (run small start es) e .decision
+    decided-by-the-rules = lending-runs.decided-by-the-rules s e m′ d c
 
--- A thread that the next event makes ready has run or ended by the 95th tick accepted after it.
-pub waits-at-most-95 : {es : Input} {m : List ℕ} → Series es m →
-    (e m′ : List ℕ) (d : Decision) → Answered m e m′ d → (after : Input) (n : ℕ) →
-    became-ready small (tables m) e n ≡ true → 95 ≤ ticks-accepted small (tables m′) after → served-by small 95 n (tables m′) after ≡ true
-waits-at-most-95 = lending-runs.waits-at-most-95
+    -- Whatever the next decision hands over has its cause in these events.
+    pub handed-has-its-cause : Cause small (es ++ (e ∷ [])) (d .runner) (d .answer)
+    handed-has-its-cause = lending-runs.handed-has-its-cause s e m′ d c
 
--- With threads and nobody to run: panicked exactly if no series of ticks and interrupts makes any thread ready.
-pub panics-exactly : {es : Input} {m : List ℕ} → Series es m →
-    tables m .runner ≡ NoRunner → any (λ t. true) (tables m .threads) ≡ true →
-    (status (tables m) ≡ Panicked) ↔ ((os : List Event) → all from-outside os ≡ true → some-ready (outside (tables m) os) ≡ false)
-panics-exactly = lending-runs.panics-exactly
+    -- A thread that the next event makes ready has run or ended by the 95th tick accepted after it.
+    pub waits-at-most-95 : (after : Input) (n : ℕ) → became-ready small (tables m) e n ≡ true →
+        95 ≤ ticks-accepted small (tables m′) after → served-by small 95 n (tables m′) after ≡ true
+    waits-at-most-95 = lending-runs.waits-at-most-95 s e m′ d c
 
--- Any two results of a step that its promise allows agree: in the decision; in the tables and their dump, where what is lent is valid;
--- in every word, where it is not.
-pub step-in-determined : {m bytes a b : List ℕ} {d e : Decision} → Answered m bytes a d → Answered m bytes b e →
-    (d ≡ e) × (valid m ≡ true → (tables a ≡ tables b) × (dump (tables a) ≡ dump (tables b)))
-    × (valid m ≡ false → a ≡ b)
-step-in-determined = lending-determined.step-in-determined
+module _ {m bytes a b : List ℕ} {d e : Decision} (x : Answered m bytes a d) (y : Answered m bytes b e) where
+  -- Any two results of a step that its promise allows agree: in the decision; in the tables and their dump, where what is lent is valid; in
+  -- every word, where it is not.
+  pub step-in-determined : (d ≡ e) × (valid m ≡ true → (tables a ≡ tables b) × (dump (tables a) ≡ dump (tables b)))
+      × (valid m ≡ false → a ≡ b)
+  step-in-determined = lending-determined.step-in-determined x y
 
--- And in every word after a refused event.
-pub refused-determined : {m bytes a b : List ℕ} {d e : Decision} → Answered m bytes a d → Answered m bytes b e →
-    d .refusal ≢ 0 → a ≡ b
-refused-determined = lending-determined.refused-determined
+  -- And in every word after a refused event.
+  pub refused-determined : d .refusal ≢ 0 → a ≡ b
+  refused-determined = lending-determined.refused-determined x y
 
 -- Any two results that the start's promise allows agree, in the tables and in their dump.
 pub start-determined : (a b : List ℕ) → Started a → Started b → (tables a ≡ tables b) × (dump (tables a) ≡ dump (tables b))
@@ -77,16 +72,6 @@ start-determined = lending-determined.start-determined
 -- Valid memories with equal dumps stand for the same tables.
 pub lent-dump-tells : (a b : List ℕ) → valid a ≡ true → valid b ≡ true → dump (tables a) ≡ dump (tables b) → tables a ≡ tables b
 lent-dump-tells = lending-determined.lent-dump-tells
-
--- Any two results of `load_value` that its promise allows agree: in the refusal and the offset, in tables and dump, and in every word
--- where it is refused. `nucleus_load` has the same promise.
-pub load-value-determined : (t : Lent) (bytes : List ℕ) (l k : Loaded) →
-    Loads (t .words) bytes (l .tables .words) (l .verdict) → Loads (t .words) bytes (k .tables .words) (k .verdict) →
-    (l .verdict ≡ k .verdict)
-    × (l .verdict .refusal ≡ 0 → (tables (l .tables .words) ≡ tables (k .tables .words))
-    × (dump (tables (l .tables .words)) ≡ dump (tables (k .tables .words))))
-    × (l .verdict .refusal ≢ 0 → l .tables .words ≡ k .tables .words)
-load-value-determined = lending-determined.load-value-determined
 
 -- The bytes that the writer puts, read into any memory, are accepted and give the tables that were written.
 pub written-reads : (m u u′ before after : List ℕ) (n : ℕ) (r : Verdict) → stands small m ≡ true → Puts (dump (tables m)) before after n →

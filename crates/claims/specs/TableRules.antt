@@ -10,18 +10,14 @@ use Rattle.rules.specs.TableRules.{table-rules, parents-right}
 use Rattle.rules.specs.Lists.{count}
 use Rattle.rules.specs.Step.{step}
 use Rattle.rules.specs.Runs.{Input, run}
-use Rattle.laws.specs.Types.{Ruled, Family, Inv, Steady, Fits}
+use Rattle.laws.specs.Types.{Ruled, Family}
 use Rattle.laws.proofs.Sound as sound
 use Rattle.laws.proofs.Descent as descent
 use Rattle.laws.proofs.Kept as kept
-use Rattle.laws.proofs.PlacesKept as places-kept
-use Rattle.laws.proofs.Steady as steady
-use Rattle.laws.proofs.Good as good
 
 -- The Boolean test `table-rules` and the rules as types (Types.antt) say the same, both ways.
 pub tested-ruled : (L : Limits) (T : Tables) → table-rules L T ≡ true → Ruled L T
 tested-ruled = sound.tested-ruled
-
 pub ruled-tested : {L : Limits} {T : Tables} → Ruled L T → table-rules L T ≡ true
 ruled-tested = sound.ruled-tested
 
@@ -42,15 +38,3 @@ rules-are-kept = kept.rules-are-kept
 -- They hold after any run from a start.
 pub rules-hold-in-runs : (L : Limits) (es : Input) → 1 ≤ L .threads → L .threads < names → table-rules L (run L start es) ≡ true
 rules-hold-in-runs = kept.rules-hold-in-runs
-
--- Of these, by itself: state, runner and queues agree, each name once; names are below 254 and not too many.
-pub step-inv : {L : Limits} {T : Tables} (bytes : List ℕ) → L .threads < names → Inv L T → Inv L (step L T bytes .tables)
-step-inv = places-kept.step-inv
-
--- Of these, by itself: a runner has 1 to 5 ticks left; without one nobody is ready; time is in range.
-pub step-steady : {L : Limits} {T : Tables} (bytes : List ℕ) → L .threads < names → Inv L T → Steady T → Steady (step L T bytes .tables)
-step-steady = steady.step-steady
-
--- Of these, by itself: families, managers, wanted names, devices, answers, messages, notices, orders.
-pub step-good : {L : Limits} {T : Tables} (bytes : List ℕ) → L .threads < names → Inv L T → Fits L T → Fits L (step L T bytes .tables)
-step-good = good.step-good
