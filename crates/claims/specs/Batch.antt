@@ -22,6 +22,7 @@ nothing-is-lost = batch.nothing-is-lost
 -- Each event that is run is exactly one complete field, and the unread end opens with none.
 pub each-is-complete : (l : List ℕ) → all one-field (complete l) ≡ true
 each-is-complete = batch.each-is-complete
+
 pub unread-is-cut : (l : List ℕ) → whole (unread l) ≡ false
 unread-is-cut = batch.unread-is-cut
 
@@ -38,6 +39,7 @@ refused-14 = batch.refused-14
 pub refusal-is-0-or-14 : (L : Limits) (T : Tables) (room : ℕ) (bytes : List ℕ) →
     (batch L T room bytes .refusal ≡ 0) ⊎ (batch L T room bytes .refusal ≡ 14)
 refusal-is-0-or-14 = batch.refusal-is-0-or-14
+
 pub refused-runs-nothing : (L : Limits) (T : Tables) (room : ℕ) (bytes : List ℕ) →
     batch L T room bytes .refusal ≢ 0
     → (batch L T room bytes .tables ≡ T) × (batch L T room bytes .decisions ≡ []) × (batch L T room bytes .unread ≡ bytes)
@@ -61,6 +63,7 @@ equals-single-calls = batch.equals-single-calls
 -- so is one batch of all the bytes; else the refusal is the same and, where it is 0, so are decisions, tables and unread end.
 pub refused-at-once : (room : ℕ) (a b : List ℕ) → taken room a .refusal ≡ 14 → taken room (a ++ b) .refusal ≡ 14
 refused-at-once = batch.refused-at-once
+
 pub two-equal-one : (L : Limits) (T : Tables) (room : ℕ) (a b : List ℕ) →
     let first = batch L T room a in
     let second = batch L (first .tables) (room - length (numbers (first .decisions))) (first .unread ++ b) in

@@ -44,26 +44,33 @@ pub requests-say :
     × (decode (asking 7 0) ≡ ByRunner GetCpuTime)
     × (decode (asking 8 0) ≡ ByRunner WaitForClock)
 requests-say = said.requests-say
+
 pub naming-requests-say : (n : ℕ) → n < 256 →
     (n ≢ 255 → decode (asking 3 n) ≡ ByRunner (Terminate (Named n)))
     × (decode (asking 4 n) ≡ ByRunner (SetManager Program n))
     × (decode (asking 5 n) ≡ ByRunner (SetManager Tlb n))
     × (decode (asking 6 n) ≡ ByRunner (SetManager SysBp n))
 naming-requests-say = said.naming-requests-say
+
 pub device-request-says : (d : ℕ) → d < 48 → decode (asking 9 d) ≡ ByRunner (WaitForIo d)
 device-request-says = said.device-request-says
+
 pub send-says : (n w : ℕ) → n < 256 → w < wrap → decode (16 ∷ 0 ∷ 5 ∷ n ∷ four-bytes w) ≡ ByRunner (Send n w)
 send-says = said.send-says
+
 pub receive-says : (decode (17 ∷ 0 ∷ 1 ∷ 255 ∷ []) ≡ ByRunner (Receive Anybody))
     × ((n : ℕ) → n < 255 → decode (17 ∷ 0 ∷ 1 ∷ n ∷ []) ≡ ByRunner (Receive (Only n)))
 receive-says = said.receive-says
+
 pub trap-says : (c : ℕ) → c < wrap →
     (decode (19 ∷ 0 ∷ 5 ∷ 0 ∷ four-bytes c) ≡ ByRunner (Trap Program c))
     × (decode (19 ∷ 0 ∷ 5 ∷ 1 ∷ four-bytes c) ≡ ByRunner (Trap Tlb c))
     × (decode (19 ∷ 0 ∷ 5 ∷ 2 ∷ four-bytes c) ≡ ByRunner (Trap SysBp c))
 trap-says = said.trap-says
+
 pub tick-says : decode (20 ∷ 0 ∷ 0 ∷ []) ≡ Tick
 tick-says = said.tick-says
+
 pub interrupt-says : (p w : ℕ) → 0 < p → p < 2 ^ 48 → w < wrap →
     (d : ℕ) × (decode (interrupting p w) ≡ Interrupt d w) × (d < 48) × (p / 2 ^ d % 2 ≡ 1) × Foremost p d
 interrupt-says = said.interrupt-says

@@ -24,6 +24,7 @@ module _ (ts : List Thread) where
   -- The thread that ends is in the ended set, and so are the children of each member and those trapped on it.
   pub ended-holds : (n : ℕ) → has n (ended-set ts n) ≡ true
   ended-holds = closure.ended-holds ts
+
   pub ended-closed : (n : ℕ) (t : Thread) → List·Memᴰ t ts → depends (ended-set ts n) t ≡ true → has (t .name) (ended-set ts n) ≡ true
   ended-closed = closure.ended-closed ts
 

@@ -24,6 +24,7 @@ module _ (L : Limits) (bytes : List ℕ) where
   -- Reading answers 0 exactly if the bytes are the dump of ruled tables; and then the offset is 0.
   pub accepted-exactly : (verdict L bytes .refusal ≡ 0) ↔ ((T : Tables) × (table-rules L T ≡ true) × (dump T ≡ bytes))
   accepted-exactly = faults.accepted-exactly L bytes
+
   pub accepted-offset : verdict L bytes .refusal ≡ 0 → verdict L bytes .offset ≡ 0
   accepted-offset = faults.accepted-offset L bytes
 
@@ -34,10 +35,13 @@ module _ (L : Limits) (bytes : List ℕ) where
   -- Each is given exactly if no earlier list has a fault and its own has one.
   pub refused-15 : (verdict L bytes .refusal ≡ 15) ↔ (faults-15 bytes ≢ [])
   refused-15 = faults.refused-15 L bytes
+
   pub refused-16 : (verdict L bytes .refusal ≡ 16) ↔ ((faults-15 bytes ≡ []) × (faults-16 bytes ≢ []))
   refused-16 = faults.refused-16 L bytes
+
   pub refused-17 : (verdict L bytes .refusal ≡ 17) ↔ ((faults-15 bytes ≡ []) × (faults-16 bytes ≡ []) × (faults-17 bytes ≢ []))
   refused-17 = faults.refused-17 L bytes
+
   pub refused-18 : (verdict L bytes .refusal ≡ 18) ↔
       ((faults-15 bytes ≡ []) × (faults-16 bytes ≡ []) × (faults-17 bytes ≡ []) × (faults-18 bytes ≢ []))
   refused-18 = faults.refused-18 L bytes
@@ -51,12 +55,16 @@ module _ (L : Limits) (bytes : List ℕ) where
   -- The offset is in that list, and none in it is lower; with 19 it is 0.
   pub earliest-15 : verdict L bytes .refusal ≡ 15 → Earliest (verdict L bytes .offset) (faults-15 bytes)
   earliest-15 = faults.earliest-15 L bytes
+
   pub earliest-16 : verdict L bytes .refusal ≡ 16 → Earliest (verdict L bytes .offset) (faults-16 bytes)
   earliest-16 = faults.earliest-16 L bytes
+
   pub earliest-17 : verdict L bytes .refusal ≡ 17 → Earliest (verdict L bytes .offset) (faults-17 bytes)
   earliest-17 = faults.earliest-17 L bytes
+
   pub earliest-18 : verdict L bytes .refusal ≡ 18 → Earliest (verdict L bytes .offset) (faults-18 bytes)
   earliest-18 = faults.earliest-18 L bytes
+
   pub offset-19 : verdict L bytes .refusal ≡ 19 → verdict L bytes .offset ≡ 0
   offset-19 = faults.offset-19 L bytes
 
@@ -64,6 +72,7 @@ module _ (L : Limits) (bytes : List ℕ) where
   -- field.
   pub offset-within : verdict L bytes .offset ≤ length bytes
   offset-within = faults.offset-within L bytes
+
   pub a-field-begins-there : verdict L bytes .offset < length bytes → BeginsAt bytes (verdict L bytes .offset)
   a-field-begins-there = faults.a-field-begins-there L bytes
 
@@ -71,6 +80,7 @@ module _ (L : Limits) (bytes : List ℕ) where
   -- neither is left to 19.
   pub in-range-at-18 : all is-byte bytes ≡ true → verdict L bytes .refusal ≡ 18 → InRange (told bytes)
   in-range-at-18 = fault-told.in-range-at-18 L bytes
+
   pub others-at-19 : all is-byte bytes ≡ true → verdict L bytes .refusal ≡ 19 → InRange (told bytes) × Alive (told bytes)
   others-at-19 = fault-told.others-at-19 L bytes
 
@@ -90,10 +100,13 @@ pub offsets-exactly : (fault : Placed → Bool) →
     (fs : List Placed) (o : ℕ) →
     List·Memᴰ o (offsets fault fs) ↔ ((f : Placed) × List·Memᴰ f fs × (fault f ≡ true) × (o ≡ f .at))
 offsets-exactly = offsets.offsets-exactly
+
 pub placed-begins : (bytes : List ℕ) (f : Placed) → List·Memᴰ f (placed bytes) → BeginsAt bytes (f .at)
 placed-begins = offsets.placed-begins
+
 pub reached-begins : (bytes : List ℕ) (o : ℕ) → Reached bytes o → whole (drop o bytes) ≡ true → BeginsAt bytes o
 reached-begins = offsets.reached-begins
+
 pub next-before : (bytes : List ℕ) (xs : List Placed) (g f : Placed) (ys : List Placed) → placed bytes ≡ xs ++ (g ∷ f ∷ ys)
     → f .before ≡ g .field .tag ∷ g .before
 next-before = offsets.next-before

@@ -43,6 +43,7 @@ module _ (L : Limits) (some : 1 ≤ L .threads) (few : L .threads < names) where
       step L (run L start (es ++ fs)) e .decision .runner ≡ n → step L (run L start (es ++ fs)) e .decision .answer ≡ Result w →
       AskedIn L (run L start es) (fs ++ (e ∷ [])) n w
   no-late-result = handed.no-late-result L some few
+
   pub newcomer-has-asked-nothing : (es : Input) (e : List ℕ) (n w : ℕ) →
       live n (run L start es) ≡ false → Asked L (es ++ (e ∷ [])) n w → ⊥
   newcomer-has-asked-nothing = handed.newcomer-has-asked-nothing L some few
@@ -51,6 +52,7 @@ module _ (L : Limits) (some : 1 ≤ L .threads) (few : L .threads < names) where
 pub answer-is-due : (L : Limits) (T : Tables) (bytes : List ℕ) (n : ℕ) (a : Answer) → L .threads < names → table-rules L T ≡ true →
     ThereIs (T .threads) n Ready a → Becomes L T bytes n a
 answer-is-due = due.answer-is-due
+
 pub due-until-run : (L : Limits) (T : Tables) (es : Input) (n : ℕ) (a : Answer) → L .threads < names → table-rules L T ≡ true →
     ThereIs (T .threads) n Ready a → Until L n a T es
 due-until-run = due.due-until-run
@@ -65,6 +67,7 @@ pub oldest-is-taken : (L : Limits) (T : Tables) (bytes : List ℕ) (n q : ℕ) (
     step L T bytes .decision .refusal ≡ 0 →
     T .runner ≡ Runs n q → decode bytes ≡ ByRunner (Receive w) → any (wanted-from w) (inbox n T) ≡ true → Taken L T bytes n
 oldest-is-taken = inboxes.oldest-is-taken
+
 pub anybody-takes-the-first : (L : Limits) (T : Tables) (bytes : List ℕ) (n : ℕ) (X : Taken L T bytes n) → X .wanted ≡ Anybody →
     X .before ≡ []
 anybody-takes-the-first = inboxes.anybody-takes-the-first

@@ -42,11 +42,13 @@ reported = idle.reported
 -- Running exactly if there is a runner, halted exactly if no thread is left.
 pub running-exactly : (T : Tables) → (status T ≡ Working) ↔ (runs (T .runner) ≡ true)
 running-exactly = idle.running-exactly
+
 pub halted-exactly : (L : Limits) (T : Tables) → table-rules L T ≡ true → (status T ≡ Halted) ↔ (T .threads ≡ [])
 halted-exactly = idle.halted-exactly
 
 -- A halted or panicked node refuses every event with 1, and stays as it is.
 pub stays-down : (L : Limits) (T : Tables) → over (status T) ≡ true → (bytes : List ℕ) → step L T bytes ≡ decided 1 (T handing Nothing)
 stays-down = idle.stays-down
+
 pub down-for-good : (L : Limits) (T : Tables) → over (status T) ≡ true → (es : Input) → run L T es ≡ T
 down-for-good = idle.down-for-good

@@ -34,6 +34,7 @@ use Rattle.laws.proofs.Incident as incident
 -- that name's thread does.
 pub no-other-brings : (T : Tables) (e : Event) → creates e ≡ false → NobodyComes T (act T e .tables)
 no-other-brings = comings.no-other-brings
+
 pub dispatch-brings-nobody : (o : Outcome) → NobodyComes (o .tables) (dispatch o .tables)
 dispatch-brings-nobody = comings.dispatch-brings-nobody
 
@@ -48,6 +49,7 @@ a-name-rests = rest.a-name-rests
 pub a-name-rests-for-234 : {T : Tables} {given : List ℕ} → Begun small T given →
     (es : Input) (n : ℕ) (t : Twice n (given ++ givings small T es)) → 234 ≤ others n (t .between)
 a-name-rests-for-234 = rest.a-name-rests-for-234
+
 pub a-name-of-64-rests-for-190 : {T : Tables} {given : List ℕ} → Begun big T given →
     (es : Input) (n : ℕ) (t : Twice n (given ++ givings big T es)) → 190 ≤ others n (t .between)
 a-name-of-64-rests-for-190 = rest.a-name-of-64-rests-for-190
@@ -57,8 +59,10 @@ a-name-of-64-rests-for-190 = rest.a-name-of-64-rests-for-190
 pub the-rest-is-reached : (L : Limits) → 2 ≤ L .threads → L .threads < names →
     (t : Twice (L .threads - 1) (0 ∷ givings L start (a-round (L .threads)))) × (others (L .threads - 1) (t .between) ≡ rest L)
 the-rest-is-reached = reached.the-rest-is-reached
+
 pub reached-234 : (t : Twice 19 (0 ∷ givings small start (a-round 20))) × (others 19 (t .between) ≡ 234)
 reached-234 = reached.reached-234
+
 pub reached-190 : (t : Twice 63 (0 ∷ givings big start (a-round 64))) × (others 63 (t .between) ≡ 190)
 reached-190 = reached.reached-190
 
@@ -102,6 +106,7 @@ pub made-and-ended-leaves-no-trace : (L : Limits) (T : Tables) → L .threads < 
     T .runner ≡ Runs m s → length (T .threads) < L .threads →
     run L T (ask 2 0 ∷ ask 3 (next-name T) ∷ []) ≡ with-last (next-name T) T
 made-and-ended-leaves-no-trace = trace.made-and-ended-leaves-no-trace
+
 pub made-and-ended-gives-its-name : (L : Limits) (T : Tables) → L .threads < names → table-rules L T ≡ true → (m s : ℕ) →
     T .runner ≡ Runs m s → length (T .threads) < L .threads →
     givings L T (ask 2 0 ∷ ask 3 (next-name T) ∷ []) ≡ next-name T ∷ []
@@ -113,6 +118,7 @@ made-and-ended-gives-its-name = trace.made-and-ended-gives-its-name
 pub newcomer-gets-its-own : (L : Limits) → 1 ≤ L .threads → L .threads < names →
     (es : Input) (event : List ℕ) (n : ℕ) (g : GivenAgain L es event n) → ANewLife L (rest L) es event n (g .between)
 newcomer-gets-its-own = incident.newcomer-gets-its-own
+
 pub newcomer-gets-its-own-after-234 : (es : Input) (event : List ℕ) (n : ℕ) (g : GivenAgain small es event n) →
     ANewLife small 234 es event n (g .between)
 newcomer-gets-its-own-after-234 = incident.newcomer-gets-its-own-after-234

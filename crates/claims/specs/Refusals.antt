@@ -33,22 +33,31 @@ module _ (L : Limits) (T : Tables) (e : Event) where
   -- For each number an event can get: it is given exactly if its own test holds and none before it does.
   pub refused-1 : Given 1 (comes-too-late T)
   refused-1 = refusals.refused-1 L T e
+
   pub refused-2 : Given 2 (is-malformed e)
   refused-2 = refusals.refused-2 L T e
+
   pub refused-3 : Given 3 (lacks-runner T e)
   refused-3 = refusals.refused-3 L T e
+
   pub refused-4 : Given 4 (names-nobody T e)
   refused-4 = refusals.refused-4 L T e
+
   pub refused-5 : Given 5 (lacks-block L T e)
   refused-5 = refusals.refused-5 L T e
+
   pub refused-6 : Given 6 (lacks-thread L T e)
   refused-6 = refusals.refused-6 L T e
+
   pub refused-7 : Given 7 (is-brother-of-0 T e)
   refused-7 = refusals.refused-7 L T e
+
   pub refused-8 : Given 8 (device-is-taken T e)
   refused-8 = refusals.refused-8 L T e
+
   pub refused-9 : Given 9 (decides-wrongly T e)
   refused-9 = refusals.refused-9 L T e
+
   pub refused-10 : Given 10 (manages-itself T e)
   refused-10 = refusals.refused-10 L T e
 
@@ -76,11 +85,15 @@ refused-changes-nothing = refusals.refused-changes-nothing
 pub step-determined : (L : Limits) (T : Tables) (bytes : List ℕ) (a b : Stepped) → a ≡ step L T bytes → b ≡ step L T bytes →
     (a .decision ≡ b .decision) × (dump (a .tables) ≡ dump (b .tables))
 step-determined = determinacy.step-determined
+
 pub start-determined : (a b : Tables) → a ≡ start → b ≡ start → dump a ≡ dump b
 start-determined = determinacy.start-determined
+
 pub pick-determined : (word : ℕ) (a b : Picked) → a ≡ pick word → b ≡ pick word → a ≡ b
 pick-determined = determinacy.pick-determined
+
 pub dump-determined : (T : Tables) (a b : List ℕ) → a ≡ dump T → b ≡ dump T → a ≡ b
 dump-determined = determinacy.dump-determined
+
 pub load-determined : (L : Limits) (bytes : List ℕ) (a b : Loaded) → a ≡ load L bytes → b ≡ load L bytes → a ≡ b
 load-determined = determinacy.load-determined

@@ -40,6 +40,7 @@ pub count-of-a-life : (L : Limits) (n : ℕ) (l : L .threads < names) →
     (live n T ≡ true → ticks-at n (T .threads) ≡ a % wrap) →
     live n (run L T es) ≡ true → ticks-at n (run L T es .threads) ≡ life-ticks L n a T es % wrap
 count-of-a-life = lives.count-of-a-life
+
 pub newcomer-has-count-0 : (n : ℕ) →
     (L : Limits) (T : Tables) (bytes : List ℕ) → live n T ≡ false →
     ticks-at n (step L T bytes .tables .threads) ≡ 0
@@ -103,6 +104,7 @@ pub brother-has-the-parent : (L : Limits) (T : Tables) (bytes : List ℕ) (l : L
     Accepted L T bytes CreateBrother → (r : Thread) → List·Memᴰ r (T .threads) → r .name ≡ requester T →
     Made (r .parent) T (step L T bytes .tables) (step L T bytes .decision .answer)
 brother-has-the-parent = requests.brother-has-the-parent
+
 pub son-has-the-requester : (L : Limits) (T : Tables) (bytes : List ℕ) (l : L .threads < names) (R : table-rules L T ≡ true) →
     Accepted L T bytes CreateSon →
     Made (ParentIs (requester T)) T (step L T bytes .tables) (step L T bytes .decision .answer)

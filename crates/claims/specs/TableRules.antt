@@ -18,6 +18,7 @@ use Rattle.laws.proofs.Kept as kept
 -- The Boolean test `table-rules` and the rules as types (Types.antt) say the same, both ways.
 pub tested-ruled : (L : Limits) (T : Tables) → table-rules L T ≡ true → Ruled L T
 tested-ruled = sound.tested-ruled
+
 pub ruled-tested : {L : Limits} {T : Tables} → Ruled L T → table-rules L T ≡ true
 ruled-tested = sound.ruled-tested
 
