@@ -30,7 +30,7 @@ pub beats-counted : (L : Limits) (T : Tables) (es : Input) → T .beats < wrap �
 beats-counted = counts.beats-counted
 
 -- The count of a thread that lives through a run is what it was before and the ticks accepted while it ran, modulo 2^32.
-pub ticks-counted-alive : (L : Limits) (n : ℕ) (l : L .threads < names) →
-    (T : Tables) (es : Input) → table-rules L T ≡ true → lives-through L n T es ≡ true →
+pub ticks-counted-alive : (L : Limits) (n : ℕ) → L .threads < names → (T : Tables) (es : Input) →
+    table-rules L T ≡ true → lives-through L n T es ≡ true →
     ticks-at n (run L T es .threads) ≡ (ticks-at n (T .threads) + ticks-of L n T es) % wrap
 ticks-counted-alive = counts.ticks-counted-alive

@@ -96,8 +96,7 @@ pub free-of-15 : (bytes : List ℕ) → (faults-15 bytes ≡ []) ↔
 free-of-15 = faults.free-of-15
 
 -- A list names exactly the fields that have the fault; fields are listed exactly where they begin; each knows the tags before it.
-pub offsets-exactly : (fault : Placed → Bool) →
-    (fs : List Placed) (o : ℕ) →
+pub offsets-exactly : (fault : Placed → Bool) (fs : List Placed) (o : ℕ) →
     List·Memᴰ o (offsets fault fs) ↔ ((f : Placed) × List·Memᴰ f fs × (fault f ≡ true) × (o ≡ f .at))
 offsets-exactly = offsets.offsets-exactly
 

@@ -74,8 +74,7 @@ anybody-takes-the-first = inboxes.anybody-takes-the-first
 
 -- Over a run that discards nothing from an inbox, of each sender: what was there and then what came is what was taken and then what is
 -- left, in that order.
-pub first-in-first-out : (L : Limits) (n f : ℕ) →
-    (T : Tables) (es : Input) (ins outs : List Message) → Passes L n T es ins outs →
+pub first-in-first-out : (L : Limits) (n f : ℕ) (T : Tables) (es : Input) (ins outs : List Message) → Passes L n T es ins outs →
     of-sender f (inbox n T) ++ of-sender f ins ≡ of-sender f outs ++ of-sender f (inbox n (run L T es))
 first-in-first-out = inboxes.first-in-first-out
 
@@ -97,8 +96,7 @@ waiting-leaves-once = once.waiting-leaves-once
 
 -- Of messages that an event discards, no more are handed over from then on than are queued from then on.
 pub discarded-is-never-handed : (p : Message → Bool) (L : Limits) → L .threads < names → (T : Tables) → table-rules L T ≡ true →
-    (e : List ℕ) →
-    step L T e .decision .refusal ≡ 0 → ((m : Message) → p m ≡ true → discards T (decode e) m ≡ true) → (es : Input) →
+    (e : List ℕ) → step L T e .decision .refusal ≡ 0 → ((m : Message) → p m ≡ true → discards T (decode e) m ≡ true) → (es : Input) →
     handed-of p L T (e ∷ es) ≤ queued-of p L T (e ∷ es)
 discarded-is-never-handed = once.discarded-is-never-handed
 

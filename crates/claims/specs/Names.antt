@@ -41,8 +41,7 @@ dispatch-brings-nobody = comings.dispatch-brings-nobody
 -- From a start or a read dump, for any limits under 254 threads: if a name is given twice, at least 253 − (threads − 1) threads of other
 -- names are created in between.
 pub a-name-rests : (L : Limits) → 1 ≤ L .threads → L .threads < names → {T : Tables} {given : List ℕ} → Begun L T given →
-    (es : Input) (n : ℕ) →
-    (t : Twice n (given ++ givings L T es)) → rest L ≤ others n (t .between)
+    (es : Input) (n : ℕ) (t : Twice n (given ++ givings L T es)) → rest L ≤ others n (t .between)
 a-name-rests = rest.a-name-rests
 
 -- That is 234 with 20 threads and 190 with 64.

@@ -31,8 +31,7 @@ pub ready-thread-waits-at-most-95 : (before : Input) (e : List ℕ) (after : Inp
 ready-thread-waits-at-most-95 = wait.ready-thread-waits-at-most-95
 
 -- The same for 64 threads, by the 315th.
-pub ready-thread-of-64-waits-at-most-315 :
-    (before : Input) (e : List ℕ) (after : Input) (n : ℕ) →
+pub ready-thread-of-64-waits-at-most-315 : (before : Input) (e : List ℕ) (after : Input) (n : ℕ) →
     became-ready big (run big start before) e n ≡ true →
     315 ≤ ticks-accepted big (step big (run big start before) e .tables) after →
     served-by big 315 n (step big (run big start before) e .tables) after ≡ true
