@@ -5,7 +5,6 @@ use mathlib.Core.Logic.{_⊎_}
 use mathlib.Core.Bool.{true, false}
 use Rattle.rules.specs.Numbers.{devices}
 use Rattle.rules.specs.Pick.{pending}
-use Rattle.rules.proofs.Bits.{taken}
 use Rattle.laws.specs.Words.{Picked}
 
 -- The device that the pick shall take of those that are pending, in the words of document 02, CR 1; "Terminal d of line 7 transmits as
@@ -25,7 +24,7 @@ pub data Foremost (w d : ℕ) : Type 0 where
 
 -- the foremost of the pending devices is taken
 abbrev pub Takes : ℕ → Picked → Type 0
-Takes w p = (d : ℕ) × (p ≡ taken d) × (d < devices) × (pending w d ≡ true) × Foremost w d
+Takes w p = (d : ℕ) × (p ≡ record { refusal = 0; device = d }) × (d < devices) × (pending w d ≡ true) × Foremost w d
 
 -- no device is pending, or one over 47 is
 abbrev pub Unservable : ℕ → Type 0
