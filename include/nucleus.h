@@ -8,6 +8,10 @@
 #include <stddef.h>
 #include <stdint.h>
 
+#if SIZE_MAX != UINT64_MAX
+#error "nucleus.h is for 64-bit machines: a length in the library has 64 bits"
+#endif
+
 #ifdef __cplusplus
 extern "C" {
 #endif
@@ -26,6 +30,7 @@ extern "C" {
 /* ---- Numbers */
 
 #define NUCLEUS_THREADS 20   /* threads at most */
+#define NUCLEUS_NAMES 254    /* names of threads: 0 to 253 */
 #define NUCLEUS_BLOCKS 20    /* ordinary messages in inboxes at most */
 #define NUCLEUS_DEVICES 48   /* devices 0 to 47 */
 #define NUCLEUS_SLICE 5      /* ticks of a full slice */
@@ -240,7 +245,7 @@ struct nucleus_sizes {
     uint32_t dump;   /* bytes that suffice for every dump */
 };
 
-/* Whoever compiles this for another width, or packs structs, is told here. A length in the library has 64 bits. */
+/* Whoever packs structs, or has others than the library, is told here. */
 typedef char nucleus_tables_fit[sizeof(struct nucleus_tables) == NUCLEUS_TABLES_BYTES ? 1 : -1];
 typedef char nucleus_report_fits[sizeof(struct nucleus_report) == NUCLEUS_REPORT_BYTES ? 1 : -1];
 typedef char nucleus_lengths_fit[sizeof(size_t) == 8 && sizeof(struct nucleus_dumped) == 16 ? 1 : -1];
@@ -249,8 +254,9 @@ typedef char nucleus_bytes_fit[sizeof(const uint8_t *) == 8 && sizeof(struct nuc
 
 /* ---- Events, built
 
-   Each writes one event to the front of a caller's array and returns its length. Bytes behind that length stay as they were. Every value
-   that fits its bytes is let through: the nucleus answers it.
+   Each writes one event to the front of a caller's array and returns its length. Bytes behind that length stay as they were. The array has
+   NUCLEUS_EVENT_BYTES, also for a shorter event: gcc warns of fewer. Every value that fits its type is let through: the nucleus answers it.
+   One that does not fit is cut by C, before the builder has it: a name of 300 would be 44. -Wconversion tells of such.
 
        uint8_t event[NUCLEUS_EVENT_BYTES];
        size_t length = nucleus_send_event(event, 1, 7);
@@ -407,8 +413,15 @@ struct nucleus_loaded nucleus_load(struct nucleus_tables *tables, const uint8_t 
    the lowest receiver" (33, 35 .. 47), so that a held key does not delay a log. Refusal 2 with none pending, or one over 47. */
 struct nucleus_picked nucleus_pick(uint64_t pending);
 
-/* The library's own sizes, to hold this file to. */
+/* The library's own sizes, to hold this file to. In C++ a call may be named as a struct is, but with -Wshadow g++ warns of it. */
+#if defined __cplusplus && defined __GNUC__
+#pragma GCC diagnostic push
+#pragma GCC diagnostic ignored "-Wshadow"
+#endif
 struct nucleus_sizes nucleus_sizes(void);
+#if defined __cplusplus && defined __GNUC__
+#pragma GCC diagnostic pop
+#endif
 
 #ifdef __cplusplus
 }
