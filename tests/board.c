@@ -389,14 +389,34 @@ static void make_threads(uint8_t rows[20][4])
     }
 }
 
+/* Threads in every state, with every kind of answer. */
+static uint8_t mixed[20][4] = {
+    {NUCLEUS_IS_RECEIVING, 214, 0, 255},
+    {NUCLEUS_IS_READY, 0, NUCLEUS_NONE, NUCLEUS_NOBODY},
+    {NUCLEUS_IS_READY, 0, NUCLEUS_MESSAGE, 99},
+    {NUCLEUS_IS_RUNNING, 0, 0, 255},
+    {NUCLEUS_IS_READY, 0, NUCLEUS_NOTICE, 77},
+    {NUCLEUS_IS_READY, 0, NUCLEUS_SENDER_GONE, 88},
+    {NUCLEUS_IS_READY, 0, NUCLEUS_RESULT, NUCLEUS_SERVICE},
+    {NUCLEUS_IS_RECEIVING, NUCLEUS_NOBODY, 0, 255},
+    {NUCLEUS_IS_RECEIVING, 27, 0, 255},
+    {NUCLEUS_IS_AT_CLOCK, 0, 0, 255},
+    {NUCLEUS_IS_AT_CLOCK, 0, 0, 255},
+    {NUCLEUS_IS_AT_CLOCK, 0, 0, 255},
+    {NUCLEUS_IS_AT_DEVICE, NUCLEUS_DEVICES - 1, 0, 255},
+    {NUCLEUS_IS_AT_DEVICE, 0, 0, 255},
+    {NUCLEUS_IS_AT_DEVICE, 21, 0, 255},
+    {NUCLEUS_IS_TRAPPED, NUCLEUS_PROGRAM, 0, 255},
+    {NUCLEUS_IS_TRAPPED, NUCLEUS_TLB, 0, 255},
+    {NUCLEUS_IS_TRAPPED, NUCLEUS_SYSBP, 0, 255},
+    {NUCLEUS_IS_TRAPPED, NUCLEUS_PROGRAM, 0, 255},
+    {NUCLEUS_IS_TRAPPED, NUCLEUS_TLB, 0, 255},
+};
+
 static void make_mixed(void)
 {
-    static uint8_t rows[20][4] = {
-        {2, 214, 0, 255}, {1, 0, 0, 255}, {1, 0, 1, 99}, {0, 0, 0, 255}, {1, 0, 2, 77}, {1, 0, 3, 88}, {1, 0, 4, 254},
-        {2, 255, 0, 255}, {2, 27, 0, 255}, {3, 0, 0, 255}, {3, 0, 0, 255}, {3, 0, 0, 255}, {4, 47, 0, 255}, {4, 0, 0, 255},
-        {4, 21, 0, 255}, {5, 0, 0, 255}, {5, 1, 0, 255}, {5, 2, 0, 255}, {5, 0, 0, 255}, {5, 1, 0, 255}};
     static const uint8_t ready[] = {4, 1, 6, 2, 5}, clock[] = {11, 9, 10};
-    make_threads(rows);
+    make_threads(mixed);
     model.runner = name_of(3), model.slice = 3;
     model.threads[1].program = NUCLEUS_NOBODY, model.threads[2].tlb = NUCLEUS_GONE, model.threads[3].sysbp = NUCLEUS_NOBODY;
     for (size_t i = 0; i < 5; i++)
@@ -1032,6 +1052,62 @@ static void picks(void)
     }
 }
 
+/* ---- the header's numbers, by what the library does */
+
+/* How often this event is accepted, before it is refused with this number. */
+static unsigned long times_until(uint8_t refusal, const uint8_t *event, size_t length)
+{
+    unsigned long n = 0;
+    while (n < 999 && step(event, length).refusal == 0)
+        n++;
+    equal(now.report.refusal, refusal, "what refuses an event in the end", n);
+    return n;
+}
+
+/* Each name is given to a thread that is ended at once. 0 is alive, so there is one name more than those before 1 is given again. */
+static unsigned long names_in_a_round(void)
+{
+    uint8_t event[NUCLEUS_EVENT_BYTES];
+    unsigned long n = 0;
+    do {
+        uint8_t name = (uint8_t)step(event, nucleus_createson_event(event)).word;
+        if (n && name == 1)
+            break;
+        equal(step(event, nucleus_terminate_event(event, name)).refusal, 0, "the end of a thread", name);
+    } while (++n < 999);
+    return n + 1;
+}
+
+/* Thread 0 waits for the clock, and so many ticks let it run. */
+static unsigned long ticks_to_a_beat(void)
+{
+    uint8_t event[NUCLEUS_EVENT_BYTES];
+    unsigned long n = 0;
+    equal(step(event, nucleus_waitforclock_event(event)).status, NUCLEUS_IDLE, "a node whose only thread waits for the clock", 0);
+    do
+        n++;
+    while (step(event, nucleus_tick_event(event)).runner == NUCLEUS_NOBODY && n < 999);
+    equal(now.report.kind, NUCLEUS_RESULT, "a beat is a result", 0);
+    equal(now.report.sender, NUCLEUS_SERVICE, "a beat comes from the service interface", 0);
+    return n;
+}
+
+static void its_numbers(void)
+{
+    uint8_t event[NUCLEUS_EVENT_BYTES];
+    start();
+    equal(1 + times_until(NUCLEUS_NO_THREAD_BLOCK, event, nucleus_createson_event(event)), NUCLEUS_THREADS, "threads at most", 0);
+    start();
+    equal(times_until(NUCLEUS_NO_BLOCK, event, nucleus_send_event(event, 0, 7)), NUCLEUS_BLOCKS, "messages at most", 0);
+    start();
+    equal(names_in_a_round(), NUCLEUS_NAMES, "names", 0);
+    start();
+    equal(ticks_to_a_beat(), NUCLEUS_BEAT, "ticks of a beat", 0);
+    equal(step(event, nucleus_waitforio_event(event, NUCLEUS_DEVICES)).refusal, NUCLEUS_MALFORMED, "behind the last device", 0);
+    equal(step(event, nucleus_waitforio_event(event, NUCLEUS_DEVICES - 1)).refusal, NUCLEUS_ACCEPTED, "the last device", 0);
+    equal(nucleus_interrupt_event(event, 1, 0), NUCLEUS_EVENT_BYTES, "bytes of the longest event", 0);
+}
+
 /* ---- what the header does by itself */
 
 /* An event is built in a row in which every byte is the same before. */
@@ -1192,6 +1268,7 @@ int main(void)
     any_length();
     the_end_of_all();
     picks();
+    its_numbers();
     builders();
     names_and_sentences();
     the_version();
