@@ -147,7 +147,7 @@ static void gathered_calls(void)
     on_cut();
     gather(event, nucleus_createson_event(event));
     gather(event, nucleus_send_event(event, 99, 1));
-    gather(event, nucleus_createson_event(event));
+    gather(event, nucleus_createbrother_event(event));
     gather(event, nucleus_receive_event(event, NUCLEUS_NOBODY));
     gather(event, nucleus_send_event(event, 99, 1));
     noted_is("");
@@ -165,6 +165,7 @@ static void gathered_calls(void)
 
 int main(void)
 {
+    on_tick(), noted_is("stopped:255 "); /* no node was started: refused 11 */
     on_power(), noted_is("new:0 resumed:0 ");
     call(nucleus_createson_event(event), "new:1 answer:0,4,254,1 resumed:0 ");
     call(nucleus_receive_event(event, NUCLEUS_NOBODY), "resumed:1 ");
