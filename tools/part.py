@@ -178,15 +178,16 @@ def state_of(tables, name):
 
 def served_by(part, k):
     """The device that an interrupt served, as far as the tables tell: one that a thread no more waits for, or one whose held word is new;
-    else all that were pending. And whether somebody waited."""
+    else all pending ones whose held word is the one that came. And whether somebody waited."""
     before, after = part.tables[k - 1], part.tables[k]
-    pending = [int(device) for device in part.words[k][1].split(",")]
+    _, devices, _, word = part.words[k]
+    pending = [int(device) for device in devices.split(",")]
     waited = {t.detail: t.name for t in before.threads if t.state == runs.AT_DEVICE}
     for device in pending:
         if device in waited and state_of(after, waited[device]) != (runs.AT_DEVICE, device):
             return [device], True
     fresh = [held.device for held in after.held if held not in before.held]
-    return fresh or pending, False
+    return fresh or [held.device for held in after.held if held.device in pending and held.word == int(word)], False
 
 
 def look(tables):
