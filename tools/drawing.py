@@ -8,7 +8,7 @@ from part import accepted, bare_sends, created_by, ended_by, events, folds, mail
 
 # ---- Where things stand.
 
-COLUMN, FOLDED = 54, 1.5  # the least width of a column, and how much wider one of folded ticks is
+COLUMN, FOLDED = 58, 1.5  # the least width of a column, where "from any" fits in, and how much wider one of folded ticks is
 STUB = 54  # the state before the first event
 GUTTER, GUTTER_EVERY = 34, 20  # lane names again, every so many columns
 BAR, TRACK, LABEL, GAP = 19, 9, 14, 9  # heights in a lane
@@ -203,6 +203,14 @@ def triangle(x, y, class_):
     return path(["M", x - 5, y, "L", x + 5, y, "L", x, y - 10, "Z"], class_)
 
 
+def tick_mark(x, y):
+    return path(["M", x, y, "V", y + 6], "scale")
+
+
+def beat_mark(x, y):
+    return path(["M", x, y, "V", y + 17], "beat")
+
+
 def badge(x, y, half):
     return element("rect", x=x - half, y=y, width=2 * half, height=18, rx=3, class_="badge")
 
@@ -228,7 +236,7 @@ def state_text(state, detail):
 
 
 def draw_state(plan, lane, span):
-    """A bar; what the thread waits for stands in it, or what it was handed."""
+    """A bar; what the thread waits for stands in it, behind lane names again, or what it was handed."""
     state, detail = span.value
     short, said = state_text(state, detail)
     answer = plan.part.answers[span.first] if span.first >= plan.part.first else None
@@ -236,10 +244,17 @@ def draw_state(plan, lane, span):
     pieces = [element("rect", class_="bar " + STATE_CLASS[state], **box)]
     if state in HATCHED:
         pieces.append(element("rect", fill=f"url(#{STATE_CLASS[state]})", **box))
-    if not (answer and answer.kind and answer.runner == lane.name):
-        pieces.append(text(span.begin + TEXT, lane.bar + 14, short, "in"))
+    begins = [] if answer and answer.kind and answer.runner == lane.name else [span.begin]
+    if state != runs.RUNNING:
+        begins += [column.x for column in gutter_columns(plan) if span.begin < column.x < span.end]
+    pieces += [text(x + TEXT, lane.bar + 14, short, "in") for x in begins]
     data = dict(data_state=STATE_CLASS[state], data_detail=detail, data_first=span.first, data_last=span.last)
     return group(pieces, "state", f"{plan.lane_title(lane.name)}: {said}", **data)
+
+
+def gutter_columns(plan):
+    """The columns before which the lane names stand again."""
+    return plan.columns[GUTTER_EVERY::GUTTER_EVERY]
 
 
 def lane_names(plan, lane):
@@ -248,7 +263,7 @@ def lane_names(plan, lane):
     pieces = [text(EDGE, lane.bar + 14, lane.name if name else f"thread {lane.name}", "name")]
     if name:
         pieces.append(text(EDGE + 8 + 8 * len(str(lane.name)), lane.bar + 14, name, "name"))
-    for column in plan.columns[GUTTER_EVERY::GUTTER_EVERY]:
+    for column in gutter_columns(plan):
         pieces.append(text(column.x - GUTTER / 2, lane.bar + 14, lane.name, "name again"))
     return pieces
 
@@ -326,7 +341,7 @@ def draw_send(plan, send):
     pieces.append(wire(plan, send.k, send.sender, end, class_))
     pieces.append(cross(x, end, "refused", 6) if send.refused else diamond(x, end))
     if send.receiver in plan.lanes and send.refused and not state_of(plan.part.tables[send.k], send.receiver):
-        pieces.append(text(x + 10, plan.lanes[send.receiver].bar + 14, "not there", "sent refused"))
+        pieces.append(text(x + 10, plan.lanes[send.receiver].bar + 14, "nobody", "missed"))
     fate = f"refused with {plan.part.answers[send.k].refusal}" if send.refused else "a decision on a trapped thread"
     says = f"{send.word} from {send.sender} to {send.receiver}, event {send.k}: {fate}"
     return group(pieces, class_, says, data_event=send.k, data_sender=send.sender, data_receiver=send.receiver, data_word=send.word)
@@ -423,9 +438,8 @@ def draw_tick(plan, k, y):
     column, node = plan.column_of[k], plan.part.tables[k].node
     x = column.x + (k - column.first) * column.width / (column.last - column.first + 1)
     if node.beats == plan.part.tables[k - 1].node.beats:
-        return group([path(["M", x, y + 4, "V", y + 10], "scale")], "tick", data_event=k)
-    pieces = [path(["M", x, y + 4, "V", y + 21], "beat"), text(x + 5, y + 21, f"beat {node.beats}")]
-    return group(pieces, "tick", data_event=k, data_beat=node.beats)
+        return group([tick_mark(x, y + 4)], "tick", data_event=k)
+    return group([beat_mark(x, y + 4), text(x + 5, y + 21, f"beat {node.beats}")], "tick", data_event=k, data_beat=node.beats)
 
 
 def draw_interrupts(plan, y):
@@ -468,6 +482,10 @@ def stroke(class_, end):
     return lambda x, y: line(["M", x, y - 4, "H", x + 19], class_) + end(x + 19, y - 4)
 
 
+def on_scale(mark):
+    return lambda x, y: path(["M", x, y - 10, "H", x + 24], "scale") + mark(x + 12, y - 10)
+
+
 def waiting_sign(x, y):
     return dot(x + 3, y - 6, "message") + line(["M", x, y - 6, "H", x + 18, "V", y], "message waits") + into(x + 18, y + 3, "message")
 
@@ -480,8 +498,8 @@ LEGEND = [
     ('data-state="clock"', swatch(runs.AT_CLOCK), "waits for the clock"),
     ('data-state="device"', swatch(runs.AT_DEVICE), "waits for a device"),
     ('data-state="trapped"', swatch(runs.TRAPPED), "trapped"),
-    ('class="creation"', stroke("created", ring), "is made"),
-    ('class="ending"', stroke("ended", lambda x, y: stop(x, y - 7, 14)), "is ended"),
+    ('class="creation"', stroke("created", ring), "is made (line: its parent)"),
+    ('class="ending"', stroke("ended", lambda x, y: stop(x, y - 7, 14)), "ends (line: who ran)"),
     ('data-kind="1"', waiting_sign, "message: sent, waits, handed over"),
     ('data-discarded="', stroke("message waits", lambda x, y: cross(x, y, "message", 3)), "discarded"),
     ('data-kind="2"', stroke("notice", lambda x, y: dot(x, y, "notice")), "notice of a trap"),
@@ -489,8 +507,10 @@ LEGEND = [
     ('data-kind="4"', lambda x, y: sign(runs.RESULT, x + 12, y - 4), "a service's answer"),
     ('data-kind="3"', lambda x, y: sign(runs.SENDER_GONE, x + 12, y - 4), "the awaited sender is gone"),
     ('class="refusal"', lambda x, y: badge(x + 12, y - 13, 9), "refused: nothing changes"),
-    ('class="refused"', stroke("refused", lambda x, y: cross(x, y, "refused", 5)), "refused message"),
-    ('class="woke"', lambda x, y: triangle(x + 12, y, "woke"), "interrupt of a device"),
+    ('class="refused"', stroke("refused", lambda x, y: cross(x, y, "refused", 5)), "refused send"),
+    ('class="tick"', on_scale(tick_mark), "tick"),
+    ('data-beat="', on_scale(beat_mark), "beat"),
+    ('class="woke"', lambda x, y: triangle(x + 12, y, "woke"), "interrupt that wakes a thread"),
     ('class="held"', lambda x, y: triangle(x + 12, y, "held"), "interrupt whose word is held"),
 ]
 
@@ -559,7 +579,7 @@ text { font-family: Helvetica, Arial, sans-serif; font-size: 11px; fill: #222 }
 .number { text-anchor: middle; font-weight: bold }
 .word, .sent { font-weight: bold }
 .bad { fill: #b34700; font-weight: bold }
-.number.bad, .stopped { fill: #fff; font-weight: bold }
+.number.bad, .stopped { fill: #fff }
 .grid { stroke: #e3e3e3 }
 .away { stroke: #c8c8c8; stroke-dasharray: 1 4 }
 .scale, .slash { stroke: #555; fill: none }
@@ -585,7 +605,7 @@ text { font-family: Helvetica, Arial, sans-serif; font-size: 11px; fill: #222 }
 .mark.decision { fill: #222 }
 .line.refused { stroke: #d55e00; stroke-width: 2.4; stroke-dasharray: 5 3 }
 .cross.refused { stroke: #d55e00; stroke-width: 3.2 }
-.sent.refused { fill: #b34700 }
+.sent.refused, .missed { fill: #b34700 }
 .line.created { stroke: #777; stroke-width: 1.2 }
 .mark.created { fill: #fff; stroke: #444; stroke-width: 1.8 }
 .line.ended { stroke: #222; stroke-width: 1.2 }
@@ -631,16 +651,41 @@ def draw(plan, refusals):
     legend, y = draw_legend(plan, "".join(pieces), y + 28)
     said, y = draw_list(plan, refusals, y)
     pieces += [legend, said]
-    title = plan.title or f"events {part.first} to {part.last} of {part.total}"
+    return whole(pieces + headline(plan), plan, round(y + EDGE))
+
+
+def events_said(part):
+    return f"events {part.first} to {part.last} of {part.total}" if part.total else "no events: how a node starts"
+
+
+def headline(plan):
+    """The title, and which events are shown if not all are, or if there are none."""
+    part, pieces = plan.part, []
     if plan.title:
         pieces.append(text(EDGE, EDGE + 14, plan.title, "title"))
-    if part.last - part.first + 1 < part.total:
-        pieces.append(text(EDGE, EDGE + (32 if plan.title else 10), f"events {part.first} to {part.last} of {part.total}"))
-    return whole(pieces, title, plan.width, round(y + EDGE))
+    if part.last - part.first + 1 < part.total or not part.total:
+        pieces.append(text(EDGE, EDGE + (32 if plan.title else 10), events_said(part)))
+    return pieces
 
 
-def whole(pieces, title, width, height):
-    head = f'<svg xmlns="http://www.w3.org/2000/svg" width="{width}" height="{height}" viewBox="0 0 {width} {height}" role="img">'
-    paper = element("rect", width=width, height=height, fill="#fff")
-    lines = [head, element("title", escaped(title)), f"<style>{STYLE}</style>", f"<defs>{HATCHES}</defs>", paper]
+def counted(number_, word):
+    return f"{number_} {word}" if number_ == 1 else f"{number_} {word}s"
+
+
+def description(plan):
+    """For whoever cannot see the picture."""
+    kinds = [mail.kind for mail in plan.mails]
+    refused = [k for k in events(plan.part) if plan.part.answers[k].refusal]
+    numbers = [counted(len(plan.lanes), "thread"), counted(kinds.count(runs.MESSAGE), "message")]
+    numbers += [counted(kinds.count(runs.NOTICE), "notice"), counted(len(refused), "refusal")]
+    return f"{events_said(plan.part)}. A lane for each thread, a column for each event: " + ", ".join(numbers) + "."
+
+
+def whole(pieces, plan, height):
+    size = f'width="{plan.width}" height="{height}" viewBox="0 0 {plan.width} {height}"'
+    head = f'<svg xmlns="http://www.w3.org/2000/svg" {size} role="img" aria-labelledby="title" aria-describedby="description">'
+    title = element("title", escaped(plan.title or events_said(plan.part)), id="title")
+    says = element("desc", escaped(description(plan)), id="description")
+    paper = element("rect", width=plan.width, height=height, fill="#fff")
+    lines = [head, title, says, f"<style>{STYLE}</style>", f"<defs>{HATCHES}</defs>", paper]
     return "\n".join(lines + [piece for piece in pieces if piece] + ["</svg>", ""])
