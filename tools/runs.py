@@ -77,9 +77,9 @@ def named(path):
 
 
 def is_text(data):
-    """Text is UTF-8 with no control byte but tab, line feed and return. An event has another: its tag."""
+    """Text has no control byte but tab, line feed and return. An event has another: its tag. And it is UTF-8, but for its comments."""
     try:
-        data.decode("utf-8")
+        re.sub(rb"#.*", b"", data).decode("utf-8")
     except UnicodeDecodeError:
         return False
     return not re.search(rb"[\x00-\x08\x0b\x0c\x0e-\x1f\x7f]", data)
