@@ -7,6 +7,7 @@ import sys
 from collections import namedtuple
 
 import runs
+from command import Wrong
 
 MOST_EVENTS = 200  # so many are shown if nothing is said
 
@@ -32,7 +33,7 @@ def shown(total, first, last):
     """The first and the last event of the picture."""
     begin = first or 1
     if begin > max(total, 1):
-        raise runs.Wrong(f"there is no event {begin}: the run has {total}")
+        raise Wrong(f"there is no event {begin}: the run has {total}")
     end = min(last or begin + MOST_EVENTS - 1, total)
     if not last and end < total:
         print(f"picture: shows events {begin} to {end} of {total}; --from and --to choose others", file=sys.stderr)
@@ -120,7 +121,7 @@ def one_event(part, k, before):
     if handed:
         handed.ends(k, HANDED)
     if not all(is_sent_by(part, k, mail) for mail in sent):
-        raise runs.Wrong(f"event {k}: the tables have a message or a notice that no event has sent")
+        raise Wrong(f"event {k}: the tables have a message or a notice that no event has sent")
     return still + [mail for mail in sent if mail.fate == WAITS], sent
 
 

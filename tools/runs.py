@@ -12,15 +12,13 @@ import subprocess
 import sys
 from collections import namedtuple
 
+from command import Wrong
+
 TOP = os.path.dirname(os.path.dirname(os.path.abspath(__file__)))
 HEADER = os.path.join(TOP, "include", "nucleus.h")
 PROGRAMS = ("node", "snapshot", "inspect")
 # More event bytes than this are not run: answers and events are held whole.
 MOST = 1 << 22
-
-
-class Wrong(Exception):
-    """What the user is told, in one line."""
 
 
 # The document's numbers.
@@ -93,7 +91,7 @@ def events_of(path):
     else:
         try:
             pieces = EVENTS.fields_of_text(data)
-        except EVENTS.Wrong as wrong:
+        except Wrong as wrong:
             raise Wrong(f"{named(path)}, {wrong}") from None
     if sum(len(piece) * count for piece, count in pieces) > MOST:
         raise Wrong(f"{named(path)} has more than {MOST} bytes of events, too many to show")
