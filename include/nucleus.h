@@ -130,7 +130,7 @@ static inline const char *nucleus_refusal_sentence(unsigned refusal)
     switch (refusal) {
     case NUCLEUS_ACCEPTED: return "nothing is refused";
     case NUCLEUS_NODE_STOPPED: return "the node has halted or panicked";
-    case NUCLEUS_MALFORMED: return "not exactly one whole event, or its service, argument, trap kind, device or pending devices cannot be";
+    case NUCLEUS_MALFORMED: return "not exactly one whole event, or a service, argument, trap kind, device or pending devices out of range";
     case NUCLEUS_NO_RUNNER: return "only a running thread can cause this event, and nobody runs";
     case NUCLEUS_NO_SUCH_THREAD: return "the name to send to, receive from, end or take as manager is no live thread's";
     case NUCLEUS_NO_BLOCK: return "the message would have to wait in an inbox, and all 20 message blocks are taken";
