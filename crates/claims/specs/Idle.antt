@@ -29,7 +29,8 @@ pub idle-exactly : (L : Limits) (T : Tables) → table-rules L T ≡ true → T 
     → (status T ≡ Idle) ↔ ((es : List Event) × (all from-outside es ≡ true) × (some-ready (outside T es) ≡ true))
 idle-exactly = idle.idle-exactly
 
--- On an idle node the series `waking-series T` (at most 20 ticks, or one interrupt) does all that it would if accepted, and wakes somebody.
+-- On an idle node the series `waking-series T` (at most 20 ticks, or one interrupt) is run as if none of it could be refused, and wakes
+-- somebody.
 pub idle-woken : (L : Limits) (T : Tables) → table-rules L T ≡ true → status T ≡ Idle
     → (run L T (map bytes-of (waking-series T)) ≡ outside T (waking-series T))
     × (some-ready (run L T (map bytes-of (waking-series T))) ≡ true)

@@ -30,8 +30,8 @@ use Rattle.laws.proofs.Examples as examples
 use Rattle.laws.proofs.Trace as trace
 use Rattle.laws.proofs.Incident as incident
 
--- What an event does that is no request 1 or 2, and dispatch: neither brings a thread or changes the name given last; not even the end of
--- that name's thread does.
+-- What an event other than request 1 or 2 does, and what dispatch does, brings no thread and leaves the name given last, even where the
+-- thread of that name ends.
 pub no-other-brings : (T : Tables) (e : Event) → creates e ≡ false → NobodyComes T (act T e .tables)
 no-other-brings = comings.no-other-brings
 
