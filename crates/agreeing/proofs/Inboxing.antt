@@ -7,7 +7,7 @@ use mathlib.Core.List.{List, [], ◌∷◌, Memᴰ}
 use native.Mathlib.Omega.{arith}
 use lib.Dec.{ltb}
 use lib.ListN.{length, get_or}
-use borrow.Author.Tests.{lt_ltb, ltb_true}
+use borrow.Author.Tests.{lt-ltb, ltb-true}
 use Rattle.rules.specs.Lists.{◌==◌, all, any, count}
 use Rattle.rules.specs.Tables.{named, live}
 use Rattle.rules.specs.States.{receives}
@@ -75,23 +75,23 @@ abbrev ends_test : Message → Bool
 ends_test m = ltb m.to 256 && ltb m.from 256
 
 byte_low : (w : ℕ) → byte w < 256
-byte_low w = by_if (λ (x : ℕ). x < 256) (ltb w 256) (λ e. ltb_true w 256 e) (λ e. omega arith)
+byte_low w = by_if (λ (x : ℕ). x < 256) (ltb w 256) (λ e. ltb-true w 256 e) (λ e. omega arith)
 
 sender_low : (w : ℕ) → sender_in w < 256
-sender_low w = by_if (λ (x : ℕ). x < 256) (ltb w 256) (λ e. ltb_true w 256 e) (λ e. byte_low (w - 256))
+sender_low w = by_if (λ (x : ℕ). x < 256) (ltb w 256) (λ e. ltb-true w 256 e) (λ e. byte_low (w - 256))
 
 ends_shown : (mem : List ℕ) (k : ℕ) → ends_test (message_of mem k) ≡ true
 unfolding message_in
 ends_shown mem k =
     let w = part mem (message_place (word mem 0) k) 3 in
-    lt_ltb (byte (word w 0)) 256 (byte_low (word w 0)) & lt_ltb (sender_in (word w 1)) 256 (sender_low (word w 1))
+    lt-ltb (byte (word w 0)) 256 (byte_low (word w 0)) & lt-ltb (sender_in (word w 1)) 256 (sender_low (word w 1))
 
 all_shown : (mem : List ℕ) → all ends_test (rows_of mem).messages ≡ true
 unfolding rows_of
 all_shown mem = all_row ends_test (message_of mem) 0 _ (ends_shown mem)
 
 ends_low : (m : Message) → ends_test m ≡ true → (m.to < 256) × (m.from < 256)
-ends_low m e = (ltb_true _ _ (and_left (ltb m.to 256) _ e), ltb_true _ _ (and_right (ltb m.to 256) _ e))
+ends_low m e = (ltb-true _ _ (and_left (ltb m.to 256) _ e), ltb-true _ _ (and_right (ltb m.to 256) _ e))
 
 -- ---- a look into the index
 module _ (mem : List ℕ) (fits : Shaped mem) (at : List ℕ) (indexed : Indexed (view (rows_of mem)).threads at) where

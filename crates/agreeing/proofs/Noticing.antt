@@ -8,8 +8,8 @@ use mathlib.Core.List.{List, [], ◌∷◌}
 use native.Mathlib.Omega.{arith}
 use lib.Dec.{leb}
 use lib.ListN.{length, take, get_or, set, replicate}
-use lib.Seq.{get_or_take}
-use borrow.Author.Tests.{le_leb, lt_leb}
+use lib.Seq.{get_or-take}
+use borrow.Author.Tests.{le-leb, lt-leb}
 use Rattle.rules.specs.Lists.{◌==◌, one_if, all, any, count}
 use Rattle.rules.specs.Tables.{named, new_thread}
 use Rattle.rules.specs.States.{awaits}
@@ -98,7 +98,7 @@ module _ (mem : List ℕ) (fits : Shaped mem) where
       at : i ≡ r.letters → (j : ℕ) → j < r.count → single (view r).messages (get_or (view r).threads j none) ≡ true
       at e j b =
           let few : of_first r.letters (name_at j) ≤ 1 = omega (arith, N.marks.few j b, ap (λ (k : ℕ). of_first k (name_at j)) e) in
-          ap (single (view r).messages) (get_or_take r.count r.threads j none b) ∙ le_leb (of_first r.letters (name_at j)) 1 few
+          ap (single (view r).messages) (get_or-take r.count r.threads j none b) ∙ le-leb (of_first r.letters (name_at j)) 1 few
 
   -- ---- the message at i
   module _ (i : ℕ) (d : Message) (h : i < r.letters) where
@@ -154,7 +154,7 @@ module _ (mem : List ℕ) (fits : Shaped mem) where
             at : m.from == name_at k ≡ true → place (named m.from) (view r).threads ≡ k
             at e =
                 once_first (named m.from) none (view r).threads (once m.from) k (omega (arith, read_length mem fits r.count refl))
-                (ap (named m.from) (get_or_take r.count r.threads k none l) ∙ e)
+                (ap (named m.from) (get_or-take r.count r.threads k none l) ∙ e)
 
             go : (t : Bool) → m.from == name_at k ≡ t → t ≡ false
             go true e = absurd (u (sym (found ∙ at e)))
@@ -165,7 +165,7 @@ module _ (mem : List ℕ) (fits : Shaped mem) where
         met_before seen N u =
             let w = count_within (notice_of (name_at j)) r.messages (i + 1) r.letters (omega arith) in
             let two : 2 ≤ of_first r.letters (name_at j) = omega (arith, there, N.marks.says j b, u) in
-            let e = ap (single (view r).messages) (get_or_take r.count r.threads j none b) ∙ lt_leb _ 1 two in
+            let e = ap (single (view r).messages) (get_or-take r.count r.threads j none b) ∙ lt-leb _ 1 two in
             let k = getD_member (view r).threads j none (omega (arith, read_length mem fits r.count refl)) in
             sym (fails_second (all (trapped (view r).threads) (view r).messages)
             (one_fails (single (view r).messages) (view r).threads _ k e))

@@ -2,8 +2,8 @@
 use Prim.Native.Nat.{ℕ}
 use mathlib.Core.Path.{◌≡◌, refl, sym, ap, ap₂, ◌∙◌}
 use mathlib.Core.Bool.{Bool, true, false, not}
-use mathlib.Core.List.{List, [], ◌∷◌, ◌++◌, map, map_append}
-use borrow.Author.Tests.{eqb_false, not_true}
+use mathlib.Core.List.{List, [], ◌∷◌, ◌++◌, map, map-append}
+use borrow.Author.Tests.{eqb-false, not-true}
 use Rattle.rules.specs.Lists.{◌==◌, all}
 use Rattle.rules.specs.Numbers.{small}
 use Rattle.rules.specs.Tables.{Tables}
@@ -72,7 +72,7 @@ module _ {m : List ℕ} where
   decided_as_broken (call es ds m₁ e m₂ d cs p) v =
       ap₂ (λ (xs ys : List Decision). xs ++ ys) (decided_as_broken cs v)
       (ap (λ (x : Decision). x ∷ []) (p.refuses (calls_stay_valid cs ∙ v)))
-      ∙ sym (map_append (λ (_ : List ℕ). no_tables) es (e ∷ []))
+      ∙ sym (map-append (λ (_ : List ℕ). no_tables) es (e ∷ []))
 
   -- the decisions of the rules, or 11 for each
   pub calls_decide : {es : Input} {ds : List Decision} {m' : List ℕ} → SingleCalls m es ds m' → ds ≡ decided m es
@@ -88,5 +88,5 @@ module _ {m : List ℕ} where
   calls_keep none h = refl
   calls_keep (call es ds m₁ e m₂ d cs p) h =
       let k = all_apart _ ds (d ∷ []) h in
-      p.keeps (eqb_false d.refusal 0 (not_true (d.refusal == 0) (unfold all in and_left (not (d.refusal == 0)) true k.1)))
+      p.keeps (eqb-false d.refusal 0 (not-true (d.refusal == 0) (unfold all in and_left (not (d.refusal == 0)) true k.1)))
       ∙ calls_keep cs k.0

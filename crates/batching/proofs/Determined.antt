@@ -2,10 +2,10 @@
 use Prim.Native.Nat.{ℕ, ◌+◌, ◌-◌}
 use mathlib.Core.Path.{◌≡◌, refl, sym, ap, ◌∙◌}
 use mathlib.Core.Bool.{Bool, true, false}
-use mathlib.Core.List.{List, [], ◌∷◌, ◌++◌, map, map_append, append_assoc}
+use mathlib.Core.List.{List, [], ◌∷◌, ◌++◌, map, map-append, append_assoc}
 use native.Mathlib.Omega.{arith}
-use lib.ListN.{length, drop, length_append, length_drop, length_map}
-use lib.Seq.{drop_drop, drop_append_seam}
+use lib.ListN.{length, drop, length-append, length-drop, length-map}
+use lib.Seq.{drop-drop, drop-append_seam}
 use denote.Ref.{Bor}
 use Rattle.rules.specs.Lists.{all}
 use Rattle.rules.specs.Numbers.{small}
@@ -61,8 +61,8 @@ batch_value_determined {bytes = bytes} {b = b} {c = c} p o = (
     arith,
     p.within,
     o.within,
-    length_drop b.used bytes,
-    length_drop c.used bytes,
+    length-drop b.used bytes,
+    length-drop c.used bytes,
     ap length (determined p.unread o.unread),
   ),
 )
@@ -81,7 +81,7 @@ decided_count m es = on (valid m) refl
   where
     on : (v : Bool) → valid m ≡ v → length (decided m es) ≡ length es
     on true v = rw v (decisions_count small (tables m) es)
-    on false v = rw v (length_map es (λ _. no_tables))
+    on false v = rw v (length-map es (λ _. no_tables))
 
 module _ {m bytes before m₁ after : List ℕ} {n : ℕ} (p : Served m bytes before m₁ after n) where
   abbrev ran : Input
@@ -108,7 +108,7 @@ module _ {m bytes before m₁ after : List ℕ} {n : ℕ} (p : Served m bytes be
       on true v = rw (v, batch_stays_valid ∙ v)
           (decisions_append small (tables m) ran fs
           ∙ ap (λ (T : Tables). decisions small (tables m) ran ++ decisions small T fs) (sym (p.leaves v).1))
-      on false v = rw (v, batch_stays_valid ∙ v) (map_append (λ (_ : List ℕ). no_tables) ran fs)
+      on false v = rw (v, batch_stays_valid ∙ v) (map-append (λ (_ : List ℕ). no_tables) ran fs)
 
   -- ---- single calls
 
@@ -162,11 +162,11 @@ module _ (m before a x : List ℕ) where
       less = omega (arith, numbers_count (decided m first.events), decided_count m first.events, room_left room a b taken_first)
 
       stayed : rest ≡ drop (length wrote) before
-      stayed = ap (drop (length wrote)) p.numbers ∙ drop_append_seam wrote (drop (length wrote) before)
+      stayed = ap (drop (length wrote)) p.numbers ∙ drop-append_seam wrote (drop (length wrote) before)
 
       next : taken (length rest) (first.unread ++ b) ≡ taken (room - needed a) (first.unread ++ b)
       next =
-          let e : length rest ≡ room - needed a = omega (arith, ap length stayed, length_drop (length wrote) before, less) in
+          let e : length rest ≡ room - needed a = omega (arith, ap length stayed, length-drop (length wrote) before, less) in
           ap (λ (k : ℕ). taken k (first.unread ++ b)) e
 
       fs : Input
@@ -190,8 +190,8 @@ module _ (m before a x : List ℕ) where
           let both : numbers (decided m (taken room (a ++ b)).events) ≡ wrote ++ ns =
           ap numbers ds ∙ numbers_append (decided m first.events) (decided m₁ fs) in
           let tail : drop (length ns) rest ≡ drop (length (wrote ++ ns)) before =
-          ap (drop (length ns)) stayed ∙ (drop_drop (length ns) (length wrote) before
-          ∙ ap (λ (k : ℕ). drop k before) (sym (length_append wrote ns))) in (
+          ap (drop (length ns)) stayed ∙ (drop-drop (length ns) (length wrote) before
+          ∙ ap (λ (k : ℕ). drop k before) (sym (length-append wrote ns))) in (
             ap (λ (l : List ℕ). wrote ++ l) (q.numbers ∙ ap (λ (l : List ℕ). ns ++ l) tail)
                 ∙ (sym (append_assoc wrote ns (drop (length (wrote ++ ns)) before))
                 ∙ (ap (λ (l : List ℕ). l ++ drop (length l) before) (sym both) ∙ sym o.numbers)),

@@ -4,8 +4,8 @@ use mathlib.Core.Path.{◌≡◌, refl, sym, ap, ◌∙◌}
 use mathlib.Core.Bool.{Bool, true, false}
 use mathlib.Core.List.{List}
 use native.Mathlib.Omega.{arith}
-use lib.ListN.{length, drop, length_drop, drop_of_length_le}
-use lib.Seq.{drop_drop}
+use lib.ListN.{length, drop, length-drop, drop_of_length-le}
+use lib.Seq.{drop-drop}
 use Rattle.rules.specs.Fields.{field_size, whole}
 use Rattle.rules.specs.Batch.{complete, unread}
 use Rattle.laws.specs.Batch.{past}
@@ -26,10 +26,10 @@ some_left l h = on (whole l) refl
 module _ (bytes : List ℕ) (at end : ℕ) (w : whole (drop at bytes) ≡ true) (e : end ≡ at + field_size (drop at bytes)) where
   -- what is behind it
   pub behind_it : past (drop at bytes) ≡ drop end bytes
-  behind_it = drop_drop (field_size (drop at bytes)) at bytes ∙ ap (λ (k : ℕ). drop k bytes) (sym e)
+  behind_it = drop-drop (field_size (drop at bytes)) at bytes ∙ ap (λ (k : ℕ). drop k bytes) (sym e)
 
   pub ends_within : (at + 3 ≤ end) × (end ≤ length bytes)
-  ends_within = let s = whole_within (drop at bytes) w in (omega (arith, e, s.0), omega (arith, e, s.0, s.1, length_drop at bytes))
+  ends_within = let s = whole_within (drop at bytes) w in (omega (arith, e, s.0), omega (arith, e, s.0, s.1, length-drop at bytes))
 
 -- ---- the fields up to a place
 
@@ -64,4 +64,4 @@ module _ {bytes : List ℕ} {count at : ℕ} (c : Counted bytes count at) where
   -- the bytes are at their end
   pub at_the_end : length bytes ≤ at → AllCounted bytes (record { count = count; end = at })
   unfolding whole
-  at_the_end h = all_counted (ap whole (drop_of_length_le bytes h))
+  at_the_end h = all_counted (ap whole (drop_of_length-le bytes h))

@@ -2,7 +2,7 @@
 use Prim.Native.Nat.{ℕ, ◌+◌, ◌*◌, ◌-◌, ◌≤◌, ◌<◌}
 use mathlib.Core.Path.{◌≡◌, refl, sym, ap, ap₂, ◌∙◌, subst}
 use mathlib.Core.Bool.{Bool, true}
-use mathlib.Core.List.{List, [], ◌∷◌, ◌++◌, append_assoc, append_nil}
+use mathlib.Core.List.{List, [], ◌∷◌, ◌++◌, append_assoc, append-nil}
 use native.Mathlib.Omega.{arith}
 use lib.ListN.{length, take, drop, set}
 use borrow.Rule.Slice.PartMut.{same_len_mid}
@@ -94,7 +94,7 @@ module _ {m bytes before : List ℕ} {good : Bool} {left used filled : ℕ} {m�
               ∙ (ap (λ (fs : Input). r.events ++ fs) (sym next) ∙ r.split);
           calls = call r.events r.decisions m₁ event m₂ d r.calls p;
           puts = said (behind r.puts q)
-              (sym (numbers_append r.decisions (d ∷ []) ∙ ap (λ (l : List ℕ). numbers r.decisions ++ l) (append_nil (line d))));
+              (sym (numbers_append r.decisions (d ∷ []) ∙ ap (λ (l : List ℕ). numbers r.decisions ++ l) (append-nil (line d))));
           count = omega (arith, r.count, ap length next);
           fits = omega (arith, r.fits, six);
           checked = r.checked ∙ sym (stays_valid p);
@@ -133,4 +133,4 @@ module _ {m bytes before : List ℕ} {good : Bool} {left used filled : ℕ} {m�
       none_left = empty (complete (drop used bytes)) (omega (arith, r.count))
 
       all_of_them : r.events ≡ complete bytes
-      all_of_them = sym (append_nil r.events) ∙ (ap (λ (fs : Input). r.events ++ fs) (sym none_left) ∙ r.split)
+      all_of_them = sym (append-nil r.events) ∙ (ap (λ (fs : Input). r.events ++ fs) (sym none_left) ∙ r.split)

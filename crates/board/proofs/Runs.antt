@@ -5,7 +5,7 @@ use Prim.Native.Nat.{ℕ, ◌+◌, ◌≤◌}
 use mathlib.Core.Path.{◌≡◌, refl, sym, ap, ◌∙◌, subst}
 use mathlib.Core.Logic.{◌≢◌, ◌↔◌}
 use mathlib.Core.Bool.{Bool, true, false, ◌&&◌}
-use mathlib.Core.List.{List, [], ◌∷◌, ◌++◌, map, append_nil, append_assoc}
+use mathlib.Core.List.{List, [], ◌∷◌, ◌++◌, map, append-nil, append_assoc}
 use native.Mathlib.Omega.{arith}
 use Rattle.rules.specs.Lists.{◌==◌, one_if, any, all}
 use Rattle.rules.specs.Numbers.{small}
@@ -84,7 +84,7 @@ tells {m} {e} {m'} {r} s = go (valid m) refl
 
 -- A series goes on through calls.
 goes_on : {es : Input} {m : List ℕ} → Series es m → {fs : Input} {rs : List Report} {m' : List ℕ} → Calls m fs rs m' → Series (es ++ fs) m'
-goes_on {es} s (none m) = subst (λ (xs : Input). Series xs m) (sym (append_nil es)) s
+goes_on {es} s (none m) = subst (λ (xs : Input). Series xs m) (sym (append-nil es)) s
 goes_on {es} s (then m e m₁ r fs rs m' c cs) =
     subst (λ (xs : Input). Series xs m') (append_assoc es (e ∷ []) fs)
     (goes_on (series.stepped es m e m₁ (tells c).decision s (tells c).answered) cs)

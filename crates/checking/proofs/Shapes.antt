@@ -5,7 +5,7 @@ use mathlib.Core.Bool.{Bool, true}
 use mathlib.Core.List.{List, ◌∷◌}
 use native.Mathlib.Omega.{arith}
 use lib.ListN.{length}
-use borrow.Author.Tests.{leb_true, eqb_true, le_leb, eq_eqb}
+use borrow.Author.Tests.{leb-true, eqb-true, le-leb, eq-eqb}
 use Rattle.rules.specs.Lists.{all}
 use Rattle.rules.specs.Numbers.{Limits, names}
 use Rattle.laws.proofs.Tests.{and_left, and_right, ◌&◌}
@@ -45,13 +45,13 @@ sized L m e₀ =
     let e₅ = others _ _ e₄ in
     let e₆ = others _ _ e₅ in
     record {
-      long = leb_true _ _ (first _ _ e₀);
-      own_threads = eqb_true _ _ (first _ _ e₁);
-      own_blocks = eqb_true _ _ (first _ _ e₂);
-      threads = leb_true _ _ (first _ _ e₃);
-      ready = leb_true _ _ (first _ _ e₄);
-      clock = leb_true _ _ (first _ _ e₅);
-      messages = leb_true _ _ (first _ _ e₆);
+      long = leb-true _ _ (first _ _ e₀);
+      own_threads = eqb-true _ _ (first _ _ e₁);
+      own_blocks = eqb-true _ _ (first _ _ e₂);
+      threads = leb-true _ _ (first _ _ e₃);
+      ready = leb-true _ _ (first _ _ e₄);
+      clock = leb-true _ _ (first _ _ e₅);
+      messages = leb-true _ _ (first _ _ e₆);
     }
 
 -- ---- both ways
@@ -83,10 +83,10 @@ module _ (L : Limits) (m : List ℕ) where
   right_shaped s e =
       let t : word m 0 ≡ L.threads = ap (λ (l : Limits). l.threads) e in
       let b : word m 1 ≡ L.blocks = ap (λ (l : Limits). l.blocks) e in
-      le_leb (size L) (length m) (omega (arith, s.roomy.long))
-      & (eq_eqb (word m 0) L.threads t
-      & (eq_eqb (word m 1) L.blocks b
-      & (le_leb (word m 7) L.threads (omega (arith, s.threads))
-      & (le_leb (word m 8) L.threads (omega (arith, s.ready))
-      & (le_leb (word m 9) L.threads (omega (arith, s.clock))
-      & (le_leb (word m 10) (L.threads + L.blocks) (omega (arith, s.messages)) & refl))))))
+      le-leb (size L) (length m) (omega (arith, s.roomy.long))
+      & (eq-eqb (word m 0) L.threads t
+      & (eq-eqb (word m 1) L.blocks b
+      & (le-leb (word m 7) L.threads (omega (arith, s.threads))
+      & (le-leb (word m 8) L.threads (omega (arith, s.ready))
+      & (le-leb (word m 9) L.threads (omega (arith, s.clock))
+      & (le-leb (word m 10) (L.threads + L.blocks) (omega (arith, s.messages)) & refl))))))

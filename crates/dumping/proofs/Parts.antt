@@ -3,7 +3,7 @@ use Prim.Native.Nat.{ℕ, ◌+◌, ◌*◌, ◌≤◌, ◌<◌}
 use mathlib.Core.Path.{◌≡◌}
 use mathlib.Core.List.{List, ◌∷◌, ◌++◌}
 use native.Mathlib.Omega.{arith}
-use lib.ListN.{length, length_append}
+use lib.ListN.{length, length-append}
 use Rattle.rules.specs.Lists.{each, four_bytes}
 use Rattle.rules.specs.Numbers.{names, devices}
 use Rattle.rules.specs.Tables.{Tables, me}
@@ -56,13 +56,13 @@ module _ (T : Tables) where
       let head : length (field 1 (head_value T)) ≡ 12 = omega (arith, head_length T) in
       let threads : length to_threads ≡ 12 + 20 * length T.threads = omega (
         arith,
-        length_append (field 1 (head_value T)) (each (λ t. field 2 (thread_value t)) T.threads),
+        length-append (field 1 (head_value T)) (each (λ t. field 2 (thread_value t)) T.threads),
         length_each (λ t. field 2 (thread_value t)) 20 T.threads (λ t. omega (arith, thread_length t)),
       ) in
       let ready : length to_ready ≡ 15 + 20 * length T.threads + length T.ready =
-      omega (arith, length_append to_threads (field 3 T.ready)) in
+      omega (arith, length-append to_threads (field 3 T.ready)) in
       let clock : length to_clock ≡ 18 + 20 * length T.threads + length T.ready + length T.clock =
-      omega (arith, length_append to_ready (field 4 T.clock)) in
+      omega (arith, length-append to_ready (field 4 T.clock)) in
       record {
         head = head;
         threads = threads;
@@ -70,7 +70,7 @@ module _ (T : Tables) where
         clock = clock;
         messages = omega (
           arith,
-          length_append to_clock (each (λ m. field 5 (message_value m)) T.messages),
+          length-append to_clock (each (λ m. field 5 (message_value m)) T.messages),
           length_each (λ m. field 5 (message_value m)) 10 T.messages (λ m. omega (arith, message_length m)),
         );
         whole = omega (arith, dump_length T);

@@ -2,12 +2,12 @@
 use Prim.Native.Nat.{ℕ, ◌+◌, ◌*◌, ◌≤◌, ◌<◌}
 use mathlib.Core.Path.{◌≡◌, refl, sym, ap, ◌∙◌}
 use mathlib.Core.Bool.{true, false}
-use mathlib.Core.List.{List, [], ◌∷◌, ◌++◌, append_nil}
-use native.Mathlib.Nat.{mul_le_mul_left}
-use native.Mathlib.Numerals.{add_one}
+use mathlib.Core.List.{List, [], ◌∷◌, ◌++◌, append-nil}
+use native.Mathlib.Nat.{mul-le-mul_left}
+use native.Mathlib.Numerals.{add-one}
 use native.Mathlib.Omega.{arith}
-use lib.ListN.{length, take, get_or, set, length_append}
-use lib.Seq.{take_all, take_suc}
+use lib.ListN.{length, take, get_or, set, length-append}
+use lib.Seq.{take_all, take-suc}
 use Rattle.rules.specs.Lists.{any, each, two_bytes, four_bytes}
 use Rattle.rules.specs.Interrupt.{held_for}
 use Rattle.rules.specs.Dump.{field, held_value}
@@ -42,7 +42,7 @@ module _ {A : Type 0} {f : A → List ℕ} {k : ℕ} {whole : List A} {done next
   -- the buffer is as long as it was
   pub written_long : length now ≡ length before
   written_long =
-      stays_long W.so (omega (arith, length_each f k (done i) W.sized, W.enough, mul_le_mul_left k (W.walk.few i W.within)))
+      stays_long W.so (omega (arith, length_each f k (done i) W.sized, W.enough, mul-le-mul_left k (W.walk.few i W.within)))
 
   module _ (h : i < n) where
     -- what comes next has room behind what was passed
@@ -52,9 +52,9 @@ module _ {A : Type 0} {f : A → List ℕ} {k : ℕ} {whole : List A} {done next
           arith,
           W.walk.few (i + 1) (omega arith),
           ap length (W.walk.goes i h),
-          length_append (done i) (next i),
+          length-append (done i) (next i),
         ) in
-        omega (arith, W.so.counts, length_each f k (done i) W.sized, W.enough, mul_le_mul_left k more)
+        omega (arith, W.so.counts, length_each f k (done i) W.sized, W.enough, mul-le-mul_left k more)
 
     pub write_fits : k * length (next i) ≤ length (rest at now)
     write_fits = omega (arith, write_room, room W.so)
@@ -81,7 +81,7 @@ module _ {A : Type 0} {f : A → List ℕ} {k : ℕ} {whole : List A} {done next
 -- a part that is one entry
 pub one_field : {A : Type 0} (f : A → List ℕ) {x y : A} {b c : List ℕ} {m : ℕ} → x ≡ y → Puts (f x) b c m → Puts (each f (y ∷ [])) b c m
 unfolding each
-one_field f {y = y} e p = said p (ap f e ∙ sym (append_nil (f y)))
+one_field f {y = y} e p = said p (ap f e ∙ sym (append-nil (f y)))
 
 -- ---- the part of a device
 
@@ -131,7 +131,7 @@ module _ {tag n : ℕ} {row before now : List ℕ} {i : ℕ} (W : Named tag n ro
     pub name_next : {x : ℕ} → x ≡ get_or row i 0 → Named tag n row before (set now (3 + i) x) (i + 1)
     name_next {x} e =
         let longer : take i row ++ (x ∷ []) ≡ take (i + 1) row = ap (λ (y : ℕ). take i row ++ (y ∷ [])) e
-        ∙ sym (ap (λ (j : ℕ). take j row) (add_one i) ∙ take_suc row i 0 name_there) in
+        ∙ sym (ap (λ (j : ℕ). take j row) (add-one i) ∙ take-suc row i 0 name_there) in
         let more = one_more W.so x name_room in
         record {
           whole = W.whole;
@@ -164,7 +164,7 @@ module _ {A : Type 0} {whole : List A} {done next : ℕ → List A} {n c i : ℕ
     count_next = record {
       walk = W.walk;
       within = omega arith;
-      so = omega (arith, W.so, ap length (W.walk.goes i h), length_append (done i) (next i));
+      so = omega (arith, W.so, ap length (W.walk.goes i h), length-append (done i) (next i));
     }
 
     pub count_within : c + x ≤ length whole

@@ -6,7 +6,7 @@ use mathlib.Core.Logic.{⊎_elim, ◌≢◌}
 use mathlib.Core.List.{List, [], ◌∷◌, ◌++◌}
 use native.Mathlib.Omega.{arith}
 use lib.ListN.{length}
-use borrow.Author.Tests.{ne_eqb, ltb_true, ltb_false, le_ltb}
+use borrow.Author.Tests.{ne_eqb, ltb-true, ltb-false, le-ltb}
 use Rattle.rules.specs.Lists.{if◌then◌else◌, ◌==◌, four_bytes}
 use Rattle.rules.specs.Numbers.{nobody, service}
 use Rattle.rules.specs.Codes.{state_numbers, answer_numbers, manager_code, parent_code, trap_code}
@@ -62,11 +62,11 @@ module _ (d : ℕ) where
       (λ h. refl)
       (λ h. ⊎_elim
       (λ k. rw k.0)
-      (λ k. let low : d < 3 = ltb_true d 3 (rw k.1 at h) in
+      (λ k. let low : d < 3 = ltb-true d 3 (rw k.1 at h) in
       ⊎_elim (λ i. rw i.0) (λ i. ⊎_elim (λ j. rw j.0) (λ j. absurd (j.0 (omega (arith, k.0, i.0)))) (same? d 2)) (same? d 1))
       (same? d 0))
       (λ s far h. absurd (⊎_elim
-      (λ k. false≢true (rw (k.1, le_ltb s 6 far) at h))
+      (λ k. false≢true (rw (k.1, le-ltb s 6 far) at h))
       (λ k. false≢true (rw (k.1, ne_eqb s 5 (λ e. omega arith), ne_eqb s 2 (λ e. omega arith), ne_eqb s 4 (λ e. omega arith)) at h))
       (same? d 0)))
 
@@ -81,7 +81,7 @@ module _ (d : ℕ) where
       (λ h. ⊎_elim (λ k. absurd (true≢false (rw k.0 at h))) (λ k. absurd (true≢false (rw k.1 at h))) (same? d 0))
       (λ h. ⊎_elim
       (λ k. absurd (true≢false (rw k.0 at h)))
-      (λ k. let high : 3 ≤ d = ltb_false d 3 (rw k.1 at h) in rw (k.1, ne_eqb d 1 (λ e. omega arith), ne_eqb d 2 (λ e. omega arith)))
+      (λ k. let high : 3 ≤ d = ltb-false d 3 (rw k.1 at h) in rw (k.1, ne_eqb d 1 (λ e. omega arith), ne_eqb d 2 (λ e. omega arith)))
       (same? d 0))
       (λ s far h. rw (
         ne_eqb s 0 (λ e. omega arith),
@@ -129,7 +129,7 @@ module _ (n w : ℕ) where
       (λ i j. absurd (false≢true (rw (ne_eqb n 0 i) at h)))
       (λ i j. absurd (false≢true (rw (ne_eqb n 0 i) at h))))
       (λ k far h. absurd (by_two _
-      (λ i j. false≢true (rw (i, j, le_ltb k 5 far) at h))
+      (λ i j. false≢true (rw (i, j, le-ltb k 5 far) at h))
       (λ i j. false≢true (rw (
         i,
         ne_eqb w 0 j,

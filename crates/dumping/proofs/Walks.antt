@@ -4,12 +4,12 @@ use mathlib.Core.Path.{◌≡◌, refl, ap, ◌∙◌}
 use mathlib.Core.Logic.{⊎_elim, ◌≢◌}
 use mathlib.Core.Bool.{Bool, true, false}
 use mathlib.Core.List.{List, [], ◌∷◌, ◌++◌, Memᴰ}
-use native.Mathlib.Numerals.{add_one}
+use native.Mathlib.Numerals.{add-one}
 use native.Mathlib.Omega.{arith}
 use lib.Dec.{ltb}
 use lib.ListN.{length, take, get_or}
-use lib.Seq.{length_take_le, take_all, take_suc}
-use borrow.Author.Tests.{ltb_true, ltb_false, lt_ltb, le_ltb}
+use lib.Seq.{length-take-le, take_all, take-suc}
+use borrow.Author.Tests.{ltb-true, ltb-false, lt-ltb, le-ltb}
 use Rattle.rules.specs.Lists.{if◌then◌else◌, ◌==◌, all, any, keep, chain}
 use Rattle.rules.specs.Numbers.{devices}
 use Rattle.laws.specs.Words.{Held}
@@ -32,9 +32,9 @@ pub walk_list : {A : Type 0} (ts : List A) (d : A) (n : ℕ) → n ≡ length ts
 walk_list ts d n e =
     record {
       starts = refl;
-      goes = λ i h. ap (λ (k : ℕ). take k ts) (add_one i) ∙ take_suc ts i d (omega arith);
+      goes = λ i h. ap (λ (k : ℕ). take k ts) (add-one i) ∙ take-suc ts i d (omega arith);
       ends = take_all n ts (omega arith);
-      few = λ i h. omega (arith, length_take_le i ts (omega arith));
+      few = λ i h. omega (arith, length-take-le i ts (omega arith));
     }
 
 -- ---- device by device
@@ -44,7 +44,7 @@ abbrev pub below : ℕ → List Held → List Held
 below d hs = keep (λ h. ltb h.device d) hs
 
 none_below : (d : ℕ) (hs : List Held) → ((h : Held) → Memᴰ h hs → d ≤ h.device) → below d hs ≡ []
-none_below d hs far = keep_none _ hs (none_count _ hs (none_any _ hs (λ h m. le_ltb h.device d (far h m))))
+none_below d hs far = keep_none _ hs (none_count _ hs (none_any _ hs (λ h m. le-ltb h.device d (far h m))))
 
 all_below : (n : ℕ) (hs : List Held) → all (λ h. ltb h.device n) hs ≡ true → below n hs ≡ hs
 unfolding keep all
@@ -71,8 +71,8 @@ next_below d (h ∷ hs) c =
     here : h.device ≡ d → (h.device == d) ≡ true → below (d + 1) (h ∷ hs) ≡ below d (h ∷ hs) ++ held_at d (h ∷ hs)
     here e t =
         rw (
-          lt_ltb h.device (d + 1) (omega arith),
-          le_ltb h.device d (omega arith),
+          lt-ltb h.device (d + 1) (omega arith),
+          le-ltb h.device d (omega arith),
           t,
           none_below (d + 1) hs (λ y m. omega (arith, later y m)),
           none_below d hs (λ y m. omega (arith, later y m)),
@@ -82,8 +82,8 @@ next_below d (h ∷ hs) c =
     other : below (d + 1) hs ≡ below d hs ++ held_at d hs → h.device ≢ d → (h.device == d) ≡ false → (b : Bool) → ltb h.device d ≡ b →
         below (d + 1) (h ∷ hs) ≡ below d (h ∷ hs) ++ held_at d (h ∷ hs)
     other rest n t true e =
-        rw (lt_ltb h.device (d + 1) (omega (arith, ltb_true h.device d e)), e, t) (ap (λ (l : List Held). h ∷ l) rest)
-    other rest n t false e = rw (le_ltb h.device (d + 1) (omega (arith, ltb_false h.device d e, n)), e, t) rest
+        rw (lt-ltb h.device (d + 1) (omega (arith, ltb-true h.device d e)), e, t) (ap (λ (l : List Held). h ∷ l) rest)
+    other rest n t false e = rw (le-ltb h.device (d + 1) (omega (arith, ltb-false h.device d e, n)), e, t) rest
 
 -- what is passed of the held words at device d
 abbrev pub WalkHeld : List Held → Type 0
@@ -105,5 +105,5 @@ held_few {m} D =
     omega (
       arith,
       up_few by_device 0 devices hs (omega arith) D.rising
-          (λ h i. (omega arith, ltb_true h.device devices (all_at (λ k. ltb k.device devices) hs D.told h i))),
+          (λ h i. (omega arith, ltb-true h.device devices (all_at (λ k. ltb k.device devices) hs D.told h i))),
     )

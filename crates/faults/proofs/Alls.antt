@@ -4,8 +4,8 @@ use mathlib.Core.Bool.{Bool, true, false}
 use mathlib.Core.List.{List}
 use mathlib.Core.Path.{◌≡◌, refl, sym, ap, ◌∙◌}
 use native.Mathlib.Omega.{arith}
-use lib.ListN.{length, drop, get_or, drop_of_length_le}
-use lib.Seq.{drop_cons}
+use lib.ListN.{length, drop, get_or, drop_of_length-le}
+use lib.Seq.{drop-cons}
 use Rattle.rules.specs.Lists.{all}
 
 module _ (p : ℕ → Bool) (v : List ℕ) where
@@ -21,12 +21,12 @@ module _ (p : ℕ → Bool) (v : List ℕ) where
   unfolding all
   one_more i P h e =
       let next : suc i ≡ i + 1 = omega arith in
-      record { within = omega arith; so = P.so ∙ (ap (all p) (drop_cons v i 0 h) ∙ (rw e refl ∙ ap (λ (j : ℕ). all p (drop j v)) next)) }
+      record { within = omega arith; so = P.so ∙ (ap (all p) (drop-cons v i 0 h) ∙ (rw e refl ∙ ap (λ (j : ℕ). all p (drop j v)) next)) }
 
   pub one_fails : (i : ℕ) → Passed i → i < length v → p (get_or v i 0) ≡ false → false ≡ all p v
   unfolding all
-  one_fails i P h e = sym (P.so ∙ (ap (all p) (drop_cons v i 0 h) ∙ rw e refl))
+  one_fails i P h e = sym (P.so ∙ (ap (all p) (drop-cons v i 0 h) ∙ rw e refl))
 
   pub all_passed : (i : ℕ) → Passed i → length v ≤ i → true ≡ all p v
   unfolding all
-  all_passed i P h = sym (P.so ∙ ap (all p) (drop_of_length_le v h))
+  all_passed i P h = sym (P.so ∙ ap (all p) (drop_of_length-le v h))

@@ -5,9 +5,9 @@ use mathlib.Core.List.{List}
 use mathlib.Core.Path.{◌≡◌, refl, sym, ap, ◌∙◌, subst}
 use native.Mathlib.Omega.{arith}
 use lib.Dec.{ltb}
-use lib.ListN.{length, take, drop, length_drop}
+use lib.ListN.{length, take, drop, length-drop}
 use lib.Seq.{take_all}
-use borrow.Author.Tests.{ne_eqb, lt_ltb, le_ltb, eqb_true}
+use borrow.Author.Tests.{ne_eqb, lt-ltb, le-ltb, eqb-true}
 use Rattle.rules.specs.Lists.{◌==◌, any}
 use Rattle.rules.specs.Numbers.{wrap}
 use Rattle.rules.specs.Tags.{before_value, dump_facts}
@@ -29,7 +29,7 @@ status_below (suc (suc zero)) = refl
 status_below (suc (suc (suc zero))) = refl
 status_below (suc (suc (suc (suc n)))) =
     let m = suc (suc (suc (suc n))) in
-    le_ltb m 4 (omega arith)
+    le-ltb m 4 (omega arith)
     ∙ rw (ne_eqb m 0 (λ e. omega arith), ne_eqb m 1 (λ e. omega arith), ne_eqb m 2 (λ e. omega arith), ne_eqb m 3 (λ e. omega arith))
 
 -- a field whose length is fixed, and not wrong
@@ -43,14 +43,14 @@ long tag v n e s h = go (length v == (dump_facts n).length) refl (sym (same tag 
 
     go : (b : Bool) → (length v == (dump_facts n).length) ≡ b → not (length v == (dump_facts n).length) ≡ false →
         length v ≡ (dump_facts n).length
-    go true k _ = eqb_true (length v) (dump_facts n).length k
+    go true k _ = eqb-true (length v) (dump_facts n).length k
     go false k h = absurd (false≢true (sym h ∙ ap not k))
 
 -- a service result whose word is one
 pub result_right : (a : Answer) (w : ℕ) → a ≡ Result w → (answer_numbers a).word < wrap → true ≡ answer_in_range a
 unfolding answer_numbers answer_in_range
-result_right a w e h = rw (e, lt_ltb w wrap (subst (λ (x : Answer). (answer_numbers x).word < wrap) e h))
+result_right a w e h = rw (e, lt-ltb w wrap (subst (λ (x : Answer). (answer_numbers x).word < wrap) e h))
 
 -- the value of a field, as the code cuts it off
 pub value_is : (f : List ℕ) → take (length f - before_value) (drop before_value f) ≡ drop before_value f
-value_is f = take_all (length f - before_value) (drop before_value f) (omega (arith, length_drop before_value f))
+value_is f = take_all (length f - before_value) (drop before_value f) (omega (arith, length-drop before_value f))

@@ -5,9 +5,9 @@ use mathlib.Core.List.{List, [], ◌∷◌, map}
 use mathlib.Core.Logic.{◌≢◌}
 use mathlib.Core.Path.{◌≡◌, refl, sym, ap, ◌∙◌}
 use native.Mathlib.Omega.{arith}
-use lib.ListN.{length, drop, get_or, set, replicate, length_set, length_replicate, drop_of_length_le, length_drop}
-use lib.Seq.{get_or_set_same, get_or_set_other, get_or_take, get_or_drop}
-use borrow.Author.Tests.{eq_eqb, ne_eqb, eqb_true, eqb_false}
+use lib.ListN.{length, drop, get_or, set, replicate, length-set, length-replicate, drop_of_length-le, length-drop}
+use lib.Seq.{get_or-set_same, get_or-set_other, get_or-take, get_or-drop}
+use borrow.Author.Tests.{eq-eqb, ne_eqb, eqb-true, eqb-false}
 use Rattle.rules.specs.Lists.{◌==◌, any, keep}
 use Rattle.rules.specs.Tables.{named, live}
 use Rattle.rules.specs.Tags.{before_value, thread_tag, dump_facts, dump_facts_in}
@@ -31,7 +31,7 @@ live_told n bytes = refl
 lived_thread : (n : ℕ) (f : List ℕ) (fs : List (List ℕ)) → (as_field f).tag ≡ thread_tag →
     lived n (f ∷ fs) ≡ ((n == get_or (as_field f).value 0 0) || lived n fs)
 unfolding any keep thread_from
-lived_thread n f fs e = rw (eq_eqb (as_field f).tag thread_tag e)
+lived_thread n f fs e = rw (eq-eqb (as_field f).tag thread_tag e)
 
 lived_other : (n : ℕ) (f : List ℕ) (fs : List (List ℕ)) → (as_field f).tag ≢ thread_tag → lived n (f ∷ fs) ≡ lived n fs
 unfolding any keep
@@ -48,8 +48,8 @@ unfolding lives_in
 marked marks x n h = go (n == x) refl
   where
     go : (b : Bool) → (n == x) ≡ b → (get_or (set marks x 1) n 0 == 1) ≡ (b || (get_or marks n 0 == 1))
-    go true e = ap (λ (k : ℕ). k == 1) (ap (λ (j : ℕ). get_or (set marks x 1) j 0) (eqb_true n x e) ∙ get_or_set_same marks x 1 0 h)
-    go false e = ap (λ (k : ℕ). k == 1) (get_or_set_other marks x n 1 0 (eqb_false n x e))
+    go true e = ap (λ (k : ℕ). k == 1) (ap (λ (j : ℕ). get_or (set marks x 1) j 0) (eqb-true n x e) ∙ get_or-set_same marks x 1 0 h)
+    go false e = ap (λ (k : ℕ). k == 1) (get_or-set_other marks x n 1 0 (eqb-false n x e))
 
 module _ (bytes : List ℕ) where
   abbrev lengths_right : ℕ → List ℕ → Type 0
@@ -68,7 +68,7 @@ module _ (bytes : List ℕ) where
     before = [];
     within = omega arith;
     right = h;
-    size = length_replicate {A = ℕ} 256 0;
+    size = length-replicate {A = ℕ} 256 0;
     so = λ n. live_told n bytes ∙ sym (ap (λ (k : ℕ). (k == 1) || lived n (complete bytes)) (zeros 256 n));
   }
 
@@ -99,19 +99,19 @@ module _ (bytes : List ℕ) where
     unfolding dump_facts dump_facts_in
     thread_long o =
         let k = long (as_field f).tag (as_field f).value 2 o refl here.0 in
-        omega (arith, e, k, length_drop before_value f, first_long bytes at end w e)
+        omega (arith, e, k, length-drop before_value f, first_long bytes at end w e)
 
     pub name_there : (as_field f).tag ≡ thread_tag → get_or (as_field f).value 0 0 ≡ get_or bytes (at + 3) 0
     name_there o =
-        get_or_drop before_value f 0 0
-        ∙ (get_or_take (field_size (drop at bytes)) (drop at bytes) 3 0 (omega (arith, thread_long o, e)) ∙ get_or_drop at bytes 3 0)
+        get_or-drop before_value f 0 0
+        ∙ (get_or-take (field_size (drop at bytes)) (drop at bytes) 3 0 (omega (arith, thread_long o, e)) ∙ get_or-drop at bytes 3 0)
 
     pub mark_next : (as_field f).tag ≡ thread_tag → (x : ℕ) → x ≡ get_or (as_field f).value 0 0 → x < 256 → Marking end (set marks x 1)
     mark_next o x v h = record {
       before = (as_field f).tag ∷ M.before;
       within = (ends_within bytes at end w e).1;
       right = here.1;
-      size = length_set marks x 1 ∙ M.size;
+      size = length-set marks x 1 ∙ M.size;
       so = λ n. M.so n
           ∙ (ap (λ (b : Bool). lives_in marks n || b) (here_and_behind n
           ∙ (lived_thread n f (complete (drop end bytes)) o ∙ ap (λ (k : ℕ). (n == k) || lived n (complete (drop end bytes))) (sym v)))
@@ -132,4 +132,4 @@ module _ (bytes : List ℕ) where
 
   pub mark_ends : {at : ℕ} {marks : List ℕ} → Marking at marks → length bytes ≤ at → Named bytes marks
   unfolding whole
-  mark_ends M h = mark_cut M (ap whole (drop_of_length_le bytes h))
+  mark_ends M h = mark_cut M (ap whole (drop_of_length-le bytes h))

@@ -4,9 +4,9 @@ use mathlib.Core.Bool.{Bool, true, false, ◌||◌, false≢true}
 use mathlib.Core.List.{List, [], ◌∷◌, map}
 use mathlib.Core.Path.{◌≡◌, refl, sym, ap, ap₂, ◌∙◌}
 use native.Mathlib.Omega.{arith}
-use lib.ListN.{length, take, drop, get_or, length_drop, drop_of_length_le}
-use lib.Seq.{length_take_le, drop_drop, get_or_take, get_or_drop}
-use borrow.Author.Tests.{lt_ltb}
+use lib.ListN.{length, take, drop, get_or, length-drop, drop_of_length-le}
+use lib.Seq.{length-take-le, drop-drop, get_or-take, get_or-drop}
+use borrow.Author.Tests.{lt-ltb}
 use Rattle.rules.specs.Lists.{◌==◌, keep, any, has}
 use Rattle.rules.specs.Fields.{field_size, whole, complete, unread}
 use Rattle.rules.specs.Load.{Field, as_field, fields_of}
@@ -65,13 +65,13 @@ tags_of fs = map (λ (f : Field). f.tag) (map as_field fs)
 
 module _ (bytes : List ℕ) (at end : ℕ) (w : whole (drop at bytes) ≡ true) (e : end ≡ at + field_size (drop at bytes)) where
   pub behind_it : past (drop at bytes) ≡ drop end bytes
-  behind_it = drop_drop (field_size (drop at bytes)) at bytes ∙ ap (λ (k : ℕ). drop k bytes) (sym e)
+  behind_it = drop-drop (field_size (drop at bytes)) at bytes ∙ ap (λ (k : ℕ). drop k bytes) (sym e)
 
   pub ends_within : (at + 3 ≤ end) × (end ≤ length bytes)
-  ends_within = let s = whole_within (drop at bytes) w in (omega (arith, e, s.0), omega (arith, e, s.0, s.1, length_drop at bytes))
+  ends_within = let s = whole_within (drop at bytes) w in (omega (arith, e, s.0), omega (arith, e, s.0, s.1, length-drop at bytes))
 
   pub first_long : length (first (drop at bytes)) ≡ field_size (drop at bytes)
-  first_long = length_take_le (field_size (drop at bytes)) (drop at bytes) (whole_within (drop at bytes) w).1
+  first_long = length-take-le (field_size (drop at bytes)) (drop at bytes) (whole_within (drop at bytes) w).1
 
   -- as the code cuts it out, and its tag
   pub cut_out : take (end - at) (drop at bytes) ≡ first (drop at bytes)
@@ -79,8 +79,8 @@ module _ (bytes : List ℕ) (at end : ℕ) (w : whole (drop at bytes) ≡ true) 
 
   pub tag_there : (as_field (first (drop at bytes))).tag ≡ get_or bytes at 0
   tag_there =
-      get_or_take (field_size (drop at bytes)) (drop at bytes) 0 0 (omega (arith, (whole_within (drop at bytes) w).0))
-      ∙ (get_or_drop at bytes 0 0 ∙ (let k : at + 0 ≡ at = omega arith in ap (λ (j : ℕ). get_or bytes j 0) k))
+      get_or-take (field_size (drop at bytes)) (drop at bytes) 0 0 (omega (arith, (whole_within (drop at bytes) w).0))
+      ∙ (get_or-drop at bytes 0 0 ∙ (let k : at + 0 ≡ at = omega arith in ap (λ (j : ℕ). get_or bytes j 0) k))
 
   -- it, and then those behind it
   pub placed_next : (before : List ℕ) → placed_from at before (complete (drop at bytes))
@@ -142,7 +142,7 @@ module _ (fault : Placed → Bool) (bytes : List ℕ) where
 
     pub walk_ends : length bytes ≤ at → Firsts (offsets fault (placed bytes)) false at
     unfolding whole
-    walk_ends h = walk_cut (ap whole (drop_of_length_le bytes h))
+    walk_ends h = walk_cut (ap whole (drop_of_length-le bytes h))
 
 -- ---- what the code keeps of the fields before a place
 
@@ -176,21 +176,21 @@ module _ (bytes : List ℕ) where
     unfolding ends_badly
     ends_cut h w =
         let some : 0 < length (unread bytes) =
-        omega (arith, ap length (sym K.left ∙ (complete_none (drop at bytes) w).1), length_drop at bytes) in
-        rw (lt_ltb 0 (length (unread bytes)) some)
+        omega (arith, ap length (sym K.left ∙ (complete_none (drop at bytes) w).1), length-drop at bytes) in
+        rw (lt-ltb 0 (length (unread bytes)) some)
 
     -- none is left
     pub ends_there : length bytes ≤ at → missing b ≡ ends_badly bytes
     unfolding ends_badly whole any
     ends_there h =
-        let none : drop at bytes ≡ [] = drop_of_length_le bytes h in
+        let none : drop at bytes ≡ [] = drop_of_length-le bytes h in
         missing_told before (map (λ f. f.tag) (fields_of bytes)) b K.tells seen_all
         ∙ rw (sym K.left ∙ (ap unread none ∙ (complete_none [] refl).1))
       where
         seen_all : (t : ℕ) → has t (map (λ f. f.tag) (fields_of bytes)) ≡ has t before
         seen_all t =
             K.tags t
-            ∙ (ap (λ (c : List (List ℕ)). has t before || has t (tags_of c)) (ap complete (drop_of_length_le bytes h)
+            ∙ (ap (λ (c : List (List ℕ)). has t before || has t (tags_of c)) (ap complete (drop_of_length-le bytes h)
             ∙ (complete_none [] refl).0)
             ∙ or_false (has t before))
 

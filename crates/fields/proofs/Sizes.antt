@@ -5,9 +5,9 @@ use mathlib.Core.Path.{◌≡◌, refl, sym, ◌∙◌, ap, ap₂}
 use mathlib.Core.Bool.{Bool, true, false}
 use mathlib.Core.List.{List, [], ◌∷◌}
 use native.Mathlib.Omega.{arith}
-use lib.ListN.{length, drop, get_or, length_drop, drop_of_length_le}
-use lib.Seq.{get_or_drop}
-use borrow.Author.Tests.{le_leb, lt_leb}
+use lib.ListN.{length, drop, get_or, length-drop, drop_of_length-le}
+use lib.Seq.{get_or-drop}
+use borrow.Author.Tests.{le-leb, lt-leb}
 use Rattle.fields.specs.Fields.{field_size, whole, cut}
 use Rattle.fields.specs.declared.Cut.{Cut}
 
@@ -50,14 +50,14 @@ unfolding field_size whole
 cut_off [] h k = absurd (omega arith)
 cut_off (a ∷ []) h k = absurd (omega arith)
 cut_off (a ∷ b ∷ []) h k = absurd (omega arith)
-cut_off (a ∷ b ∷ c ∷ l) h k = record { size = omega arith; all_there = lt_leb (b * 256 + c) (length l) (omega arith) }
+cut_off (a ∷ b ∷ c ∷ l) h k = record { size = omega arith; all_there = lt-leb (b * 256 + c) (length l) (omega arith) }
 
 all_in : (l : List ℕ) → 3 ≤ length l → get_or l 1 0 * 256 + get_or l 2 0 + 3 ≤ length l → Sized l (get_or l 1 0 * 256 + get_or l 2 0 + 3) true
 unfolding field_size whole
 all_in [] h k = absurd (omega arith)
 all_in (a ∷ []) h k = absurd (omega arith)
 all_in (a ∷ b ∷ []) h k = absurd (omega arith)
-all_in (a ∷ b ∷ c ∷ l) h k = record { size = omega arith; all_there = le_leb (b * 256 + c) (length l) (omega arith) }
+all_in (a ∷ b ∷ c ∷ l) h k = record { size = omega arith; all_there = le-leb (b * 256 + c) (length l) (omega arith) }
 
 -- ---- the field at a place, as the code answers it
 
@@ -66,19 +66,19 @@ answer e w = record { end = e; whole = w }
 
 module _ (s : List ℕ) (at : ℕ) where
   left : length (drop at s) ≡ length s - at
-  left = length_drop at s
+  left = length-drop at s
 
   high : get_or (drop at s) 1 0 ≡ get_or s (at + 1) 0
-  high = get_or_drop at s 1 0
+  high = get_or-drop at s 1 0
 
   low : get_or (drop at s) 2 0 ≡ get_or s (at + 2) 0
-  low = get_or_drop at s 2 0
+  low = get_or-drop at s 2 0
 
   ends : {n : ℕ} {w : Bool} (e : ℕ) → Sized (drop at s) n w → e ≡ at + n → answer e w ≡ cut s at
   ends e f h = ap₂ answer (h ∙ ap (λ (n : ℕ). at + n) (sym f.size)) (sym f.all_there)
 
   pub none_left : length s ≤ at → answer at false ≡ cut s at
-  none_left h = ends at (none (drop at s) (drop_of_length_le s h)) (omega arith)
+  none_left h = ends at (none (drop at s) (drop_of_length-le s h)) (omega arith)
 
   pub few_left : at < length s → length s - at < 3 → answer (length s) false ≡ cut s at
   few_left h k = ends (length s) (few (drop at s) (omega (arith, left)) (omega (arith, left))) (omega (arith, left))
@@ -105,6 +105,6 @@ inside s at c h e =
     record {
       ends = ends_at;
       all_there = ap (λ (x : Cut). x.whole) e;
-      behind = omega (arith, ends_at, size_some l (omega (arith, length_drop at s)));
-      within = omega (arith, ends_at, size_within l, length_drop at s);
+      behind = omega (arith, ends_at, size_some l (omega (arith, length-drop at s)));
+      within = omega (arith, ends_at, size_within l, length-drop at s);
     }

@@ -4,8 +4,8 @@ use mathlib.Core.Path.{◌≡◌, refl, sym, ◌∙◌, ap}
 use mathlib.Core.Bool.{Bool, true, false, ◌&&◌}
 use mathlib.Core.List.{List, [], ◌∷◌}
 use native.Mathlib.Omega.{arith}
-use lib.ListN.{length, take, drop, get_or, length_drop}
-use lib.Seq.{length_take_le}
+use lib.ListN.{length, take, drop, get_or, length-drop}
+use lib.Seq.{length-take-le}
 use Rattle.rules.specs.Lists.{chain}
 use Rattle.moving.proofs.Loops.{cut_cons}
 use Rattle.laws.proofs.Both.{fails_first, and_then}
@@ -52,4 +52,4 @@ module _ {A : Type 0} (r : A → A → Bool) where
     link_fails i d L h e = sym (link_cons i d L h ∙ fails_first _ e)
 
     pub link_ends : (i : ℕ) → Linked i → n ≤ i → true ≡ chain r (take n xs)
-    link_ends i L h = sym (L.so ∙ chain_short _ (omega (arith, length_drop (i - 1) (take n xs), length_take_le n xs L.whole)))
+    link_ends i L h = sym (L.so ∙ chain_short _ (omega (arith, length-drop (i - 1) (take n xs), length-take-le n xs L.whole)))

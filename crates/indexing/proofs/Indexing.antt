@@ -5,9 +5,9 @@ use mathlib.Core.Bool.{Bool, true, false}
 use mathlib.Core.List.{List, ◌∷◌}
 use native.Mathlib.Omega.{arith}
 use lib.Dec.{ltb, eqb}
-use lib.ListN.{length, take, drop, get_or, set, replicate, length_set, length_replicate, get_or_replicate}
-use lib.Seq.{get_or_set_same, get_or_set_other}
-use borrow.Author.Tests.{eqb_true, eqb_false}
+use lib.ListN.{length, take, drop, get_or, set, replicate, length-set, length-replicate, get_or-replicate}
+use lib.Seq.{get_or-set_same, get_or-set_other}
+use borrow.Author.Tests.{eqb-true, eqb-false}
 use Rattle.rules.specs.Lists.{if◌then◌else◌, any}
 use Rattle.rules.specs.Tables.{named}
 use Rattle.rules.specs.declared.Thread.{Thread}
@@ -32,8 +32,8 @@ module _ (n : ℕ) (ts : List Thread) where
       record {
         whole = h;
         within = omega arith;
-        size = length_replicate 256 n;
-        so = λ m k. get_or_replicate 256 m n 0 k
+        size = length-replicate 256 n;
+        so = λ m k. get_or-replicate 256 m n 0 k
             ∙ (omega arith ∙ ap (λ (l : List Thread). n + place (named m) l) (sym (cut_end ts n n h (omega arith))));
       }
 
@@ -47,7 +47,7 @@ module _ (n : ℕ) (ts : List Thread) where
       record {
         whole = F.whole;
         within = omega (arith, F.within);
-        size = length_set at x (i - 1) ∙ F.size;
+        size = length-set at x (i - 1) ∙ F.size;
         so = λ m w. go at i d F h b m w (eqb m x) refl
             ∙ ap (λ (l : List Thread). i - 1 + place (named m) l)
             (sym (cut_cons ts n (i - 1) d F.whole k ∙ ap (λ (j : ℕ). get_or ts (i - 1) d ∷ drop j (take n ts)) e));
@@ -58,12 +58,12 @@ module _ (n : ℕ) (ts : List Thread) where
           get_or (set at (get_or ts (i - 1) d).name (i - 1)) m 0 ≡ i - 1 + place (named m) (get_or ts (i - 1) d ∷ drop i (take n ts))
       go at i d F h b m w true t =
           let x : ℕ = (get_or ts (i - 1) d).name in
-          ap (λ (j : ℕ). get_or (set at x (i - 1)) j 0) (eqb_true m x t)
-          ∙ (get_or_set_same at x (i - 1) 0 (omega (arith, F.size))
+          ap (λ (j : ℕ). get_or (set at x (i - 1)) j 0) (eqb-true m x t)
+          ∙ (get_or-set_same at x (i - 1) 0 (omega (arith, F.size))
           ∙ (omega arith ∙ ap (λ (c : Bool). i - 1 + (if c then 0 else suc (place (named m) (drop i (take n ts))))) (sym t)))
       go at i d F h b m w false t =
           let x : ℕ = (get_or ts (i - 1) d).name in
-          get_or_set_other at x m (i - 1) 0 (eqb_false m x t)
+          get_or-set_other at x m (i - 1) 0 (eqb-false m x t)
           ∙ (F.so m w ∙ (omega arith ∙ ap (λ (c : Bool). i - 1 + (if c then 0 else suc (place (named m) (drop i (take n ts))))) (sym t)))
 
   pub fill_ends : (at : List ℕ) (i : ℕ) → Filled at i → i ≤ 0 → Indexed (take n ts) at

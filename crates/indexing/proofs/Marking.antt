@@ -4,10 +4,10 @@ use mathlib.Core.Path.{◌≡◌, refl, sym, ap, ◌∙◌}
 use mathlib.Core.Logic.{◌≢◌, ⊎_elim}
 use mathlib.Core.Bool.{Bool, true, false}
 use mathlib.Core.List.{List, [], ◌∷◌, Memᴰ}
-use native.Mathlib.Numerals.{add_one}
+use native.Mathlib.Numerals.{add-one}
 use native.Mathlib.Omega.{arith}
-use lib.ListN.{length, take, drop, get_or, set, replicate, length_set, length_replicate, get_or_replicate, take_append_drop}
-use lib.Seq.{get_or_set_same, get_or_set_other, take_suc, take_take}
+use lib.ListN.{length, take, drop, get_or, set, replicate, length-set, length-replicate, get_or-replicate, take-append-drop}
+use lib.Seq.{get_or-set_same, get_or-set_other, take-suc, take-take}
 use Rattle.rules.specs.Lists.{one_if, all, count}
 use Rattle.laws.proofs.Tests.{◌&◌, clash, same?}
 use Rattle.laws.proofs.Tally.{count_append, all_at}
@@ -18,8 +18,8 @@ use Rattle.indexing.specs.Marks.{Marked}
 pub none_marked : (n size : ℕ) (f : ℕ → ℕ) → n ≤ size → ((k : ℕ) → f k ≡ 0) → Marked n f (replicate size 0)
 none_marked n size f h z =
     record {
-      long = omega (arith, length_replicate {A = ℕ} size 0);
-      says = λ k l. get_or_replicate size k 0 0 (omega arith) ∙ sym (z k);
+      long = omega (arith, length-replicate {A = ℕ} size 0);
+      says = λ k l. get_or-replicate size k 0 0 (omega arith) ∙ sym (z k);
       few = λ k l. omega (arith, z k);
     }
 
@@ -32,10 +32,10 @@ module _ (n : ℕ) (f g : ℕ → ℕ) (marks : List ℕ) (M : Marked n f marks)
   pub marked_there : (j : ℕ) → j < n → g j ≡ 1 → ((k : ℕ) → k < n → k ≢ j → g k ≡ f k) → Marked n g (set marks j 1)
   marked_there j h there others =
       record {
-        long = omega (arith, length_set marks j 1, M.long);
+        long = omega (arith, length-set marks j 1, M.long);
         says = λ k l. ⊎_elim
-            (λ e. rw e.0 (get_or_set_same marks j 1 0 (omega (arith, M.long)) ∙ sym there))
-            (λ e. get_or_set_other marks j k 1 0 e.0 ∙ M.says k l ∙ sym (others k l e.0))
+            (λ e. rw e.0 (get_or-set_same marks j 1 0 (omega (arith, M.long)) ∙ sym there))
+            (λ e. get_or-set_other marks j k 1 0 e.0 ∙ M.says k l ∙ sym (others k l e.0))
             (same? k j);
         few = λ k l. ⊎_elim (λ e. rw e.0 (omega (arith, there))) (λ e. omega (arith, others k l e.0, M.few k l)) (same? k j);
       }
@@ -45,14 +45,14 @@ module _ {A : Type 0} (p : A → Bool) (xs : List A) where
   pub count_first : (i : ℕ) (d : A) → i < length xs → count p (take (i + 1) xs) ≡ count p (take i xs) + one_if (p (get_or xs i d))
   unfolding count
   count_first i d h =
-      ap (λ (k : ℕ). count p (take k xs)) (add_one i)
-      ∙ (ap (count p) (take_suc xs i d h) ∙ (count_append p (take i xs) (get_or xs i d ∷ []) ∙ omega arith))
+      ap (λ (k : ℕ). count p (take k xs)) (add-one i)
+      ∙ (ap (count p) (take-suc xs i d h) ∙ (count_append p (take i xs) (get_or xs i d ∷ []) ∙ omega arith))
 
   pub count_within : (i n : ℕ) → i ≤ n → count p (take i xs) ≤ count p (take n xs)
   count_within i n h =
-      let a = ap (count p) (take_append_drop i (take n xs)) in
+      let a = ap (count p) (take-append-drop i (take n xs)) in
       let b = count_append p (take i (take n xs)) (drop i (take n xs)) in
-      let e : count p (take i (take n xs)) ≡ count p (take i xs) = ap (count p) (take_take i n xs h) in
+      let e : count p (take i (take n xs)) ≡ count p (take i xs) = ap (count p) (take-take i n xs h) in
       omega arith
 
 -- ---- a test of all

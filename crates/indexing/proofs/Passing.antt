@@ -6,8 +6,8 @@ use mathlib.Core.List.{List}
 use native.Mathlib.Omega.{arith}
 use lib.Dec.{ltb, leb}
 use lib.ListN.{length, take, get_or, set}
-use lib.Seq.{length_take_le}
-use borrow.Author.Tests.{lt_ltb, le_ltb, le_leb, lt_leb}
+use lib.Seq.{length-take-le}
+use borrow.Author.Tests.{lt-ltb, le-ltb, le-leb, lt-leb}
 use Rattle.rules.specs.Lists.{all, chain}
 use Rattle.rules.specs.Numbers.{names}
 use Rattle.memory.specs.Memory.{rows_of}
@@ -58,16 +58,16 @@ module _ {A : Type 0} (q : A → A → Bool) (k : ℕ) (r : List A) where
 -- ---- numbers as they were read
 module _ {x y a b : ℕ} (e : x ≡ a) (f : y ≡ b) where
   pub less : x < y → ltb a b ≡ true
-  less h = lt_ltb a b (omega arith)
+  less h = lt-ltb a b (omega arith)
 
   pub not_less : y ≤ x → ltb a b ≡ false
-  not_less h = le_ltb a b (omega arith)
+  not_less h = le-ltb a b (omega arith)
 
   pub up_to : x ≤ y → leb a b ≡ true
-  up_to h = le_leb a b (omega arith)
+  up_to h = le-leb a b (omega arith)
 
   pub not_up_to : y < x → leb a b ≡ false
-  not_up_to h = lt_leb a b (omega arith)
+  not_up_to h = lt-leb a b (omega arith)
 
 -- ---- what a memory that is shaped right allows
 module _ (m : List ℕ) (F : Shaped m) where
@@ -108,12 +108,12 @@ module _ (m : List ℕ) (F : Shaped m) where
 
   -- as many as were counted
   pub read_length : (n : ℕ) → n ≡ (rows_of m).count → length (view (rows_of m)).threads ≡ n
-  read_length n e = length_take_le _ (rows_of m).threads threads_whole ∙ sym e
+  read_length n e = length-take-le _ (rows_of m).threads threads_whole ∙ sym e
 
   pub names_within : leb (length (tables m).threads) (limits m).threads ≡ true
   unfolding tables limits
   names_within =
-      le_leb (length (view (rows_of m)).threads) (rows_of m).limits.threads (omega (arith, read_length (rows_of m).count refl, counted))
+      le-leb (length (view (rows_of m)).threads) (rows_of m).limits.threads (omega (arith, read_length (rows_of m).count refl, counted))
 
 -- the index, filled with names as they were read
 pub fill_read : (n : ℕ) (ts : List Thread) (at : List ℕ) (i x : ℕ) (d : Thread) → Filled n ts at i → 0 < i → x ≡ (get_or ts (i - 1) d).name →

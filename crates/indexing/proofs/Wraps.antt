@@ -6,7 +6,7 @@ use mathlib.Core.List.{List, [], ◌∷◌, ◌++◌}
 use native.Mathlib.Omega.{arith}
 use lib.Dec.{ltb}
 use lib.ListN.{take}
-use borrow.Author.Tests.{lt_ltb}
+use borrow.Author.Tests.{lt-ltb}
 use Rattle.rules.specs.Lists.{◌==◌, all, each, from_on}
 use Rattle.rules.specs.Numbers.{names, beat_ticks, devices, wrap}
 use Rattle.rules.specs.TableRules.{state_in_range, ranges}
@@ -57,17 +57,17 @@ unfolding all held_in
 held_word d f w l =
     by_if (λ (hs : List Held). all (λ h. ltb h.word wrap) hs ≡ true) (f == 0)
     (λ e. refl)
-    (λ e. by_if (λ (hs : List Held). all (λ h. ltb h.word wrap) hs ≡ true) (f == 1) (λ k. rw (lt_ltb w wrap l))
-    (λ k. rw (lt_ltb w wrap l)))
+    (λ e. by_if (λ (hs : List Held). all (λ h. ltb h.word wrap) hs ≡ true) (f == 1) (λ k. rw (lt-ltb w wrap l))
+    (λ k. rw (lt-ltb w wrap l)))
 
 module _ (m : List ℕ) (low : (k : ℕ) → word m k < 4294967296) where
   ticks_low : (k : ℕ) → ltb (thread_of m k).ticks wrap ≡ true
   unfolding thread_in
-  ticks_low k = lt_ltb (thread_of m k).ticks wrap (rw (part_word m (thread_place k) 11 7 (omega arith)) (low (thread_place k + 7)))
+  ticks_low k = lt-ltb (thread_of m k).ticks wrap (rw (part_word m (thread_place k) 11 7 (omega arith)) (low (thread_place k + 7)))
 
   word_low : (k : ℕ) → ltb (message_of m k).word wrap ≡ true
   unfolding message_in
-  word_low k = lt_ltb (message_of m k).word wrap
+  word_low k = lt-ltb (message_of m k).word wrap
       (rw (part_word m (message_place (word m 0) k) 3 2 (omega arith)) (low (message_place (word m 0) k + 2)))
 
   held_low : (k : ℕ) → all (λ h. ltb h.word wrap) (held_of m k) ≡ true
@@ -87,5 +87,5 @@ module _ (m : List ℕ) (low : (k : ℕ) → word m k < 4294967296) where
       (all_take _ (rows_of m).count (rows_of m).threads (all_row _ (thread_of m) 0 _ ticks_low)))
       (all_behind (λ (h : Held). ltb h.word wrap) (λ (h : Held). ltb h.device devices) (rows_of m).held
       (all_each _ (held_of m) (from_on 0 devices) held_low))
-      ∙ five _ _ _ _ _ (lt_ltb _ _ h) (lt_ltb _ _ k) (lt_ltb (rows_of m).beats wrap (low 6))
+      ∙ five _ _ _ _ _ (lt-ltb _ _ h) (lt-ltb _ _ k) (lt-ltb (rows_of m).beats wrap (low 6))
       (all_take (λ (x : Message). ltb x.word wrap) (rows_of m).letters (rows_of m).messages (all_row _ (message_of m) 0 _ word_low)) _

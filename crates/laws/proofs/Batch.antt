@@ -7,9 +7,9 @@ use mathlib.Core.List.{List, [], ◌∷◌, ◌++◌, append_assoc}
 use mathlib.Core.Logic.{◌↔◌, ◌≢◌, ◌⊎◌, inl, inr}
 use native.Mathlib.Omega.{arith}
 use lib.Dec.{ltb}
-use lib.ListN.{length, take, drop, length_append, length_drop, take_append_drop}
-use lib.Seq.{take_append_le, drop_append_le, length_take_le, take_append_seam, drop_append_seam}
-use borrow.Author.Tests.{leb_true, le_leb, lt_ltb, le_ltb, ltb_true, ltb_false, eq_eqb, eqb_true}
+use lib.ListN.{length, take, drop, length-append, length-drop, take-append-drop}
+use lib.Seq.{take-append-le, drop-append-le, length-take-le, take-append_seam, drop-append_seam}
+use borrow.Author.Tests.{leb-true, le-leb, lt-ltb, le-ltb, ltb-true, ltb-false, eq-eqb, eqb-true}
 use Rattle.rules.specs.Lists.{◌==◌, all, each}
 use Rattle.rules.specs.Numbers.{Limits, decision_numbers}
 use Rattle.rules.specs.Tables.{Tables}
@@ -38,7 +38,7 @@ unfolding field_size whole
 size_whole [] more w = absurd (false≢true w)
 size_whole (a ∷ []) more w = absurd (false≢true w)
 size_whole (a ∷ b ∷ []) more w = absurd (false≢true w)
-size_whole (a ∷ b ∷ c ∷ l) more w = omega (arith, leb_true (b * 256 + c) (length l) w, length_append l more)
+size_whole (a ∷ b ∷ c ∷ l) more w = omega (arith, leb-true (b * 256 + c) (length l) w, length-append l more)
 
 -- and is complete
 pub whole_more : (a more : List ℕ) → whole a ≡ true → whole (a ++ more) ≡ true
@@ -47,7 +47,7 @@ whole_more [] more w = absurd (false≢true w)
 whole_more (a ∷ []) more w = absurd (false≢true w)
 whole_more (a ∷ b ∷ []) more w = absurd (false≢true w)
 whole_more (a ∷ b ∷ c ∷ l) more w =
-    le_leb (b * 256 + c) (length (l ++ more)) (omega (arith, leb_true (b * 256 + c) (length l) w, length_append l more))
+    le-leb (b * 256 + c) (length (l ++ more)) (omega (arith, leb-true (b * 256 + c) (length l) w, length-append l more))
 
 -- the first field, cut off the bytes
 pub first_is_one : (l : List ℕ) → whole l ≡ true → one_field (take (field_size l) l) ≡ true
@@ -57,17 +57,17 @@ first_is_one (a ∷ []) w = absurd (false≢true w)
 first_is_one (a ∷ b ∷ []) w = absurd (false≢true w)
 first_is_one (a ∷ b ∷ c ∷ l) w =
     let n = b * 256 + c in
-    let h : n ≤ length l = leb_true n (length l) w in
-    let k : length (take n l) ≡ n = length_take_le n l h in
+    let h : n ≤ length l = leb-true n (length l) w in
+    let k : length (take n l) ≡ n = length-take-le n l h in
     let e : field_size (a ∷ b ∷ c ∷ l) ≡ suc (suc (suc n)) = omega arith in
     let f = a ∷ b ∷ c ∷ take n l in
     subst (λ (j : ℕ). one_field (take j (a ∷ b ∷ c ∷ l)) ≡ true) (sym e)
-    (le_leb n (length (take n l)) (omega (arith, k)) & eq_eqb (field_size f) (length f) (omega (arith, k)))
+    (le-leb n (length (take n l)) (omega (arith, k)) & eq-eqb (field_size f) (length f) (omega (arith, k)))
 
 -- ---- fields one behind the other: the bounds of `complete_in` and `unread_in` count no field away
 
 shorter : (l : List ℕ) (k : ℕ) → whole l ≡ true → length l ≤ suc k → length (past l) ≤ k
-shorter l k w h = let s = whole_within l w in omega (arith, s.0, s.1, length_drop (field_size l) l)
+shorter l k w h = let s = whole_within l w in omega (arith, s.0, s.1, length-drop (field_size l) l)
 
 no_head : (l : List ℕ) → length l ≤ 0 → whole l ≡ false
 unfolding whole
@@ -130,7 +130,7 @@ nothing_is_lost = by_fields (λ l. joined (complete l) ++ unread l ≡ l) none o
         let f = take (field_size l) l in
         ap₂ (λ (fs : Input) (r : List ℕ). joined fs ++ r) e.0 e.1
         ∙ (append_assoc f (joined (complete (past l))) (unread (past l))
-        ∙ (ap (λ (t : List ℕ). f ++ t) h ∙ take_append_drop (field_size l) l))
+        ∙ (ap (λ (t : List ℕ). f ++ t) h ∙ take-append-drop (field_size l) l))
 
 -- Each event that is run is exactly one complete field.
 pub each_is_complete : (l : List ℕ) → all one_field (complete l) ≡ true
@@ -156,13 +156,13 @@ cut_is_the_only_one [] r o w = complete_none r w
 cut_is_the_only_one (f ∷ fs) r o w =
     let here = and_left (one_field f) (all one_field fs) o in
     let is = and_left (whole f) (field_size f == length f) here in
-    let long : field_size f ≡ length f = eqb_true (field_size f) (length f) (and_right (whole f) (field_size f == length f) here) in
+    let long : field_size f ≡ length f = eqb-true (field_size f) (length f) (and_right (whole f) (field_size f == length f) here) in
     let rest = joined fs ++ r in
     let size : field_size (f ++ rest) ≡ length f = size_whole f rest is ∙ long in
     let next = cut_is_the_only_one fs r (and_right (one_field f) (all one_field fs) o) w in
     let e = complete_first (f ++ rest) (whole_more f rest is) in
-    let front : take (field_size (f ++ rest)) (f ++ rest) ≡ f = ap (λ (n : ℕ). take n (f ++ rest)) size ∙ take_append_seam f rest in
-    let behind : past (f ++ rest) ≡ rest = ap (λ (n : ℕ). drop n (f ++ rest)) size ∙ drop_append_seam f rest in
+    let front : take (field_size (f ++ rest)) (f ++ rest) ≡ f = ap (λ (n : ℕ). take n (f ++ rest)) size ∙ take-append_seam f rest in
+    let behind : past (f ++ rest) ≡ rest = ap (λ (n : ℕ). drop n (f ++ rest)) size ∙ drop-append_seam f rest in
     let all_of_it : joined (f ∷ fs) ++ r ≡ f ++ rest = append_assoc f (joined fs) r in (
       ap complete all_of_it ∙ (e.0 ∙ ap₂ (λ (x : List ℕ) (xs : Input). x ∷ xs) front (ap complete behind ∙ next.0)),
       ap unread all_of_it ∙ (e.1 ∙ (ap unread behind ∙ next.1)),
@@ -189,8 +189,8 @@ more_comes b = by_fields Goes none one
         let e = complete_first a w in
         let g = complete_first (a ++ b) (whole_more a b w) in
         let front : take (field_size (a ++ b)) (a ++ b) ≡ take (field_size a) a =
-        ap (λ (n : ℕ). take n (a ++ b)) same ∙ take_append_le (field_size a) a b s.1 in
-        let behind : past (a ++ b) ≡ past a ++ b = ap (λ (n : ℕ). drop n (a ++ b)) same ∙ drop_append_le (field_size a) a b s.1 in (
+        ap (λ (n : ℕ). take n (a ++ b)) same ∙ take-append-le (field_size a) a b s.1 in
+        let behind : past (a ++ b) ≡ past a ++ b = ap (λ (n : ℕ). drop n (a ++ b)) same ∙ drop-append-le (field_size a) a b s.1 in (
           g.0 ∙ (ap₂ (λ (x : List ℕ) (xs : Input). x ∷ xs) front (ap complete behind ∙ h.0)
               ∙ sym (ap₂ (λ (fs : Input) (r : List ℕ). fs ++ complete (r ++ b)) e.0 e.1)),
           g.1 ∙ (ap unread behind ∙ (h.1 ∙ sym (ap (λ (r : List ℕ). unread (r ++ b)) e.1))),
@@ -224,27 +224,27 @@ line_count d = refl
 pub numbers_count : (ds : List Decision) → length (numbers ds) ≡ decision_numbers * length ds
 unfolding numbers each
 numbers_count [] = refl
-numbers_count (d ∷ ds) = omega (arith, length_append (line d) (numbers ds), line_count d, numbers_count ds)
+numbers_count (d ∷ ds) = omega (arith, length-append (line d) (numbers ds), line_count d, numbers_count ds)
 
 -- ---- the refusal
 
 module _ (room : ℕ) (bytes : List ℕ) where
   pub taken_refused : room < needed bytes → taken room bytes ≡ record { refusal = 14; events = []; unread = bytes }
   unfolding taken
-  taken_refused h = rw (lt_ltb room (needed bytes) h)
+  taken_refused h = rw (lt-ltb room (needed bytes) h)
 
   pub taken_whole : needed bytes ≤ room → taken room bytes ≡ record { refusal = 0; events = complete bytes; unread = unread bytes }
   unfolding taken
-  taken_whole h = rw (le_ltb room (needed bytes) h)
+  taken_whole h = rw (le-ltb room (needed bytes) h)
 
 -- 14 exactly when the buffer holds fewer than six numbers per complete field, and 0 otherwise
 pub refused_14 : (room : ℕ) (bytes : List ℕ) → ((taken room bytes).refusal ≡ 14) ↔ (room < needed bytes)
 refused_14 room bytes = (to, λ h. ap (λ (t : Taken). t.refusal) (taken_refused room bytes h))
   where
     on : (b : Bool) → ltb room (needed bytes) ≡ b → (taken room bytes).refusal ≡ 14 → room < needed bytes
-    on true h e = ltb_true room (needed bytes) h
+    on true h e = ltb-true room (needed bytes) h
     on false h e =
-        let z : (taken room bytes).refusal ≡ 0 = ap (λ (t : Taken). t.refusal) (taken_whole room bytes (ltb_false room (needed bytes) h)) in
+        let z : (taken room bytes).refusal ≡ 0 = ap (λ (t : Taken). t.refusal) (taken_whole room bytes (ltb-false room (needed bytes) h)) in
         absurd (omega (arith, e, z))
 
     to : (taken room bytes).refusal ≡ 14 → room < needed bytes
@@ -257,8 +257,8 @@ pub by_room : (P : Taken → Type 0) (room : ℕ) (bytes : List ℕ)
 by_room P room bytes f g = on (ltb room (needed bytes)) refl
   where
     on : (b : Bool) → ltb room (needed bytes) ≡ b → P (taken room bytes)
-    on true h = let k = ltb_true room (needed bytes) h in subst P (sym (taken_refused room bytes k)) (f k)
-    on false h = let k = ltb_false room (needed bytes) h in subst P (sym (taken_whole room bytes k)) (g k)
+    on true h = let k = ltb-true room (needed bytes) h in subst P (sym (taken_refused room bytes k)) (f k)
+    on false h = let k = ltb-false room (needed bytes) h in subst P (sym (taken_whole room bytes k)) (g k)
 
 -- ---- the batch
 
@@ -313,7 +313,7 @@ module _ (L : Limits) (T : Tables) (room : ℕ) (bytes : List ℕ) where
 
 module _ (room : ℕ) (a b : List ℕ) where
   all_needed : needed (a ++ b) ≡ needed a + needed (unread a ++ b)
-  all_needed = omega (arith, ap length (more_comes b a).0, length_append (complete a) (complete (unread a ++ b)))
+  all_needed = omega (arith, ap length (more_comes b a).0, length-append (complete a) (complete (unread a ++ b)))
 
   -- what the first takes, what the second takes of the rest, and what one takes of all the bytes
   abbrev first_taken : Taken

@@ -7,7 +7,7 @@ use mathlib.Core.List.Memᴰ
 use mathlib.Core.List.{List, [], ◌∷◌}
 use native.Mathlib.Omega.{arith}
 use lib.Dec.{leb}
-use borrow.Author.Tests.{ne_eqb, leb_true, leb_false, le_leb}
+use borrow.Author.Tests.{ne_eqb, leb-true, leb-false, le-leb}
 use Rattle.rules.specs.Lists.{if◌then◌else◌, ◌==◌, one_if, any, has, count, Pulled, missing, pulled, pull}
 use Rattle.rules.specs.Numbers.{Limits, beat_ticks}
 use Rattle.rules.specs.Words.{by_manager}
@@ -183,7 +183,7 @@ block_free L T e a h = go (block_needed T e) (no_block_free L T) refl
     go : (b c : Bool) → no_block_free L T ≡ c → (b && c) ≡ false → blocks_used T + one_if b ≤ L.blocks
     go false c e k = omega arith
     go true true e k = absurd (true≢false k)
-    go true false e k = omega (arith, leb_false L.blocks (blocks_used T) e)
+    go true false e k = omega (arith, leb-false L.blocks (blocks_used T) e)
 
 -- the account of a step, and that the blocks suffice
 record Accounted (L : Limits) (T U : Tables) (q r d : ℕ) : Type 0 where
@@ -225,7 +225,7 @@ blocks_suffice L T (e ∷ es) h = blocks_suffice L (step L T e).tables es ((step
 -- A needed block is refused exactly if none is free.
 pub refused_without_block : (L : Limits) (T : Tables) → (no_block_free L T ≡ true) ↔ (blocks_free L T ≡ 0)
 refused_without_block L T =
-    (λ e. omega (arith, leb_true L.blocks (blocks_used T) e), λ e. le_leb L.blocks (blocks_used T) (omega arith))
+    (λ e. omega (arith, leb-true L.blocks (blocks_used T) e), λ e. le-leb L.blocks (blocks_used T) (omega arith))
 
 -- From a start: ordinary messages queued are those received from inboxes, those discarded and those in inboxes now; at most as many as
 -- there are blocks are there, and the others are free.

@@ -4,17 +4,17 @@ use Prim.Native.Nat.{ℕ, ◌+◌, ◌*◌, ◌/◌, ◌%◌, ◌≤◌, ◌<◌
 use mathlib.Core.Path.{◌≡◌, refl, ap}
 use mathlib.Core.Bool.{true}
 use mathlib.Core.List.{List, [], ◌∷◌, ◌++◌}
-use native.Mathlib.Nat.{add_zero}
+use native.Mathlib.Nat.{add-zero}
 use native.Mathlib.Omega.{arith}
-use lib.ListN.{length, take, drop, get_or, length_drop}
-use lib.Seq.{get_or_drop}
-use borrow.Author.Tests.{ltb_true, lt_ltb}
+use lib.ListN.{length, take, drop, get_or, length-drop}
+use lib.Seq.{get_or-drop}
+use borrow.Author.Tests.{ltb-true, lt-ltb}
 use Rattle.rules.specs.Lists.{all, is_byte, number_from, number, two_bytes, four_bytes}
 use Rattle.rules.specs.Numbers.{wrap}
 use Rattle.laws.proofs.Tests.{and_left, and_right, ◌&◌}
 
 rest_is_byte : (n : ℕ) → is_byte (n % 256) ≡ true
-rest_is_byte n = lt_ltb (n % 256) 256 (omega arith)
+rest_is_byte n = lt-ltb (n % 256) 256 (omega arith)
 
 pub two_are_bytes : (n : ℕ) → all is_byte (two_bytes n) ≡ true
 unfolding all
@@ -42,17 +42,17 @@ four_number a n bs = ap (λ (x : ℕ). number_from x bs) (omega arith)
 pub number_below : (bs : List ℕ) → all is_byte bs ≡ true → length bs ≤ 4 → number bs < wrap
 unfolding all number_from
 number_below [] h l = omega arith
-number_below (a ∷ []) h l = omega (arith, ltb_true a 256 (and_left (is_byte a) _ h))
+number_below (a ∷ []) h l = omega (arith, ltb-true a 256 (and_left (is_byte a) _ h))
 number_below (a ∷ b ∷ []) h l =
-    let i = and_right (is_byte a) _ h in omega (arith, ltb_true a 256 (and_left (is_byte a) _ h), ltb_true b 256 (and_left (is_byte b) _ i))
+    let i = and_right (is_byte a) _ h in omega (arith, ltb-true a 256 (and_left (is_byte a) _ h), ltb-true b 256 (and_left (is_byte b) _ i))
 number_below (a ∷ b ∷ c ∷ []) h l =
     let i = and_right (is_byte a) _ h in
     let j = and_right (is_byte b) _ i in
     omega (
       arith,
-      ltb_true a 256 (and_left (is_byte a) _ h),
-      ltb_true b 256 (and_left (is_byte b) _ i),
-      ltb_true c 256 (and_left (is_byte c) _ j),
+      ltb-true a 256 (and_left (is_byte a) _ h),
+      ltb-true b 256 (and_left (is_byte b) _ i),
+      ltb-true c 256 (and_left (is_byte c) _ j),
     )
 number_below (a ∷ b ∷ c ∷ d ∷ []) h l =
     let i = and_right (is_byte a) _ h in
@@ -60,10 +60,10 @@ number_below (a ∷ b ∷ c ∷ d ∷ []) h l =
     let k = and_right (is_byte c) _ j in
     omega (
       arith,
-      ltb_true a 256 (and_left (is_byte a) _ h),
-      ltb_true b 256 (and_left (is_byte b) _ i),
-      ltb_true c 256 (and_left (is_byte c) _ j),
-      ltb_true d 256 (and_left (is_byte d) _ k),
+      ltb-true a 256 (and_left (is_byte a) _ h),
+      ltb-true b 256 (and_left (is_byte b) _ i),
+      ltb-true c 256 (and_left (is_byte c) _ j),
+      ltb-true d 256 (and_left (is_byte d) _ k),
     )
 number_below (a ∷ b ∷ c ∷ d ∷ e ∷ bs) h l = absurd (omega arith)
 
@@ -79,5 +79,5 @@ pub four_at : (l : List ℕ) (at : ℕ) → at + 4 ≤ length l →
     (get_or l at 0 * 256 + get_or l (at + 1) 0) * 65536 + (get_or l (at + 2) 0 * 256 + get_or l (at + 3) 0) ≡ number (take 4 (drop at l))
 unfolding number_from
 four_at l at h =
-    let m : 4 ≤ length (drop at l) = simp length_drop (omega arith) in
-    rw first_four (simp (get_or_drop, add_zero) (omega arith))
+    let m : 4 ≤ length (drop at l) = simp length-drop (omega arith) in
+    rw first_four (simp (get_or-drop, add-zero) (omega arith))

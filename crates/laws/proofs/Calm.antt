@@ -5,7 +5,7 @@ use mathlib.Core.Logic.{⊎_elim}
 use mathlib.Core.Bool.{Bool, true, false, not, false≢true, true≢false}
 use mathlib.Core.List.{List, [], ◌∷◌}
 use native.Mathlib.Omega.{arith}
-use borrow.Author.Tests.{eqb_true}
+use borrow.Author.Tests.{eqb-true}
 use Rattle.rules.specs.Lists.{◌==◌, Pulled, missing, pulled, any, has}
 use Rattle.rules.specs.Numbers.{full_slice, beat_ticks}
 use Rattle.rules.specs.Words.{by_manager, by_runner}
@@ -102,7 +102,7 @@ unfolding release wake_those remove without_managers
 removed_dead set n T h =
     names_mapped _ (put_name (λ t. misses set t.state) Ready (λ t. told_gone t.state)) n _
     ∙ names_mapped (without_managers set) (λ t. refl) n _
-    ∙ zero_any (named n) _ (none_left (λ t. t.name) (λ m. has m set) (named n) n (λ t e. eqb_true n t.name e) h T.threads)
+    ∙ zero_any (named n) _ (none_left (λ t. t.name) (λ m. has m set) (named n) n (λ t e. eqb-true n t.name e) h T.threads)
 
 -- Ending is calm: who is left stands no further back.
 pub end_calm : (n : ℕ) (T : Tables) → Calm T (end n T)
@@ -275,7 +275,7 @@ rotate_slice : (T : Tables) → slice_left (rotate T).runner ≡ slice_left T.ru
 unfolding rotate wake_those slice_left
 rotate_slice T =
     by_runs (λ (U : Tables). slice_left U.runner ≡ slice_left T.runner) T.runner (λ _. refl)
-    (λ n s e. by_if (λ (U : Tables). slice_left U.runner ≡ slice_left T.runner) (s == 0) (λ z. rw e (sym (eqb_true s 0 z)))
+    (λ n s e. by_if (λ (U : Tables). slice_left U.runner ≡ slice_left T.runner) (s == 0) (λ z. rw e (sym (eqb-true s 0 z)))
     (λ _. refl))
 
 tick_longer : (T : Tables) → Longer T.ready (tick T).ready

@@ -3,10 +3,10 @@ use Prim.Native.Nat.{ℕ, zero, suc, ◌+◌, ◌≤◌}
 use mathlib.Core.Path.{◌≡◌, refl, ap, ◌∙◌}
 use mathlib.Core.Logic.{◌⊎◌, inl, inr, ⊎_elim}
 use mathlib.Core.Bool.{Bool, true, false, ◌&&◌, ◌||◌, not, true≢false, false≢true}
-use mathlib.Core.List.{List, [], ◌∷◌, ◌++◌, map, append_nil, Memᴰ}
+use mathlib.Core.List.{List, [], ◌∷◌, ◌++◌, map, append-nil, Memᴰ}
 use native.Mathlib.Omega.{arith}
 use lib.ListN.{length}
-use borrow.Author.Tests.{eqb_true, eq_eqb}
+use borrow.Author.Tests.{eqb-true, eq-eqb}
 use Rattle.rules.specs.Lists.{◌==◌, one_if, any, count, times, has}
 use Rattle.rules.specs.Words.{by_parent}
 use Rattle.rules.specs.Tables.{named}
@@ -50,7 +50,7 @@ module _ (ts : List Thread) where
   -- a set that nobody joins does not grow
   pub rests : (set : List ℕ) → count (joins set) ts ≡ 0 → grow ts set ≡ set
   unfolding grow
-  rests set e = ap (λ (l : List Thread). set ++ map (λ t. t.name) l) (keep_none (joins set) ts e) ∙ append_nil set
+  rests set e = ap (λ (l : List Thread). set ++ map (λ t. t.name) l) (keep_none (joins set) ts e) ∙ append-nil set
 
   stays : (k : ℕ) (set : List ℕ) → count (joins set) ts ≡ 0 → times k (grow ts) set ≡ set
   unfolding times
@@ -103,7 +103,7 @@ module _ (ts : List Thread) where
   -- The ended set holds the named thread.
   pub ended_holds : (n : ℕ) → has n (ended_set ts n) ≡ true
   unfolding ended_set any
-  ended_holds n = grown_has (length ts) (n ∷ []) n (or_left _ _ (eq_eqb n n refl))
+  ended_holds n = grown_has (length ts) (n ∷ []) n (or_left _ _ (eq-eqb n n refl))
 
   -- It holds every thread whose parent is a member or that is trapped on a member.
   pub ended_closed : (n : ℕ) (t : Thread) → Memᴰ t ts → depends (ended_set ts n) t ≡ true → has t.name (ended_set ts n) ≡ true
@@ -128,13 +128,13 @@ module _ (ts : List Thread) where
   pub ended_least : (p : ℕ → Bool) → Closed p ts → (n : ℕ) → p n ≡ true → (x : ℕ) → has x (ended_set ts n) ≡ true → p x ≡ true
   unfolding ended_set any
   ended_least p C n s = times_within p C (length ts) (n ∷ [])
-      (λ x h. ⊎_elim (λ e. rw (eqb_true x n e) s) (λ e. absurd (false≢true e)) (or_cases (x == n) _ h))
+      (λ x h. ⊎_elim (λ e. rw (eqb-true x n e) s) (λ e. absurd (false≢true e)) (or_cases (x == n) _ h))
 
   -- Its members other than the named one are names of threads.
   pub ended_live : (n x : ℕ) → has x (ended_set ts n) ≡ true → (x ≡ n) ⊎ (any (named x) ts ≡ true)
   ended_live n x h =
-      ⊎_elim (λ e. inl (eqb_true x n e)) (λ e. inr e)
-      (or_cases (x == n) _ (ended_least (λ y. (y == n) || any (named y) ts) closed n (or_left _ _ (eq_eqb n n refl)) x h))
+      ⊎_elim (λ e. inl (eqb-true x n e)) (λ e. inr e)
+      (or_cases (x == n) _ (ended_least (λ y. (y == n) || any (named y) ts) closed n (or_left _ _ (eq-eqb n n refl)) x h))
     where
       lives : (t : Thread) → Memᴰ t ts → ((t.name == n) || any (named t.name) ts) ≡ true
       lives t m = or_right (t.name == n) _ (member_live ts t m)

@@ -6,7 +6,7 @@ use mathlib.Core.Bool.{Bool, true, false, ◌&&◌, ◌||◌, not, false≢true}
 use mathlib.Core.List.{List, [], ◌∷◌, map, Memᴰ}
 use native.Mathlib.Omega.{arith}
 use lib.Dec.{ltb}
-use borrow.Author.Tests.{eqb_true, eqb_false, eq_eqb}
+use borrow.Author.Tests.{eqb-true, eqb-false, eq-eqb}
 use Rattle.rules.specs.Lists.{if◌then◌else◌, ◌==◌, one_if, any, has, keep, count, insert, Pulled, missing, pulled, pull}
 use Rattle.rules.specs.Numbers.{Limits, names, beat_ticks, wrap}
 use Rattle.rules.specs.Words.{by_manager}
@@ -100,7 +100,7 @@ module _ (n : ℕ) where
       others : n ≢ m → ticks_at n (map (λ t. if named m t then with_ticks (one_more t.ticks) t else t) ts) ≡ ticks_at n ts
       others d = ticks_map _ (turned_name (named m) _ (λ t. refl))
           (λ t e. by_if (λ (u : Thread). u.ticks ≡ t.ticks) (named m t)
-          (λ k. absurd (d (eqb_true n t.name e ∙ sym (eqb_true m t.name k)))) (λ _. refl)) ts
+          (λ k. absurd (d (eqb-true n t.name e ∙ sym (eqb-true m t.name k)))) (λ _. refl)) ts
 
 -- ---- events other than the tick leave time and tick counts as they are
 
@@ -161,7 +161,7 @@ module _ (n : ℕ) where
       left true e o =
           absurd (omega (
             arith,
-            none_left (λ (t : Thread). t.name) (λ x. has x set) (named n) n (λ t k. eqb_true n t.name k) e
+            none_left (λ (t : Thread). t.name) (λ x. has x set) (named n) n (λ t k. eqb-true n t.name k) e
                 T.threads,
             names_kept (without_managers set) (λ t. refl) n (keep (λ t. not (has t.name set)) T.threads),
           ))
@@ -257,13 +257,13 @@ module _ (n : ℕ) where
           × (T.beats < wrap → (beat T).beats ≡ (T.beats + one_if (T.since + 1 == beat_ticks)) % wrap)
           × (ticks_at n (beat T).threads ≡ ticks_at n T.threads) × (T.since < beat_ticks → (beat T).since < beat_ticks)
       go true e = rw e (
-        eqb_true (T.since + 1) beat_ticks e,
+        eqb-true (T.since + 1) beat_ticks e,
         λ _. refl,
         ticks_some n (λ t. on_clock t.state)
             (in_state Ready (Result (one_more T.beats))) (λ t. refl) (λ t. refl) T.threads,
         λ _. omega arith,
       )
-      go false e = rw e (omega arith, λ l. omega arith, refl, λ l. omega (arith, eqb_false (T.since + 1) beat_ticks e))
+      go false e = rw e (omega arith, λ l. omega arith, refl, λ l. omega (arith, eqb-false (T.since + 1) beat_ticks e))
 
   rotated : (T : Tables) → Still n T (rotate T)
   unfolding rotate
@@ -365,8 +365,8 @@ one_through L n T (e ∷ es) = count (named n) T.threads == 1 && one_through L n
 
 one_first : (L : Limits) (n : ℕ) (T : Tables) (es : Input) → one_through L n T es ≡ true → One n T
 unfolding one_through
-one_first L n T [] h = eqb_true _ 1 h
-one_first L n T (e ∷ es) h = eqb_true _ 1 (and_left (count (named n) T.threads == 1) _ h)
+one_first L n T [] h = eqb-true _ 1 h
+one_first L n T (e ∷ es) h = eqb-true _ 1 (and_left (count (named n) T.threads == 1) _ h)
 
 -- A thread's tick count rises by one at each accepted tick while it is the runner, modulo 2^32.
 pub ticks_counted : (L : Limits) (n : ℕ) (T : Tables) (es : Input) → one_through L n T es ≡ true → ticks_at n T.threads < wrap →
@@ -382,7 +382,7 @@ ticks_counted L n T (e ∷ es) h l =
 module _ (L : Limits) (n : ℕ) (l : L.threads < names) where
   one_of : (T : Tables) → table_rules L T ≡ true → live n T ≡ true → (count (named n) T.threads == 1) ≡ true
   one_of T R h =
-      eq_eqb (count (named n) T.threads) 1 (omega (arith, (tested_ruled L T R).inv.agree.once n, any_count (named n) T.threads h))
+      eq-eqb (count (named n) T.threads) 1 (omega (arith, (tested_ruled L T R).inv.agree.once n, any_count (named n) T.threads h))
 
   one_alive : (T : Tables) (es : Input) → table_rules L T ≡ true → lives_through L n T es ≡ true → one_through L n T es ≡ true
   unfolding one_through lives_through

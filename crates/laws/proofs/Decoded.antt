@@ -5,8 +5,8 @@ use mathlib.Core.Bool.{true, ◌&&◌}
 use mathlib.Core.List.{List, [], ◌∷◌}
 use native.Mathlib.Omega.{arith}
 use lib.Dec.{ltb}
-use lib.ListN.{length, take, drop, get_or, length_drop}
-use borrow.Author.Tests.{eqb_true, ltb_true}
+use lib.ListN.{length, take, drop, get_or, length-drop}
+use borrow.Author.Tests.{eqb-true, ltb-true}
 use Rattle.rules.specs.Lists.{◌==◌, all, is_byte, number}
 use Rattle.rules.specs.Numbers.{devices, wrap}
 use Rattle.rules.specs.Tags.{facts_in, tag_facts, rule_in, argument_rule, meets}
@@ -24,7 +24,7 @@ abbrev Bytes : List ℕ → Type 0
 Bytes v = all is_byte v ≡ true
 
 word : (k : ℕ) (v : List ℕ) → length v ≡ k + 4 → Bytes v → number (drop k v) < wrap
-word k v e b = number_below (drop k v) (all_drop k is_byte v b) (simp length_drop (omega arith))
+word k v e b = number_below (drop k v) (all_drop k is_byte v b) (simp length-drop (omega arith))
 
 -- ---- each tag
 
@@ -39,7 +39,7 @@ request_proper s a h =
     by_if Proper (s == 6) (λ _. tt) λ n6.
     by_if Proper (s == 7) (λ _. tt) λ n7.
     by_if Proper (s == 8) (λ _. tt) λ n8.
-    by_if Proper (s == 9) (λ n9. ltb_true a devices (simp (n1, n2, n3, n4, n5, n6, n7, n8, n9) at h)) (λ _. tt)
+    by_if Proper (s == 9) (λ n9. ltb-true a devices (simp (n1, n2, n3, n4, n5, n6, n7, n8, n9) at h)) (λ _. tt)
 
 trap_proper : (k c : ℕ) → c < wrap → Proper (trap_of k c)
 unfolding trap_of Proper ProperCall
@@ -47,7 +47,7 @@ trap_proper k c h = by_if Proper (k == 0) (λ _. h) λ _. by_if Proper (k == 1) 
 
 interrupt_proper : (p w : ℕ) → w < wrap → Proper (interrupt_of (pick p) w)
 unfolding interrupt_of Proper
-interrupt_proper p w h = by_if Proper ((pick p).refusal == 0) (λ e. ((pick_foremost p (eqb_true _ 0 e)).1, h)) (λ _. tt)
+interrupt_proper p w h = by_if Proper ((pick p).refusal == 0) (λ e. ((pick_foremost p (eqb-true _ 0 e)).1, h)) (λ _. tt)
 
 meaning_proper : (tag : ℕ) (v : List ℕ) → Bytes v → length v ≡ (tag_facts tag).length → Proper (meaning tag v)
 unfolding meaning Proper ProperCall
@@ -61,7 +61,7 @@ meaning_proper tag v b e =
     by_if Proper (tag == 21) (λ t. interrupt_proper (number (take 8 v)) (number (drop 8 v)) (word 8 v (e ∙ at 21 t ∙ sizes.2) b)) (λ _. tt)
   where
     at : (n : ℕ) → (tag == n) ≡ true → (tag_facts tag).length ≡ (tag_facts n).length
-    at n t = ap (λ (x : ℕ). (tag_facts x).length) (eqb_true tag n t)
+    at n t = ap (λ (x : ℕ). (tag_facts x).length) (eqb-true tag n t)
 
     sizes : ((tag_facts 16).length ≡ 5) × ((tag_facts 19).length ≡ 5) × ((tag_facts 21).length ≡ 12)
     sizes = unfold tag_facts facts_in in (refl, refl, refl)
@@ -75,8 +75,8 @@ field_proper (tag ∷ high ∷ low ∷ v) b =
     by_if Proper ((tag_facts tag).known && (high * 256 + low == (tag_facts tag).length) && (length v == high * 256 + low))
     (λ h.
     let k = and_left ((tag_facts tag).known && (high * 256 + low == (tag_facts tag).length)) _ h in
-    meaning_proper tag v rest (eqb_true (length v) _ (and_right ((tag_facts tag).known && (high * 256 + low == (tag_facts tag).length)) _ h)
-    ∙ eqb_true (high * 256 + low) _ (and_right (tag_facts tag).known _ k)))
+    meaning_proper tag v rest (eqb-true (length v) _ (and_right ((tag_facts tag).known && (high * 256 + low == (tag_facts tag).length)) _ h)
+    ∙ eqb-true (high * 256 + low) _ (and_right (tag_facts tag).known _ k)))
     (λ _. tt)
   where
     rest : Bytes v

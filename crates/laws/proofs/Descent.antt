@@ -7,7 +7,7 @@ use mathlib.Core.List.{List, Memᴰ}
 use native.Mathlib.Omega.{arith}
 use lib.Dec.{ltb}
 use lib.ListN.{length}
-use borrow.Author.Tests.{eqb_true, eqb_false, eq_eqb, ne_eqb, ltb_true, lt_ltb, le_ltb}
+use borrow.Author.Tests.{eqb-true, eqb-false, eq-eqb, ne_eqb, ltb-true, lt-ltb, le-ltb}
 use Rattle.rules.specs.Lists.{if◌then◌else◌, ◌==◌, one_if, any, count}
 use Rattle.rules.specs.Tables.{Tables, named}
 use Rattle.rules.specs.TableRules.{has_parent, climbs, parents_right}
@@ -29,15 +29,15 @@ module _ (ts : List Thread) (F : Family ts) where
     arith,
     length_count ts,
     count_strict (λ u. ltb (F.depth u.name) (F.depth t.name)) (λ u. true) ts
-        (λ u _. refl) t m (le_ltb (F.depth t.name) (F.depth t.name) (omega arith)) refl,
+        (λ u _. refl) t m (le-ltb (F.depth t.name) (F.depth t.name) (omega arith)) refl,
   )
 
   nearer_up : (t u : Thread) → Memᴰ u ts → F.depth u.name < F.depth t.name → nearer u.name < nearer t.name
   unfolding nearer
   nearer_up t u m h =
-      count_strict _ _ ts (λ x e. lt_ltb (F.depth x.name) (F.depth t.name)
-      (omega (arith, ltb_true (F.depth x.name) (F.depth u.name) e))) u m
-      (le_ltb (F.depth u.name) (F.depth u.name) (omega arith)) (lt_ltb (F.depth u.name) (F.depth t.name) h)
+      count_strict _ _ ts (λ x e. lt-ltb (F.depth x.name) (F.depth t.name)
+      (omega (arith, ltb-true (F.depth x.name) (F.depth u.name) e))) u m
+      (le-ltb (F.depth u.name) (F.depth u.name) (omega arith)) (lt-ltb (F.depth u.name) (F.depth t.name) h)
 
   at_top : (k : ℕ) → climbs k ts NoParent ≡ true
   unfolding climbs
@@ -47,7 +47,7 @@ module _ (ts : List Thread) (F : Family ts) where
   -- one more step, if the parent lives and climbs
   up : (k p : ℕ) (u : Thread) → Memᴰ u ts → p ≡ u.name → climbs k ts u.parent ≡ true → climbs (suc k) ts (ParentIs p) ≡ true
   unfolding climbs
-  up k p u m e c = member_any (λ t. named p t && climbs k ts t.parent) ts u m (eq_eqb p u.name e & c)
+  up k p u m e c = member_any (λ t. named p t && climbs k ts t.parent) ts u m (eq-eqb p u.name e & c)
 
   -- a thread of another name than 0: its parent's thread, nearer to the top
   above : (t : Thread) → Memᴰ t ts → t.name ≢ 0 → (u : Thread) × Memᴰ u ts × (t.parent ≡ ParentIs u.name)
@@ -68,8 +68,8 @@ module _ (ts : List Thread) (F : Family ts) where
 pub family_tested : (T : Tables) → Family T.threads → parents_right T ≡ true
 family_tested T F =
     all_of _ T.threads (λ t m. by_if (λ (b : Bool). b ≡ true) (t.name == 0)
-    (λ e. rw (F.root t m (eqb_true t.name 0 e)))
-    (λ e. rw (F.under t m (eqb_false t.name 0 e)).1)
+    (λ e. rw (F.root t m (eqb-true t.name 0 e)))
+    (λ e. rw (F.under t m (eqb-false t.name 0 e)).1)
     & reaches T.threads F (length T.threads) t m (omega (arith, nearer_most T.threads F t m)))
 
 -- ---- from the test to the type: the depth of a name is how many numbers of steps are too few
@@ -83,7 +83,7 @@ module _ (ts : List Thread) (once : (n : ℕ) → count (named n) ts ≤ 1) wher
   -- from t one step leads to its parent
   climbs_up : (k : ℕ) (t : Thread) → Memᴰ t ts → climbs (suc k) ts (ParentIs t.name) ≡ climbs k ts t.parent
   unfolding climbs
-  climbs_up k t m = any_only (named t.name) (λ u. climbs k ts u.parent) ts (once t.name) t m (eq_eqb t.name t.name refl)
+  climbs_up k t m = any_only (named t.name) (λ u. climbs k ts u.parent) ts (once t.name) t m (eq-eqb t.name t.name refl)
 
   slow_up : (k : ℕ) (t : Thread) → Memᴰ t ts → slow (suc k) ts (ParentIs t.name) ≡ suc (slow k ts t.parent)
   unfolding slow
@@ -109,7 +109,7 @@ none_is (ParentIs n) h = absurd (false≢true h)
 pub tested_family : (T : Tables) → ((n : ℕ) → count (named n) T.threads ≤ 1) → parents_right T ≡ true → Family T.threads
 tested_family T once pass = record {
   depth = λ n. slow (suc (length T.threads)) T.threads (ParentIs n);
-  root = λ t m e. none_is t.parent (rw (eq_eqb t.name 0 e) at (first t m));
+  root = λ t m e. none_is t.parent (rw (eq-eqb t.name 0 e) at (first t m));
   under = λ t m d.
       let r = known T.threads once (length T.threads) t.parent (rw (ne_eqb t.name 0 d) at (first t m)) (second t m) in (
         r.0,

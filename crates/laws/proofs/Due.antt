@@ -6,7 +6,7 @@ use mathlib.Core.Logic.{◌⊎◌, inl, inr, ⊎_elim, ◌≢◌}
 use mathlib.Core.Bool.{Bool, true, false}
 use mathlib.Core.List.{List, [], ◌∷◌, map, Memᴰ}
 use native.Mathlib.Omega.{arith}
-use borrow.Author.Tests.{ne_eqb, eq_eqb}
+use borrow.Author.Tests.{ne_eqb, eq-eqb}
 use Rattle.rules.specs.Lists.{if◌then◌else◌, ◌==◌, one_if, any, has, count, insert, Pulled, missing, pulled, pull}
 use Rattle.rules.specs.Numbers.{Limits, names, full_slice, beat_ticks}
 use Rattle.rules.specs.Words.{by_manager, by_runner}
@@ -251,7 +251,7 @@ module _ (n : ℕ) (a : Answer) where
           (record {
             thread = run S.thread;
             there = subst (λ (x : Thread). Memᴰ x (map (λ t. if named m t then run t else t) ts))
-                (rw (eq_eqb m S.thread.name (e.0 ∙ sym S.name))) (map_mem (λ t. if named m t then run t else t) ts S.there);
+                (rw (eq-eqb m S.thread.name (e.0 ∙ sym S.name))) (map_mem (λ t. if named m t then run t else t) ts S.there);
             name = S.name;
             state = refl;
             answer = refl;

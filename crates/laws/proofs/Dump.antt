@@ -3,11 +3,11 @@ use Prim.Native.Nat.{ℕ, ◌<◌}
 use mathlib.Core.Path.{◌≡◌, refl, sym, ap, ap₂, ◌∙◌}
 use mathlib.Core.Logic.{⊎_elim, ◌≢◌, ◌↔◌}
 use mathlib.Core.Bool.{Bool, true, false, ◌&&◌}
-use mathlib.Core.List.{List, [], ◌∷◌, ◌++◌, map, append_nil, Memᴰ}
+use mathlib.Core.List.{List, [], ◌∷◌, ◌++◌, map, append-nil, Memᴰ}
 use native.Mathlib.Omega.{arith}
 use lib.Dec.{ltb}
 use lib.ListN.{length}
-use borrow.Author.Tests.{ne_eqb, eq_eqb, le_leb, ltb_true, lt_ltb}
+use borrow.Author.Tests.{ne_eqb, eq-eqb, le-leb, ltb-true, lt-ltb}
 use Rattle.rules.specs.Lists.{if◌then◌else◌, ◌==◌, all, any, keep, each, times_in, same, is_byte, number, two_bytes, four_bytes}
 use Rattle.rules.specs.Numbers.{Limits, names, service, nobody, devices, wrap}
 use Rattle.rules.specs.Words.{by_state, by_wanted, by_manager, by_parent, by_runner}
@@ -76,10 +76,10 @@ answer_back : (a : Answer) → answer_in_range a ≡ true →
     answer_from (answer_numbers a).kind (answer_numbers a).sender (number (four_bytes (answer_numbers a).word)) ≡ a
 unfolding answer_numbers answer_in_range
 answer_back Nothing h = refl
-answer_back (FromMessage n w) h = ap (FromMessage n) (four_back w (ltb_true w wrap (and_right (ltb n names) _ h)))
-answer_back (FromNotice n w) h = ap (FromNotice n) (four_back w (ltb_true w wrap (and_right (ltb n names) _ h)))
+answer_back (FromMessage n w) h = ap (FromMessage n) (four_back w (ltb-true w wrap (and_right (ltb n names) _ h)))
+answer_back (FromNotice n w) h = ap (FromNotice n) (four_back w (ltb-true w wrap (and_right (ltb n names) _ h)))
 answer_back (SenderGone n) h = refl
-answer_back (Result w) h = ap Result (four_back w (ltb_true w wrap h))
+answer_back (Result w) h = ap Result (four_back w (ltb-true w wrap h))
 
 runner_back : (r : Runner) → by_runner (Unit {0}) (λ n s. n < names) r → runner_from (me r) (slice_code r) ≡ r
 unfolding me
@@ -209,8 +209,8 @@ spelled f = field f.tag f.value
 one_written : (f : Field) → short f ≡ true → one_field (spelled f) ≡ true
 unfolding field_size whole
 one_written f h =
-    let e = two_back (length f.value) (ltb_true _ _ h) in
-    le_leb _ (length f.value) (omega (arith, e)) & eq_eqb (field_size (spelled f)) (length (spelled f)) (omega (arith, e))
+    let e = two_back (length f.value) (ltb-true _ _ h) in
+    le-leb _ (length f.value) (omega (arith, e)) & eq-eqb (field_size (spelled f)) (length (spelled f)) (omega (arith, e))
 
 all_written : (fs : List Field) → all short fs ≡ true → all one_field (map spelled fs) ≡ true
 unfolding all
@@ -225,7 +225,7 @@ joined_written (f ∷ fs) = ap (λ (l : List ℕ). spelled f ++ l) (joined_writt
 -- Cutting what was written gives its fields, and nothing is left.
 pub cut_written : (fs : List Field) → all short fs ≡ true → (complete (written fs) ≡ map spelled fs) × (unread (written fs) ≡ [])
 cut_written fs h =
-    let e : joined (map spelled fs) ++ [] ≡ written fs = append_nil (joined (map spelled fs)) ∙ joined_written fs in
+    let e : joined (map spelled fs) ++ [] ≡ written fs = append-nil (joined (map spelled fs)) ∙ joined_written fs in
     let c = cut_is_the_only_one (map spelled fs) [] (all_written fs h) (unfold whole in refl) in
     (ap complete (sym e) ∙ c.0, ap unread (sym e) ∙ c.1)
 
@@ -241,7 +241,7 @@ written_tagged n f (x ∷ xs) = ap (λ (l : List ℕ). field n (f x) ++ l) (writ
 
 written_one : (n : ℕ) (v : List ℕ) → written (tagged n (v ∷ [])) ≡ field n v
 unfolding each
-written_one n v = append_nil (field n v)
+written_one n v = append-nil (field n v)
 
 written_also : (fs gs : List Field) (a b : List ℕ) → written fs ≡ a → written gs ≡ b → written (fs ++ gs) ≡ a ++ b
 written_also fs gs a b p q = each_append (λ f. field f.tag f.value) fs gs ∙ ap₂ (λ (x y : List ℕ). x ++ y) p q
@@ -308,7 +308,7 @@ values_fields n T =
 
 one_value : (v : List ℕ) (vs : List (List ℕ)) → vs ≡ v ∷ [] → each (λ x. x) vs ≡ v
 unfolding each
-one_value v vs e = ap (each (λ x. x)) e ∙ append_nil v
+one_value v vs e = ap (each (λ x. x)) e ∙ append-nil v
 
 values_back : {A : Type 0} (code : A → List ℕ) (read : List ℕ → A) (xs : List A) (vs : List (List ℕ)) → vs ≡ map code xs →
     ((x : A) → Memᴰ x xs → read (code x) ≡ x) → map read vs ≡ xs
@@ -323,17 +323,17 @@ tables_back L T r =
       runner = (ap (λ (v : List ℕ). runner_from (at v 2) (at v 3)) head ∙ told.runner) i;
       since = (ap (λ (v : List ℕ). at v 4) head ∙ told.since) i;
       beats = (ap (λ (v : List ℕ). word_at v 5) head ∙ told.beats) i;
-      threads = values_back thread_value thread_from T.threads _ (values_fields 2 T ∙ simp append_nil)
+      threads = values_back thread_value thread_from T.threads _ (values_fields 2 T ∙ simp append-nil)
           (λ t m. thread_back t (thread_ranged L T r t m)) i;
-      ready = one_value T.ready _ (values_fields 3 T ∙ simp append_nil) i;
-      clock = one_value T.clock _ (values_fields 4 T ∙ simp append_nil) i;
-      messages = values_back message_value message_from T.messages _ (values_fields 5 T ∙ simp append_nil)
+      ready = one_value T.ready _ (values_fields 3 T ∙ simp append-nil) i;
+      clock = one_value T.clock _ (values_fields 4 T ∙ simp append-nil) i;
+      messages = values_back message_value message_from T.messages _ (values_fields 5 T ∙ simp append-nil)
           (λ m n. message_back m (r.fits.messages m n).word) i;
       held = values_back held_value held_from T.held _ (values_fields 6 T) (λ h m. held_back h (r.fits.held h m).1) i;
     }
   where
     head : value_of 1 (fields T) ≡ head_value T
-    head = one_value (head_value T) _ (values_fields 1 T ∙ simp append_nil)
+    head = one_value (head_value T) _ (values_fields 1 T ∙ simp append-nil)
 
     told : HeadTells T (head_value T)
     told = head_back T (runner_ranged L T r) r.steady.beats
@@ -344,11 +344,11 @@ short_tagged : {A : Type 0} (n k : ℕ) (f : A → List ℕ) (xs : List A) → (
     all short (tagged n (map f xs)) ≡ true
 unfolding all
 short_tagged n k f [] h l = refl
-short_tagged n k f (x ∷ xs) h l = lt_ltb (length (f x)) 65536 (omega (arith, h x)) & short_tagged n k f xs h l
+short_tagged n k f (x ∷ xs) h l = lt-ltb (length (f x)) 65536 (omega (arith, h x)) & short_tagged n k f xs h l
 
 short_one : (n : ℕ) (v : List ℕ) → length v < 65536 → all short (tagged n (v ∷ [])) ≡ true
 unfolding all
-short_one n v h = lt_ltb _ _ h & refl
+short_one n v h = lt-ltb _ _ h & refl
 
 pub fields_short : (L : Limits) (T : Tables) → Ruled L T → all short (fields T) ≡ true
 unfolding fields
@@ -379,7 +379,7 @@ fields_dump L T r = ap (map as_field) (cut_dump L T r).0 ∙ spelled_back (field
 -- ---- the dump is bytes
 
 a_byte : (n : ℕ) → n < 256 → is_byte n ≡ true
-a_byte n h = lt_ltb n 256 h
+a_byte n h = lt-ltb n 256 h
 
 field_bytes : (tag : ℕ) (v : List ℕ) → tag < 256 → all is_byte v ≡ true → all is_byte (field tag v) ≡ true
 unfolding all
@@ -417,9 +417,9 @@ state_bytes (Trapped k) h = (omega arith, trap_byte k)
 answer_bytes : (a : Answer) → answer_in_range a ≡ true → ((answer_numbers a).kind < 256) × ((answer_numbers a).sender < 256)
 unfolding answer_numbers answer_in_range
 answer_bytes Nothing h = omega arith
-answer_bytes (FromMessage n w) h = omega (arith, ltb_true n names (and_left (ltb n names) _ h))
-answer_bytes (FromNotice n w) h = omega (arith, ltb_true n names (and_left (ltb n names) _ h))
-answer_bytes (SenderGone n) h = omega (arith, ltb_true n names h)
+answer_bytes (FromMessage n w) h = omega (arith, ltb-true n names (and_left (ltb n names) _ h))
+answer_bytes (FromNotice n w) h = omega (arith, ltb-true n names (and_left (ltb n names) _ h))
+answer_bytes (SenderGone n) h = omega (arith, ltb-true n names h)
 answer_bytes (Result w) h = omega arith
 
 thread_bytes : (t : Thread) → Ranged t → all is_byte (thread_value t) ≡ true

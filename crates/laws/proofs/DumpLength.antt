@@ -5,8 +5,8 @@ use mathlib.Core.Logic.{⊎_elim}
 use mathlib.Core.Bool.{Bool, true, ◌&&◌, not}
 use mathlib.Core.List.{List, ◌++◌, map}
 use native.Mathlib.Omega.{arith}
-use lib.ListN.{length, length_append, length_map}
-use borrow.Author.Tests.{eqb_true}
+use lib.ListN.{length, length-append, length-map}
+use borrow.Author.Tests.{eqb-true}
 use Rattle.rules.specs.Lists.{◌==◌, keep, count, times_in}
 use Rattle.rules.specs.Numbers.{Limits, small, names, devices}
 use Rattle.rules.specs.Tables.{Tables, named}
@@ -37,7 +37,7 @@ threads_few L T r =
 
 -- both queues together: a thread stands in one of them at most, once
 pub queues_few : (ts : List Thread) (r : Runner) (q c : List ℕ) → Places ts r q c → length q + length c ≤ length ts
-queues_few ts r q c a = omega (arith, no_longer (q ++ c) (map (λ t. t.name) ts) at_most, length_append q c, length_map ts (λ t. t.name))
+queues_few ts r q c a = omega (arith, no_longer (q ++ c) (map (λ t. t.name) ts) at_most, length-append q c, length-map ts (λ t. t.name))
   where
     at_most : (n : ℕ) → times_in (q ++ c) n ≤ times_in (map (λ t. t.name) ts) n
     at_most n =
@@ -59,9 +59,9 @@ notices_few b ts ms hs g =
     omega (
       arith,
       no_longer senders (map (λ t. t.name) ts) at_most,
-      length_map (keep is_notice ms) (λ m. m.from),
+      length-map (keep is_notice ms) (λ m. m.from),
       length_keep is_notice ms,
-      length_map ts (λ t. t.name),
+      length-map ts (λ t. t.name),
     )
   where
     senders : List ℕ
@@ -74,7 +74,7 @@ notices_few b ts ms hs g =
     lives : (n : ℕ) → 1 ≤ count (notice_of n) ms → 1 ≤ count (named n) ts
     lives n h =
         let r = any_member (notice_of n) ms (count_any (notice_of n) ms h) in
-        let e : r.0.from ≡ n = eqb_true _ _ (and_right (is_notice r.0) _ r.2) in
+        let e : r.0.from ≡ n = eqb-true _ _ (and_right (is_notice r.0) _ r.2) in
         any_count (named n) ts (rw e at (g.messages r.0 r.1).from_live)
 
     at_most : (n : ℕ) → times_in senders n ≤ times_in (map (λ t. t.name) ts) n
@@ -117,7 +117,7 @@ pub dump_length : (T : Tables) → length (dump T) ≡ 12 + 20 * length T.thread
     * length T.messages + 8 * length T.held
 unfolding dump
 dump_length T =
-    simp length_append
+    simp length-append
     (omega (
       arith,
       head_length T,

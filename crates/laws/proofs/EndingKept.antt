@@ -5,7 +5,7 @@ use mathlib.Core.Logic.{⊎_elim, ◌≢◌}
 use mathlib.Core.Bool.{true, false, ◌||◌, not, true≢false, false≢true}
 use mathlib.Core.List.{List, map, Memᴰ}
 use native.Mathlib.Omega.{arith}
-use borrow.Author.Tests.{eqb_true, eq_eqb, lt_ltb}
+use borrow.Author.Tests.{eqb-true, eq-eqb, lt-ltb}
 use Rattle.rules.specs.Lists.{◌==◌, any, count, has}
 use Rattle.rules.specs.Numbers.{Limits, names}
 use Rattle.rules.specs.Words.{by_manager}
@@ -32,7 +32,7 @@ use Rattle.laws.proofs.Right.{less_order}
 top_lives : (ts : List Thread) (F : Family ts) (k : ℕ) (t : Thread) → Memᴰ t ts → F.depth t.name < k → any (named 0) ts ≡ true
 top_lives ts F zero t m h = absurd (omega arith)
 top_lives ts F (suc k) t m h =
-    ⊎_elim (λ e. member_any (named 0) ts t m (eq_eqb 0 t.name (sym e.0))) (λ e. above e.0 (top_lives ts F k)) (same? t.name 0)
+    ⊎_elim (λ e. member_any (named 0) ts t m (eq-eqb 0 t.name (sym e.0))) (λ e. above e.0 (top_lives ts F k)) (same? t.name 0)
   where
     above : t.name ≢ 0 → ((u : Thread) → Memᴰ u ts → F.depth u.name < k → any (named 0) ts ≡ true) → any (named 0) ts ≡ true
     above d later =
@@ -58,7 +58,7 @@ module _ (set : List ℕ) where
       names_kept (freed set) (put_name (λ t. misses set t.state) Ready (λ t. told_gone t.state)) n
       (map (without_managers set) (left set ts))
       ∙ names_kept (without_managers set) (λ t. unfold without_managers in refl) n (left set ts)
-      ∙ all_left (λ t. t.name) (λ x. has x set) (named n) n (λ t e. eqb_true n t.name e) o ts
+      ∙ all_left (λ t. t.name) (λ x. has x set) (named n) n (λ t e. eqb-true n t.name e) o ts
 
   pub lives_on : (n : ℕ) (ts : List Thread) → any (named n) ts ≡ true → has n set ≡ false → any (named n) (stay set ts) ≡ true
   lives_on n ts h o = count_any (named n) (stay set ts) (omega (arith, any_count (named n) ts h, count_stay n ts o))
@@ -73,7 +73,7 @@ module _ (set : List ℕ) where
   pub entry_stays : (x : Manager) → ((m : ℕ) → by_manager false (λ y. m == y) x ≡ true → has m set ≡ false) → gone_if set x ≡ x
   unfolding gone_if
   entry_stays Unset h = refl
-  entry_stays (Set y) h = rw (h y (eq_eqb y y refl))
+  entry_stays (Set y) h = rw (h y (eq-eqb y y refl))
   entry_stays Gone h = refl
 
   module _ (g : Managers) where
@@ -119,7 +119,7 @@ module _ (set : List ℕ) where
     gone_form n g Running d = refl
     gone_form n g Ready d = refl
     gone_form n g (Receiving Anybody) d = refl
-    gone_form n g (Receiving (Only f)) d = lt_ltb f names (low f d.0)
+    gone_form n g (Receiving (Only f)) d = lt-ltb f names (low f d.0)
     gone_form n g Clock d = refl
     gone_form n g (Device x) d = refl
     gone_form n g (Trapped k) d = refl

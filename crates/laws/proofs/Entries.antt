@@ -7,7 +7,7 @@ use mathlib.Core.Bool.{Bool, true, false, not}
 use mathlib.Core.List.{List, [], ◌∷◌, map, Memᴰ}
 use native.Mathlib.Omega.{arith}
 use lib.Dec.{ltb}
-use borrow.Author.Tests.{eqb_true, ne_eqb}
+use borrow.Author.Tests.{eqb-true, ne_eqb}
 use Rattle.rules.specs.Lists.{if◌then◌else◌, ◌==◌, any, has, keep, insert, Pulled, missing, pulled, pull}
 use Rattle.rules.specs.Numbers.{Limits, names, full_slice, beat_ticks}
 use Rattle.rules.specs.Words.{by_manager}
@@ -158,7 +158,7 @@ module _ (k : TrapKind) (n : ℕ) (e : Event) where
       dead x h = none_any (named x) (end m T).threads (λ u i. out u i (named x u) refl)
         where
           out : (u : Thread) → Memᴰ u (end m T).threads → (b : Bool) → named x u ≡ b → named x u ≡ false
-          out u i true q = absurd (clash h (ap (λ (y : ℕ). has y set) (eqb_true x u.name q) ∙ (ending_forgets m T).threads u i))
+          out u i true q = absurd (clash h (ap (λ (y : ℕ). has y set) (eqb-true x u.name q) ∙ (ending_forgets m T).threads u i))
           out u i false q = q
 
       go : (g : Manager) → entry k n T.threads ≡ g → entry k n (end m T).threads ≡ gone_if set (entry k n T.threads) →

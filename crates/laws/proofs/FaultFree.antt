@@ -8,7 +8,7 @@ use mathlib.Core.List.{List, [], ◌∷◌, ◌++◌, map, Memᴰ}
 use native.Mathlib.Omega.{arith}
 use lib.Dec.{leb, ltb}
 use lib.ListN.{length}
-use borrow.Author.Tests.{eq_eqb, le_leb, lt_ltb, ltb_true}
+use borrow.Author.Tests.{eq-eqb, le-leb, lt-ltb, ltb-true}
 use Rattle.rules.specs.Lists.{◌==◌, all, any, has, times_in, number, four_bytes}
 use Rattle.rules.specs.Numbers.{Limits, names, full_slice, beat_ticks, devices, wrap}
 use Rattle.rules.specs.Words.{by_state, by_wanted, by_parent, by_runner}
@@ -100,12 +100,12 @@ none_at_fault L T r fault h f m =
 right_lengths : (T : Tables) → Pass (λ f. not (wrong_length f)) T
 unfolding wrong_length dump_facts dump_facts_in
 right_lengths T = record {
-  head = rw (eq_eqb (length (head_value T)) 9 (head_length T));
-  thread = λ t m. rw (eq_eqb (length (thread_value t)) 17 (thread_length t));
+  head = rw (eq-eqb (length (head_value T)) 9 (head_length T));
+  thread = λ t m. rw (eq-eqb (length (thread_value t)) 17 (thread_length t));
   ready = refl;
   clock = refl;
-  message = λ t m. rw (eq_eqb (length (message_value t)) 7 (message_length t));
-  held = λ h m. rw (eq_eqb (length (held_value h)) 5 (held_length h));
+  message = λ t m. rw (eq-eqb (length (message_value t)) 7 (message_length t));
+  held = λ h m. rw (eq-eqb (length (held_value h)) 5 (held_length h));
 }
 
 module _ (L : Limits) (T : Tables) (r : Ruled L T) where
@@ -138,7 +138,7 @@ passes : (looked pass : Bool) → pass ≡ true → not (looked && not pass) ≡
 passes looked pass h = rw (h, and_false looked)
 
 itself : (n : ℕ) → (n == n) ≡ true
-itself n = eq_eqb n n refl
+itself n = eq-eqb n n refl
 
 status_right : (s : Status) → status_fits (status_code s) ≡ true
 unfolding status_code any
@@ -153,22 +153,22 @@ unfolding state_in_range
 state_ranged Running h = (refl, refl)
 state_ranged Ready h = (refl, refl)
 state_ranged (Receiving Anybody) h = (refl, refl)
-state_ranged (Receiving (Only n)) h = (refl, lt_ltb n names h)
+state_ranged (Receiving (Only n)) h = (refl, lt-ltb n names h)
 state_ranged Clock h = (refl, refl)
-state_ranged (Device d) h = (lt_ltb d devices h, refl)
+state_ranged (Device d) h = (lt-ltb d devices h, refl)
 state_ranged (Trapped k) h = (refl, refl)
 
 parent_right : (p : Parent) → by_parent (Unit {0}) (λ n. n < names) p → by_parent true is_name p ≡ true
 parent_right NoParent h = refl
-parent_right (ParentIs n) h = lt_ltb n names h
+parent_right (ParentIs n) h = lt-ltb n names h
 
 answer_word : (a : Answer) → answer_in_range a ≡ true → (answer_numbers a).word < wrap
 unfolding answer_numbers answer_in_range
 answer_word Nothing h = omega arith
-answer_word (FromMessage n w) h = ltb_true w wrap (and_right (ltb n names) _ h)
-answer_word (FromNotice n w) h = ltb_true w wrap (and_right (ltb n names) _ h)
+answer_word (FromMessage n w) h = ltb-true w wrap (and_right (ltb n names) _ h)
+answer_word (FromNotice n w) h = ltb-true w wrap (and_right (ltb n names) _ h)
 answer_word (SenderGone n) h = omega arith
-answer_word (Result w) h = ltb_true w wrap h
+answer_word (Result w) h = ltb-true w wrap h
 
 -- a thread's field, from what its value tells
 thread_right : (t : Thread) → Ranged t → thread_fits (thread_value t) ≡ true
@@ -183,7 +183,7 @@ thread_right t r =
     let told = ap (λ (u : Thread). u.answer) back in
     let answer : answer_from n.kind n.sender n.word ≡ t.answer = ap (answer_from n.kind n.sender) (sym word) ∙ told in
     let s = state_ranged t.state r.state in
-    lt_ltb t.name names r.name
+    lt-ltb t.name names r.name
     & rw parent (parent_right t.parent r.parent)
     & rw state (itself (state_numbers t.state).state & itself (state_numbers t.state).detail & s.0 & s.1)
     & rw (word, answer) (itself n.kind & itself n.sender & itself n.word & r.answer)
@@ -191,7 +191,7 @@ thread_right t r =
 runner_right : (r : Runner) → by_runner (Unit {0}) (λ n s. n < names) r → ((n s : ℕ) → r ≡ Runs n s → (1 ≤ s) × (s ≤ full_slice))
     → by_runner true (λ m s. is_name m && leb 1 s && leb s full_slice) r ≡ true
 runner_right NoRunner h k = refl
-runner_right (Runs n s) h k = lt_ltb n names h & le_leb 1 s (k n s refl).0 & le_leb s full_slice (k n s refl).1
+runner_right (Runs n s) h k = lt-ltb n names h & le-leb 1 s (k n s refl).0 & le-leb s full_slice (k n s refl).1
 
 module _ (L : Limits) (T : Tables) (r : Ruled L T) where
   head_right : head_fits (head_value T) ≡ true
@@ -199,9 +199,9 @@ module _ (L : Limits) (T : Tables) (r : Ruled L T) where
   head_right =
       let back : runner_from (me T.runner) (slice_code T.runner) ≡ T.runner =
       (head_back T (runner_ranged L T r) r.steady.beats).runner in
-      status_right (status T) & lt_ltb T.last names r.inv.last
+      status_right (status T) & lt-ltb T.last names r.inv.last
       & rw back (itself (slice_code T.runner) & runner_right T.runner (runner_ranged L T r) r.steady.slice)
-      & lt_ltb T.since beat_ticks r.steady.since
+      & lt-ltb T.since beat_ticks r.steady.since
 
   -- a queue holds names of live threads
   queue_lives : (p : State → Bool) (q : List ℕ) → ((n : ℕ) → here p n T.threads ≡ times_in q n) → (n : ℕ) → Memᴰ n q →
@@ -209,18 +209,18 @@ module _ (L : Limits) (T : Tables) (r : Ruled L T) where
   queue_lives p q h n m = here_live p n T.threads (omega (arith, h n, member_times q n m))
 
   queue_right : (p : State → Bool) (q : List ℕ) → ((n : ℕ) → here p n T.threads ≡ times_in q n) → all is_name q ≡ true
-  queue_right p q h = all_of is_name q (λ n m. lt_ltb n names (r.inv.low n (queue_lives p q h n m)))
+  queue_right p q h = all_of is_name q (λ n m. lt-ltb n names (r.inv.low n (queue_lives p q h n m)))
 
   message_right : (m : Message) → Memᴰ m T.messages → message_fits (message_value m) ≡ true
   unfolding message_fits message_value
   message_right m i =
       let p = r.fits.messages m i in
-      lt_ltb m.to names (r.inv.low m.to p.to_live) & lt_ltb m.from names (r.inv.low m.from p.from_live)
+      lt-ltb m.to names (r.inv.low m.to p.to_live) & lt-ltb m.from names (r.inv.low m.from p.from_live)
       & rw (kind_back m.kind) (itself (message_code m.kind))
 
   held_right : (h : Held) → Memᴰ h T.held → ltb (at (held_value h) 0) devices ≡ true
   unfolding held_value
-  held_right h i = lt_ltb h.device devices (r.fits.held h i).0
+  held_right h i = lt-ltb h.device devices (r.fits.held h i).0
 
   right_values : Pass (λ f. value_fits f.tag f.value) T
   unfolding value_fits

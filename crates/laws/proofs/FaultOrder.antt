@@ -2,9 +2,9 @@
 use Prim.Native.Nat.{ℕ, zero, suc, ◌≤◌, ◌<◌}
 use mathlib.Core.Path.{◌≡◌, refl, sym, ap, ◌∙◌, subst}
 use mathlib.Core.Bool.{true, false, ◌&&◌}
-use mathlib.Core.List.{List, [], ◌∷◌, ◌++◌, map, append_assoc, append_nil, Memᴰ}
+use mathlib.Core.List.{List, [], ◌∷◌, ◌++◌, map, append_assoc, append-nil, Memᴰ}
 use native.Mathlib.Omega.{arith}
-use borrow.Author.Tests.{ne_eqb, le_ltb}
+use borrow.Author.Tests.{ne_eqb, le-ltb}
 use Rattle.rules.specs.Lists.{◌==◌, has}
 use Rattle.rules.specs.Numbers.{Limits}
 use Rattle.rules.specs.Tables.{Tables}
@@ -84,7 +84,7 @@ one_follows k n v fs before w h p l known once later at f (Memᴰ.head e) = ap m
     right : misplaced (record { at = at; before = before; field = record { tag = n; value = v } }) ≡ false
     right =
         let low : place_before before ≤ (dump_facts n).place = omega (arith, lower k n before w h p l, place_of n p l) in
-        unfold misplaced in rw (known, le_ltb (dump_facts n).place (place_before before) low, once)
+        unfold misplaced in rw (known, le-ltb (dump_facts n).place (place_before before) low, once)
 one_follows k n v fs before w h p l known once later at f (Memᴰ.tail m) = later _ f m
 
 -- any number of fields of a tag that may stand often
@@ -111,7 +111,7 @@ module _ (T : Tables) where
   held_follow : (b : List ℕ) (j : ℕ) → j ≤ 5 → Within j b → Follow b (held_on T)
   unfolding dump_facts dump_facts_in
   held_follow b j l w =
-      subst (λ (fs : List Field). Follow b fs) (append_nil (held_on T))
+      subst (λ (fs : List Field). Follow b fs) (append-nil (held_on T))
       (many_follow j 6 (map held_value T.held) [] b w (omega arith) (omega arith) (omega arith) refl refl end_follows)
 
   messages_follow : (b : List ℕ) (j : ℕ) → j ≤ 4 → Within j b → Follow b (messages_on T)

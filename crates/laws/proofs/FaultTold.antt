@@ -7,8 +7,8 @@ use mathlib.Core.List.Memᴰ
 use mathlib.Core.List.{List, [], ◌∷◌, ◌++◌, map, Memᴰ}
 use native.Mathlib.Omega.{arith}
 use lib.Dec.{leb, ltb}
-use lib.ListN.{length, take, drop, length_take, get_or_append}
-use borrow.Author.Tests.{eqb_true, eq_eqb, lt_ltb}
+use lib.ListN.{length, take, drop, length-take, get_or-append}
+use borrow.Author.Tests.{eqb-true, eq-eqb, lt-ltb}
 use Rattle.rules.specs.Lists.{◌==◌, all, keep, each, is_byte}
 use Rattle.rules.specs.Numbers.{Limits, names, full_slice, beat_ticks, devices, wrap}
 use Rattle.rules.specs.Words.{by_state, by_wanted, by_manager, by_parent, by_runner}
@@ -47,7 +47,7 @@ value_field : (n : ℕ) (fs : List Field) {v : List ℕ} → Memᴰ v (values_of
 value_field n fs {v} m =
     let r = mem_map (λ (f : Field). f.value) (keep (λ f. f.tag == n) fs) m in
     let k = mem_keep (λ (f : Field). f.tag == n) fs r.1 in
-    let t : r.0.tag ≡ n = eqb_true r.0.tag n k.1 in
+    let t : r.0.tag ≡ n = eqb-true r.0.tag n k.1 in
     let e : record { tag = n; value = v } ≡ r.0 = λ i. record { tag = sym t i; value = r.2 i } in
     subst (λ (f : Field). Memᴰ f fs) (sym e) k.0
 
@@ -75,8 +75,8 @@ bytes_within = by_fields (λ l. all is_byte l ≡ true → (f : List ℕ) → Me
 
 word_below : (v : List ℕ) (i : ℕ) → all is_byte v ≡ true → ltb (word_at v i) wrap ≡ true
 word_below v i b =
-    lt_ltb (word_at v i) wrap
-    (number_below (take 4 (drop i v)) (all_take 4 is_byte (drop i v) (all_drop i is_byte v b)) (simp length_take (omega arith)))
+    lt-ltb (word_at v i) wrap
+    (number_below (take 4 (drop i v)) (all_take 4 is_byte (drop i v) (all_drop i is_byte v b)) (simp length-take (omega arith)))
 
 -- a value that stands opens the values that stand
 opening : (vs : List (List ℕ)) {u : List ℕ} → Memᴰ u vs → (v : List ℕ) × (rest : List ℕ) × Memᴰ v vs
@@ -125,14 +125,14 @@ module _ (bytes : List ℕ) (none_15 : faults_15 bytes ≡ []) where
   head_opens =
       let r = mem_map (λ (f : Field). f.tag) fs (has_member _ (((free_of_15 bytes).0 none_15).2 1 (Memᴰ.head refl))) in
       opening (values_of 1 fs)
-      (map_mem (λ (f : Field). f.value) _ (keep_mem (λ (f : Field). f.tag == 1) fs r.1 (eq_eqb r.0.tag 1 (sym r.2))))
+      (map_mem (λ (f : Field). f.value) _ (keep_mem (λ (f : Field). f.tag == 1) fs r.1 (eq-eqb r.0.tag 1 (sym r.2))))
 
   -- its bytes, up to its length
   head_at : (i : ℕ) → i < 9 → wrong_length (record { tag = 1; value = head_opens.0 }) ≡ false → at (value_of 1 fs) i ≡ at head_opens.0 i
   unfolding wrong_length dump_facts dump_facts_in
   head_at i h long =
-      let k : length head_opens.0 ≡ 9 = eqb_true (length head_opens.0) 9 (not_false _ long) in
-      ap (λ (v : List ℕ). at v i) head_opens.3 ∙ get_or_append head_opens.0 head_opens.1 0 i (omega arith)
+      let k : length head_opens.0 ≡ 9 = eqb-true (length head_opens.0) 9 (not_false _ long) in
+      ap (λ (v : List ℕ). at v i) head_opens.3 ∙ get_or-append head_opens.0 head_opens.1 0 i (omega arith)
 
   -- so it says who runs
   runner_told : wrong_length (record { tag = 1; value = head_opens.0 }) ≡ false

@@ -10,7 +10,7 @@ use mathlib.Core.List.{List, [], ◌∷◌, ◌++◌, map, Memᴰ}
 use native.Mathlib.Omega.{arith}
 use lib.Dec.{ltb}
 use lib.ListN.{length, take}
-use borrow.Author.Tests.{ltb_false}
+use borrow.Author.Tests.{ltb-false}
 use Rattle.rules.specs.Lists.{if◌then◌else◌, any, has}
 use Rattle.rules.specs.Numbers.{Limits}
 use Rattle.rules.specs.Tables.{Tables}
@@ -61,7 +61,7 @@ no_end (x ∷ l) n b e = absurd (some refl e)
 
 empty : (l : List ℕ) → ltb 0 (length l) ≡ false → l ≡ []
 empty [] h = refl
-empty (x ∷ l) h = absurd (omega (arith, ltb_false 0 (length (x ∷ l)) h))
+empty (x ∷ l) h = absurd (omega (arith, ltb-false 0 (length (x ∷ l)) h))
 
 -- There is no fault of 15 exactly if nothing is left behind the complete fields, each is as long as its tag says, and fields 1, 3 and 4
 -- stand.

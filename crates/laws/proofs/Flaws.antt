@@ -7,7 +7,7 @@ use mathlib.Core.List.{List, [], ◌∷◌, Memᴰ}
 use native.Mathlib.Omega.{arith}
 use lib.Dec.{ltb}
 use lib.ListN.{length, take, drop, get_or}
-use borrow.Author.Tests.{ltb_true, ltb_false, le_ltb, eqb_true, eqb_false, eq_eqb, ne_eqb}
+use borrow.Author.Tests.{ltb-true, ltb-false, le-ltb, eqb-true, eqb-false, eq-eqb, ne_eqb}
 use Rattle.rules.specs.Lists.{if◌then◌else◌, ◌==◌, all, any, is_byte, from_on, number_from, number}
 use Rattle.rules.specs.Tags.{facts_in, tag_facts, Service, services, rule_in, argument_rule, meets}
 use Rattle.rules.specs.Pick.{pending, pick_order, first_pending, pick, no_pick}
@@ -58,9 +58,9 @@ row t =
     (same? t 21)) (same? t 20)) (same? t 19)) (same? t 18)) (same? t 17)) (same? t 16)
   where
     far : (x : Bool) → ltb t 16 ≡ x → t ≢ 16 → t ≢ 17 → t ≢ 18 → t ≢ 19 → t ≢ 20 → t ≢ 21 → (t < 16) ⊎ (21 < t)
-    far true e a b c d f g = inl (ltb_true t 16 e)
+    far true e a b c d f g = inl (ltb-true t 16 e)
     far false e a b c d f g =
-        inr (beyond 21 t (beyond 20 t (beyond 19 t (beyond 18 t (beyond 17 t (beyond 16 t (ltb_false t 16 e) a) b) c) d) f) g)
+        inr (beyond 21 t (beyond 20 t (beyond 19 t (beyond 18 t (beyond 17 t (beyond 16 t (ltb-false t 16 e) a) b) c) d) f) g)
 
 -- ---- requests
 
@@ -83,23 +83,23 @@ bad_meets_nothing s a (argument_not_0 (Memᴰ.head e) d) = rw e (ne_eqb a 0 d)
 bad_meets_nothing s a (argument_not_0 (Memᴰ.tail (Memᴰ.head e)) d) = rw e (ne_eqb a 0 d)
 bad_meets_nothing s a (argument_not_0 (Memᴰ.tail (Memᴰ.tail (Memᴰ.head e))) d) = rw e (ne_eqb a 0 d)
 bad_meets_nothing s a (argument_not_0 (Memᴰ.tail (Memᴰ.tail (Memᴰ.tail (Memᴰ.head e)))) d) = rw e (ne_eqb a 0 d)
-bad_meets_nothing s a (device_over_47 e h) = rw e (le_ltb a 48 (omega arith))
+bad_meets_nothing s a (device_over_47 e h) = rw e (le-ltb a 48 (omega arith))
 
 meets_or_bad : (s a : ℕ) → meets (argument_rule s) a ≡ false → BadRequest s a
 unfolding argument_rule rule_in meets
 meets_or_bad s a =
-    by_if Bad (s == 1) (λ e h. argument_not_0 (Memᴰ.head (eqb_true s 1 e)) (eqb_false a 0 h)) λ n1.
-    by_if Bad (s == 2) (λ e h. argument_not_0 (Memᴰ.tail (Memᴰ.head (eqb_true s 2 e))) (eqb_false a 0 h)) λ n2.
+    by_if Bad (s == 1) (λ e h. argument_not_0 (Memᴰ.head (eqb-true s 1 e)) (eqb-false a 0 h)) λ n1.
+    by_if Bad (s == 2) (λ e h. argument_not_0 (Memᴰ.tail (Memᴰ.head (eqb-true s 2 e))) (eqb-false a 0 h)) λ n2.
     by_if Bad (s == 3) (λ e h. absurd (clash refl h)) λ n3.
     by_if Bad (s == 4) (λ e h. absurd (clash refl h)) λ n4.
     by_if Bad (s == 5) (λ e h. absurd (clash refl h)) λ n5.
     by_if Bad (s == 6) (λ e h. absurd (clash refl h)) λ n6.
-    by_if Bad (s == 7) (λ e h. argument_not_0 (Memᴰ.tail (Memᴰ.tail (Memᴰ.head (eqb_true s 7 e)))) (eqb_false a 0 h)) λ n7.
-    by_if Bad (s == 8) (λ e h. argument_not_0 (Memᴰ.tail (Memᴰ.tail (Memᴰ.tail (Memᴰ.head (eqb_true s 8 e)))))
-    (eqb_false a 0 h)) λ n8.
-    by_if Bad (s == 9) (λ e h. device_over_47 (eqb_true s 9 e) (omega (arith, ltb_false a 48 h))) λ n9 h.
-    far (ltb 9 s) refl (eqb_false s 1 n1) (eqb_false s 2 n2) (eqb_false s 3 n3) (eqb_false s 4 n4) (eqb_false s 5 n5) (eqb_false s 6 n6)
-    (eqb_false s 7 n7) (eqb_false s 8 n8) (eqb_false s 9 n9)
+    by_if Bad (s == 7) (λ e h. argument_not_0 (Memᴰ.tail (Memᴰ.tail (Memᴰ.head (eqb-true s 7 e)))) (eqb-false a 0 h)) λ n7.
+    by_if Bad (s == 8) (λ e h. argument_not_0 (Memᴰ.tail (Memᴰ.tail (Memᴰ.tail (Memᴰ.head (eqb-true s 8 e)))))
+    (eqb-false a 0 h)) λ n8.
+    by_if Bad (s == 9) (λ e h. device_over_47 (eqb-true s 9 e) (omega (arith, ltb-false a 48 h))) λ n9 h.
+    far (ltb 9 s) refl (eqb-false s 1 n1) (eqb-false s 2 n2) (eqb-false s 3 n3) (eqb-false s 4 n4) (eqb-false s 5 n5) (eqb-false s 6 n6)
+    (eqb-false s 7 n7) (eqb-false s 8 n8) (eqb-false s 9 n9)
   where
     Bad : Argument → Type 0
     Bad r = meets r a ≡ false → BadRequest s a
@@ -108,10 +108,10 @@ meets_or_bad s a =
     none q = omega arith
 
     far : (x : Bool) → ltb 9 s ≡ x → s ≢ 1 → s ≢ 2 → s ≢ 3 → s ≢ 4 → s ≢ 5 → s ≢ 6 → s ≢ 7 → s ≢ 8 → s ≢ 9 → BadRequest s a
-    far true e a b c d f g h i j = service_over_9 (ltb_true 9 s e)
+    far true e a b c d f g h i j = service_over_9 (ltb-true 9 s e)
     far false e a b c d f g h i j = service_0
         (none (under 0 s
-        (under 1 s (under 2 s (under 3 s (under 4 s (under 5 s (under 6 s (under 7 s (under 8 s (ltb_false 9 s e) j) i) h) g) f) d) c) b)
+        (under 1 s (under 2 s (under 3 s (under 4 s (under 5 s (under 6 s (under 7 s (under 8 s (ltb-false 9 s e) j) i) h) g) f) d) c) b)
         a))
 
 -- a value of two bytes has its second as argument
@@ -131,7 +131,7 @@ on_low a (suc k) n (Memᴰ.head e) = (omega arith, omega arith)
 on_low a (suc k) n (Memᴰ.tail m) = let r = on_low (suc a) k n m in (omega (arith, r.0), omega (arith, r.1))
 
 bit_0 : (w n : ℕ) → pending w n ≡ false → bit w n ≡ 0
-bit_0 w n e = omega (arith, eqb_false (bit w n) 1 e)
+bit_0 w n e = omega (arith, eqb-false (bit w n) 1 e)
 
 -- a word is served, or it has one of the two flaws
 abbrev Picks : ℕ → Type 0
@@ -147,17 +147,17 @@ picks w = go (any (pending w) (from_on 48 16)) refl
         ⊎ ((p ≡ no_pick) × (((n : ℕ) → n < 64 → bit w n ≡ 0) ⊎ ((n : ℕ) × (47 < n) × (n < 64) × (bit w n ≡ 1))))
 
     none : (n : ℕ) → n < 64 → any (pending w) (from_on 48 16) ≡ false → NoDevice w → (b : Bool) → ltb n 48 ≡ b → pending w n ≡ false
-    none n h e f true i = f n (ltb_true n 48 i)
-    none n h e f false i = not_any (pending w) (from_on 48 16) n e (from_on_mem 48 16 n (ltb_false n 48 i) h)
+    none n h e f true i = f n (ltb-true n 48 i)
+    none n h e f false i = not_any (pending w) (from_on 48 16) n e (from_on_mem 48 16 n (ltb-false n 48 i) h)
 
     go : (b : Bool) → any (pending w) (from_on 48 16) ≡ b → P (if b then no_pick else first_pending w pick_order)
     go true e = let r = any_member (pending w) (from_on 48 16) e in let o = on_low 48 16 r.0 r.1 in
-        inr (refl, inr (r.0, omega (arith, o.0), omega (arith, o.1), eqb_true (bit w r.0) 1 r.2))
+        inr (refl, inr (r.0, omega (arith, o.0), omega (arith, o.1), eqb-true (bit w r.0) 1 r.2))
     go false e =
         ⊎_elim
         (λ r. inl (
           ap (λ (x : Picked). x.refusal) r.1,
-          (r.0, r.2, eqb_true (bit w r.0) 1 r.3),
+          (r.0, r.2, eqb-true (bit w r.0) 1 r.3),
           λ n a b. bit_0 w n (not_any (pending w) (from_on 48 16) n e (from_on_mem 48 16 n a b)),
         ))
         (λ r. inr (r.0, inl (λ n h. bit_0 w n (none n h e r.1 (ltb n 48) refl))))
@@ -189,8 +189,8 @@ by_meaning t h l v f = by_if (λ (e : Event). e ≡ Malformed) ((tag_facts t).kn
     right : ((tag_facts t).known && h * 256 + l == (tag_facts t).length && length v == h * 256 + l) ≡ true → Row t → length v ≡ value_length t
     right c (inl r) =
         absurd (clash (and_left (tag_facts t).known _ (and_left ((tag_facts t).known && h * 256 + l == (tag_facts t).length) _ c)) r.0)
-    right c (inr r) = eqb_true (length v) _ (and_right ((tag_facts t).known && h * 256 + l == (tag_facts t).length) _ c)
-        ∙ eqb_true (h * 256 + l) _ (and_right (tag_facts t).known _
+    right c (inr r) = eqb-true (length v) _ (and_right ((tag_facts t).known && h * 256 + l == (tag_facts t).length) _ c)
+        ∙ eqb-true (h * 256 + l) _ (and_right (tag_facts t).known _
         (and_left ((tag_facts t).known && h * 256 + l == (tag_facts t).length) _ c)) ∙ r.3
 
 module _ (t h l : ℕ) (v : List ℕ) where
@@ -225,7 +225,7 @@ module _ (t h l : ℕ) (v : List ℕ) where
 not_a_byte : (bytes : List ℕ) (b : ℕ) → Memᴰ b bytes → 256 ≤ b → decode bytes ≡ Malformed
 unfolding decode
 not_a_byte bytes b m h = by_if (λ (e : Event). e ≡ Malformed) (all is_byte bytes)
-    (λ a. absurd (omega (arith, ltb_true b 256 (all_at is_byte bytes a b m)))) (λ _. refl)
+    (λ a. absurd (omega (arith, ltb-true b 256 (all_at is_byte bytes a b m)))) (λ _. refl)
 
 flawed : (bytes : List ℕ) → Flaw bytes → decode bytes ≡ Malformed
 flawed bytes (no_byte b m h) = not_a_byte bytes b m h
@@ -269,24 +269,24 @@ module _ (t h l : ℕ) (v : List ℕ) where
       by_if (Verdict (t ∷ h ∷ l ∷ v)) (t == 18)
       (λ e. by_if (Verdict (t ∷ h ∷ l ∷ v)) (meets (argument_rule (get_or v 0 0)) (number (drop 1 v)))
       (λ m. inr (asks_something services _ _ m))
-      (λ b. inl (bad_request (eqb_true t 18 e)
+      (λ b. inl (bad_request (eqb-true t 18 e)
       (meets_or_bad (get_or v 0 0) (get_or v 1 0)
-      (ap (meets (argument_rule (get_or v 0 0))) (sym (argument_is v (len ∙ ap value_length (eqb_true t 18 e)))) ∙ b))))) λ n18.
+      (ap (meets (argument_rule (get_or v 0 0))) (sym (argument_is v (len ∙ ap value_length (eqb-true t 18 e)))) ∙ b))))) λ n18.
       by_if (Verdict (t ∷ h ∷ l ∷ v)) (t == 19)
       (λ e. by_if (Verdict (t ∷ h ∷ l ∷ v)) (get_or v 0 0 == 0) (λ _. inr call) λ a. by_if (Verdict (t ∷ h ∷ l ∷ v)) (get_or v 0 0 == 1)
       (λ _. inr call) λ b. by_if (Verdict (t ∷ h ∷ l ∷ v)) (get_or v 0 0 == 2) (λ _. inr call) λ c.
-      inl (kind_over_2 (eqb_true t 19 e)
-      (omega (arith, eqb_false (get_or v 0 0) 0 a, eqb_false (get_or v 0 0) 1 b, eqb_false (get_or v 0 0) 2 c)))) λ n19.
+      inl (kind_over_2 (eqb-true t 19 e)
+      (omega (arith, eqb-false (get_or v 0 0) 0 a, eqb-false (get_or v 0 0) 1 b, eqb-false (get_or v 0 0) 2 c)))) λ n19.
       by_if (Verdict (t ∷ h ∷ l ∷ v)) (t == 20) (λ _. inr (λ e. let z : ◌≡◌ {A = ℕ} 0 1 = cc in absurd (omega arith))) λ n20.
-      by_if (Verdict (t ∷ h ∷ l ∷ v)) (t == 21) (λ e. served (eqb_true t 21 e)) λ n21.
+      by_if (Verdict (t ∷ h ∷ l ∷ v)) (t == 21) (λ e. served (eqb-true t 21 e)) λ n21.
       absurd (omega (
         arith,
-        eqb_false t 16 n16,
-        eqb_false t 17 n17,
-        eqb_false t 18 n18,
-        eqb_false t 19 n19,
-        eqb_false t 20 n20,
-        eqb_false t 21 n21,
+        eqb-false t 16 n16,
+        eqb-false t 17 n17,
+        eqb-false t 18 n18,
+        eqb-false t 19 n19,
+        eqb-false t 20 n20,
+        eqb-false t 21 n21,
       ))
     where
       call : {c : _} → ByRunner c ≢ Malformed
@@ -296,7 +296,7 @@ module _ (t h l : ℕ) (v : List ℕ) where
       served e =
           by_if (Verdict (t ∷ h ∷ l ∷ v)) ((pick (number (take 8 v))).refusal == 0)
           (λ _. inr (λ i. let z : ◌≡◌ {A = ℕ} 0 1 = cc in absurd (omega arith)))
-          (λ k. ⊎_elim (λ r. absurd (eqb_false _ 0 k r.0))
+          (λ k. ⊎_elim (λ r. absurd (eqb-false _ 0 k r.0))
           (λ r. inl (⊎_elim (λ n. none_pending e n) (λ n. one_over_47 e n.0 n.1 n.2 n.3) r.1)) (picks (number (take 8 v))))
 
   fielded : Verdict (t ∷ h ∷ l ∷ v) (field t h l v)
@@ -306,7 +306,7 @@ module _ (t h l : ℕ) (v : List ℕ) where
       ⊎_elim
       (λ a.
       ⊎_elim
-      (λ b. rw (r.0, eq_eqb (h * 256 + l) (tag_facts t).length (a.0 ∙ sym r.3), b.1) (read r.1 r.2 (b.0 ∙ a.0)))
+      (λ b. rw (r.0, eq-eqb (h * 256 + l) (tag_facts t).length (a.0 ∙ sym r.3), b.1) (read r.1 r.2 (b.0 ∙ a.0)))
       (λ b. inl (behind_or_missing (λ e. b.0 (omega (arith, e)))))
       (same? (length v) (h * 256 + l)))
       (λ a. inl (wrong_length a.0))
@@ -322,7 +322,7 @@ some_no_byte (x ∷ l) e = go (ltb x 256) refl e (some_no_byte l)
     go : (b : Bool) → ltb x 256 ≡ b → (b && all is_byte l) ≡ false → (all is_byte l ≡ false → (y : ℕ) × Memᴰ y l × (256 ≤ y)) →
         (y : ℕ) × Memᴰ y (x ∷ l) × (256 ≤ y)
     go true i j later = let r = later j in (r.0, Memᴰ.tail r.1, r.2)
-    go false i j later = (x, Memᴰ.head refl, ltb_false x 256 i)
+    go false i j later = (x, Memᴰ.head refl, ltb-false x 256 i)
 
 verdict : (bytes : List ℕ) → Verdict bytes (decode bytes)
 unfolding decode field_of

@@ -2,7 +2,7 @@
 use Prim.Native.Nat.{ℕ, zero, suc}
 use mathlib.Core.Path.{◌≡◌, refl, sym, ap, ◌∙◌, subst}
 use mathlib.Core.Bool.{Bool, true, false, ◌&&◌}
-use mathlib.Core.List.{List, [], ◌∷◌, ◌++◌, append_nil, append_assoc}
+use mathlib.Core.List.{List, [], ◌∷◌, ◌++◌, append-nil, append_assoc}
 use native.Mathlib.Omega.{arith}
 use borrow.Author.Tests.{ne_eqb}
 use Rattle.rules.specs.Lists.{if◌then◌else◌, ◌==◌}
@@ -31,7 +31,7 @@ givings_append L T (e ∷ es) fs =
 pub givings_last : (L : Limits) (T : Tables) (es : Input) (e : List ℕ) → givings L T (es ++ (e ∷ [])) ≡ givings L T es
     ++ given_by L (run L T es) e
 unfolding givings
-givings_last L T es e = givings_append L T es (e ∷ []) ∙ ap (λ (x : List ℕ). givings L T es ++ x) (append_nil (given_by L (run L T es) e))
+givings_last L T es e = givings_append L T es (e ∷ []) ∙ ap (λ (x : List ℕ). givings L T es ++ x) (append-nil (given_by L (run L T es) e))
 
 -- ---- one event
 

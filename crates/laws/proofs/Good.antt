@@ -5,9 +5,9 @@ use mathlib.Core.Logic.{inl, inr, ⊎_elim, ◌≢◌, ◌⊎◌}
 use mathlib.Core.Bool.{Bool, true, false, ◌&&◌, not, true≢false, false≢true}
 use mathlib.Core.List.{List, ◌∷◌, map, Memᴰ}
 use native.Mathlib.Omega.{arith}
-use native.Mathlib.Nat.{mod_lt}
+use native.Mathlib.Nat.{mod-lt}
 use lib.Dec.{leb, ltb}
-use borrow.Author.Tests.{eqb_true, eqb_false, eq_eqb, ne_eqb, leb_false, lt_ltb}
+use borrow.Author.Tests.{eqb-true, eqb-false, eq-eqb, ne_eqb, leb-false, lt-ltb}
 use Rattle.rules.specs.Lists.{if◌then◌else◌, ◌==◌, one_if, Pulled, missing, pulled, any, keep, count, pull, insert, times_in}
 use Rattle.rules.specs.Numbers.{Limits, names, beat_ticks, devices, wrap}
 use Rattle.rules.specs.Words.{by_wanted, by_manager}
@@ -91,7 +91,7 @@ runner_free T A n s r t m e k =
     running_free t.state (here_only is_running T.threads A.once t m (omega (arith, A.run t.name, one))) k t.managers
   where
     one : one_if (runs_as t.name T.runner) ≡ 1
-    one = unfold runs_as in rw (r, eq_eqb t.name n e)
+    one = unfold runs_as in rw (r, eq-eqb t.name n e)
 
 -- a thread that is in the queue's front awaits nobody
 front_free : (T : Tables) → Agree T → (n : ℕ) (q : List ℕ) → T.ready ≡ n ∷ q → Free n T.threads
@@ -102,19 +102,19 @@ front_free T A n q r t m e k = ready_free t.state
       A.wait t.name,
       ap (λ (l : List ℕ). times_in l t.name) r,
       count_cons (λ x. t.name == x) n q,
-      ap one_if (eq_eqb t.name n e),
+      ap one_if (eq-eqb t.name n e),
     ))) k t.managers
 
 -- ---- forms of answers
 
 result_form : (w : ℕ) → w < wrap → answer_in_range (Result w) ≡ true
 unfolding answer_in_range
-result_form w h = lt_ltb w wrap h
+result_form w h = lt-ltb w wrap h
 
 handed_form : (k : MessageKind) (n w : ℕ) → n < names → w < wrap → answer_in_range (handed_as k n w) ≡ true
 unfolding handed_as answer_in_range
-handed_form Ordinary n w h i = rw (lt_ltb n names h, lt_ltb w wrap i)
-handed_form Notice n w h i = rw (lt_ltb n names h, lt_ltb w wrap i)
+handed_form Ordinary n w h i = rw (lt-ltb n names h, lt-ltb w wrap i)
+handed_form Notice n w h i = rw (lt-ltb n names h, lt-ltb w wrap i)
 
 -- ---- changes of threads
 
@@ -162,12 +162,12 @@ put_good n s {b} {ts} {ms} {hs} free right one G =
     (λ t m x. record {
       entries = λ k. entry_around (turned_around (named n) (in_state s Nothing) (λ u. refl) (λ u. refl) ts (less_refl ms)) t.name
           (manager k t.managers) ((G.threads t m).entries k);
-      detail = right t m (sym (eqb_true n t.name x));
+      detail = right t m (sym (eqb-true n t.name x));
       answer = λ _. refl;
       form = nothing_form;
       ticks = (G.threads t m).ticks;
     })
-    (λ t m x k y. absurd (clash y (free t m (sym (eqb_true n t.name x)) k)))
+    (λ t m x k y. absurd (clash y (free t m (sym (eqb-true n t.name x)) k)))
     one (less_refl ms) G
 
 -- no more waiters for devices than before
@@ -260,7 +260,7 @@ no_notice {ms} G t m f = go (any (notice_of t.name) ms) refl
     go true e =
         let r = any_member (notice_of t.name) ms e in
         absurd (clash ((G.messages r.0 r.1).notice (not_true _ (and_left (not (is_ordinary r.0.kind)) _ r.2)) t m
-        (sym (eqb_true r.0.from t.name (and_right (not (is_ordinary r.0.kind)) _ r.2)))) (f r.0.to))
+        (sym (eqb-true r.0.from t.name (and_right (not (is_ordinary r.0.kind)) _ r.2)))) (f r.0.to))
 
 -- ---- a word held for a device that nobody waits for
 
@@ -286,7 +286,7 @@ module _ (d w : ℕ) (known : d < devices) (fits : w < wrap) {b : ℕ} {ts : Lis
     held = λ h i. ⊎_elim (λ e. (omega (arith, ap (λ (z : Held). z.device) e), omega (arith, ap (λ (z : Held). z.word) e)))
         (λ j. G.held h (mem_keep (λ z. not (held_for d z)) hs j).0) (mem_insert (λ z. ltb z.device d) word others i);
     held_order = up_insert (λ h. h.device) word others
-        (λ h i. eqb_false h.device d (not_true _ (mem_keep (λ z. not (held_for d z)) hs i).1))
+        (λ h i. eqb-false h.device d (not_true _ (mem_keep (λ z. not (held_for d z)) hs i).1))
         (up_less (λ h. h.device) (keep_less (λ z. not (held_for d z)) hs) G.held_order);
   }
     where
@@ -348,7 +348,7 @@ module _ (n p : ℕ) {b : ℕ} {ts : List Thread} {ms : List Message} {hs : List
 
   deeper_new : deeper n ≡ suc (G.family.depth p)
   unfolding deeper
-  deeper_new = rw (eq_eqb n n refl)
+  deeper_new = rw (eq-eqb n n refl)
 
   new_family : Family more
   new_family = record {
@@ -450,7 +450,7 @@ module _ {L : Limits} {T : Tables} (I : Inv L T) (G : Fits L T) (me s : ℕ) (ru
   unfolding decide wake_those
   decide_good to zero l =
       wake_good (waits_for_decision me to) (λ t. Nothing)
-      (λ t i x n y. rw (sym (eqb_true to t.name (and_left (named to t) _ x)))
+      (λ t i x n y. rw (sym (eqb-true to t.name (and_left (named to t) _ x)))
       (count_keep (notice_of to) (λ m. not (notice_of to m)) T.messages ∙ count_zero _ T.messages (λ m. not_both (notice_of to m))))
       (λ t i x. nothing_form)
       (keep_less (λ m. not (notice_of to m)) T.messages) G
@@ -496,7 +496,7 @@ module _ {L : Limits} {T : Tables} (I : Inv L T) (G : Fits L T) (me s : ℕ) (ru
       manager_lives n e = unfold Entry in (rw (entry n e self.0 self.1 self.2) at ((G.threads self.0 self.1).entries k)).0
 
       waits : (n : ℕ) → asked ≡ Set n → (t : Thread) → Memᴰ t T.threads → t.name ≡ me → awaits n (put me (Trapped k) t) ≡ true
-      waits n e t m x = unfold trapped_on in rw (eq_eqb me t.name (sym x), entry n e t m x) (eq_eqb n n refl)
+      waits n e t m x = unfold trapped_on in rw (eq-eqb me t.name (sym x), entry n e t m x) (eq-eqb n n refl)
 
       after : Tables
       after = stop me (Trapped k) T
@@ -556,14 +556,14 @@ module _ {L : Limits} {T : Tables} (I : Inv L T) (G : Fits L T) (me s : ℕ) (ru
         entries = λ j. entry_set _ t.name n t.managers (
           turned_live (named me) g (λ u. refl) n T.threads
               ∙ l,
-          λ y. d (y ∙ sym (eqb_true me t.name x)),
+          λ y. d (y ∙ sym (eqb-true me t.name x)),
         ) R.entries j k;
         detail = detail_set _ T.messages t.name n k t.managers t.state R.detail;
         answer = R.answer;
         form = R.form;
         ticks = R.ticks;
       })
-      (λ t m x z y. absurd (clash y (me_free t m (sym (eqb_true me t.name x)) z)))
+      (λ t m x z y. absurd (clash y (me_free t m (sym (eqb-true me t.name x)) z)))
       (λ e. omega (arith, G.waiters e, turned_fewer (named me) g (λ z t x. x) e T.threads))
       (less_refl T.messages) G
   manager_good k n l d (Set m) = end_good me I me_lives G
@@ -648,7 +648,7 @@ module _ (L : Limits) (T : Tables) (G : Fits L T) where
               detail = R.detail;
               answer = R.answer;
               form = R.form;
-              ticks = mod_lt (t.ticks + 1) (omega arith);
+              ticks = mod-lt (t.ticks + 1) (omega arith);
             })
             (λ t m x k y. inr y)
             (λ d. omega (arith, G.waiters d, turned_fewer (named n) g (λ k t x. x) d T.threads))
@@ -663,7 +663,7 @@ module _ (L : Limits) (T : Tables) (G : Fits L T) where
       (λ e. (
         wake_good (λ t. on_clock t.state) (λ t. Result (one_more T.beats))
             (λ t m x n y. absurd (clash y (clock_free t.state x n t.managers)))
-            (λ t m x. result_form _ (mod_lt (T.beats + 1) (omega arith))) (less_refl T.messages) G,
+            (λ t m x. result_form _ (mod-lt (T.beats + 1) (omega arith))) (less_refl T.messages) G,
         λ n s r. turned_free (λ t. on_clock t.state) (λ t. in_state Ready (Result (one_more T.beats)) t) (λ t. refl)
             (λ t m x. unfold trapped_on in refl) n T.threads (F n s r),
       ))
@@ -674,7 +674,7 @@ module _ (L : Limits) (T : Tables) (G : Fits L T) where
   rotate_good F =
       by_runs (Fits L) T.runner (λ _. G) λ n s e.
       by_if (Fits L) (s == 0)
-      (λ _. wake_good (named n) (λ t. Nothing) (λ t m x k y. absurd (clash y (F n s e t m (sym (eqb_true n t.name x)) k)))
+      (λ _. wake_good (named n) (λ t. Nothing) (λ t m x k y. absurd (clash y (F n s e t m (sym (eqb-true n t.name x)) k)))
       (λ t m x. nothing_form) (less_refl T.messages) G)
       (λ _. G)
 
@@ -718,16 +718,16 @@ module _ {L : Limits} {T : Tables} (l : L.threads < names) (I : Inv L T) (G : Fi
       let b = passed _ 8 _ a.1 in
       let c = passed _ 4 _ b.1 in
       send_good I G n s run to w p (not_false _ a.0)
-      (λ d x. leb_false L.blocks (blocks_used T)
+      (λ d x. leb-false L.blocks (blocks_used T)
       (and_last (decides n to T) (any (accepts (message to n w)) T.threads) (no_block_free L T) c.0 d x))
   serve_good (Receive w) p f = receive_good I G n s run w (passed _ 3 _ f).0
-  serve_good CreateBrother p f = brother_good I G n s run l (eqb_false n 0 (passed _ 6 _ f).0)
+  serve_good CreateBrother p f = brother_good I G n s run l (eqb-false n 0 (passed _ 6 _ f).0)
   serve_good CreateSon p f = create_good I G n s run l n (runner_live I n s run)
   serve_good (Terminate Oneself) p f = end_good n I (runner_live I n s run) G
   serve_good (Terminate (Named m)) p f = end_good m I (not_false _ (passed _ 3 _ f).0) G
   serve_good (SetManager k m) p f =
       let a = passed _ 3 _ f in
-      manager_good I G n s run k m (not_false _ a.0) (eqb_false m n (passed _ 9 _ a.1).0)
+      manager_good I G n s run k m (not_false _ a.0) (eqb-false m n (passed _ 9 _ a.1).0)
       (of_thread Unset (λ t. manager k t.managers) n T.threads)
   serve_good GetCpuTime p f = G
   serve_good WaitForClock p f = clock_good I G n s run

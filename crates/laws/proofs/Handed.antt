@@ -5,10 +5,10 @@ use Prim.Native.Nat.{ℕ, zero, suc, ◌+◌, ◌≤◌, ◌<◌}
 use mathlib.Core.Path.{◌≡◌, refl, sym, ap, ◌∙◌, subst}
 use mathlib.Core.Logic.{◌⊎◌, inl, inr, ⊎_elim}
 use mathlib.Core.Bool.{Bool, true, false, false≢true}
-use mathlib.Core.List.{List, [], ◌∷◌, ◌++◌, map, append_nil, append_assoc, Memᴰ}
+use mathlib.Core.List.{List, [], ◌∷◌, ◌++◌, map, append-nil, append_assoc, Memᴰ}
 use native.Mathlib.Omega.{arith}
 use lib.Dec.{ltb}
-use borrow.Author.Tests.{eqb_true, eq_eqb}
+use borrow.Author.Tests.{eqb-true, eq-eqb}
 use Rattle.rules.specs.Lists.{if◌then◌else◌, ◌==◌, one_if, any, count, Pulled, missing, pulled, pull}
 use Rattle.rules.specs.Numbers.{Limits, names, full_slice, beat_ticks}
 use Rattle.rules.specs.Words.{by_manager, by_runner}
@@ -67,7 +67,7 @@ device_state d Running h = absurd (false≢true h)
 device_state d Ready h = absurd (false≢true h)
 device_state d (Receiving w) h = absurd (false≢true h)
 device_state d Clock h = absurd (false≢true h)
-device_state d (Device e) h = ap Device (sym (eqb_true d e h))
+device_state d (Device e) h = ap Device (sym (eqb-true d e h))
 device_state d (Trapped k) h = absurd (false≢true h)
 
 -- a thread with a result is ready: the others have no answer
@@ -162,7 +162,7 @@ module _ (P : ℕ → ℕ → Type 0) where
       (λ e. waiting_wake (λ t. on_clock t.state) (λ t. Result (one_more T.beats)) T.clock
       (with_clock [] (with_time 0 (one_more T.beats) T))
       (λ t m i w j. let k : one_more T.beats ≡ w = cc in
-      subst (P t.name) k (h t m (clock_state t.state i) (eqb_true (T.since + 1) beat_ticks e))) H)
+      subst (P t.name) k (h t m (clock_state t.state i) (eqb-true (T.since + 1) beat_ticks e))) H)
       (λ _. H)
 
   waiting_rotate : (T : Tables) → Waiting P T.threads → Waiting P (rotate T).threads
@@ -203,7 +203,7 @@ unfolding tick
 struck T h = turned (beat (charge T)) ∙ beaten (charge T) (ap (λ (n : ℕ). n + 1) (charge_time T).0 ∙ h) ∙ ap one_more (charge_time T).1
   where
     beaten : (U : Tables) → U.since + 1 ≡ beat_ticks → (beat U).beats ≡ one_more U.beats
-    beaten U e = unfold beat wake_those in rw (eq_eqb (U.since + 1) beat_ticks e)
+    beaten U e = unfold beat wake_those in rw (eq-eqb (U.since + 1) beat_ticks e)
 
     turned : (U : Tables) → (rotate U).beats ≡ U.beats
     turned U = unfold rotate wake_those in
@@ -342,7 +342,7 @@ serve_hands s T (WaitForIo d) x o e = go (pull (held_for d) T.held) refl e
         let none : any (held_for d) hs ≡ false =
         zero_any (held_for d) hs (omega (arith, o d, t.each (held_for d), ap one_if t.passes)) in
         subst (λ (y : ℕ). (T.runner ≡ T.runner) × ResultOf T hs s (WaitForIo d) y) z
-        (refl, of_held h t.from (eqb_true h.device d t.passes) none)
+        (refl, of_held h t.from (eqb-true h.device d t.passes) none)
 serve_hands s T (Trap k c) x o e = absurd (none_is_no_result e)
 
 -- dispatch hands over what the event did, or what waited for the front of the ready queue
@@ -520,7 +520,7 @@ module _ (L : Limits) (some_room : 1 ≤ L.threads) (few : L.threads < names) wh
 
   waiting_from : (es fs : Input) → Waiting (Woken L es) (run L start es).threads →
       Waiting (Woken L (es ++ fs)) (run L start (es ++ fs)).threads
-  waiting_from es [] H = rw append_nil H
+  waiting_from es [] H = rw append-nil H
   waiting_from es (f ∷ fs) H =
       subst (λ (x : Input). Waiting (Woken L x) (run L start x).threads) (append_assoc es (f ∷ []) fs)
       (waiting_from (es ++ (f ∷ [])) fs (event_waiting es f H))

@@ -4,10 +4,10 @@ use Prim.Native.Nat.{ℕ, zero, suc, ◌<◌}
 use mathlib.Core.Path.{◌≡◌, refl, sym, ap, ◌∙◌, subst}
 use mathlib.Core.Logic.{◌⊎◌, inl, inr, ⊎_elim, ◌≢◌}
 use mathlib.Core.Bool.{Bool, true, false, ◌&&◌, ◌||◌, not, true≢false}
-use mathlib.Core.List.{List, [], ◌∷◌, ◌++◌, append_nil, append_assoc, Memᴰ}
+use mathlib.Core.List.{List, [], ◌∷◌, ◌++◌, append-nil, append_assoc, Memᴰ}
 use native.Mathlib.Omega.{arith}
 use lib.Dec.{leb}
-use borrow.Author.Tests.{eqb_true, eq_eqb, ne_eqb, leb_true, leb_false, le_leb}
+use borrow.Author.Tests.{eqb-true, eq-eqb, ne_eqb, leb-true, leb-false, le-leb}
 use Rattle.rules.specs.Lists.{if◌then◌else◌, ◌==◌, any, has, keep, behind, insert, chain, Pulled, missing, pulled, pull}
 use Rattle.rules.specs.Numbers.{Limits, names}
 use Rattle.rules.specs.Words.{by_manager, by_runner}
@@ -150,13 +150,13 @@ abbrev rising : Message → Message → Bool
 rising x y = leb x.to y.to
 
 rising_on : Transitive rising
-rising_on x y z e f = le_leb x.to z.to (omega (arith, leb_true x.to y.to e, leb_true y.to z.to f))
+rising_on x y z e f = le-leb x.to z.to (omega (arith, leb-true x.to y.to e, leb-true y.to z.to f))
 
 -- what is put into its place stands behind all that wait for the same receiver
 joins_end : (m : Message) (ms : List Message) → chain rising ms ≡ true →
     keep (addressed m.to) (insert (λ x. leb x.to m.to) m ms) ≡ keep (addressed m.to) ms ++ (m ∷ [])
 unfolding keep insert
-joins_end m [] c = rw (eq_eqb m.to m.to refl)
+joins_end m [] c = rw (eq-eqb m.to m.to refl)
 joins_end m (x ∷ ms) c = by_if (λ (l : List Message). keep (addressed m.to) l ≡ keep (addressed m.to) (x ∷ ms) ++ (m ∷ []))
     (leb x.to m.to) (λ _. go (addressed m.to x) (joins_end m ms (chain_tail rising x ms c))) last
   where
@@ -168,12 +168,12 @@ joins_end m (x ∷ ms) c = by_if (λ (l : List Message). keep (addressed m.to) l
 
     later : leb x.to m.to ≡ false → (y : Message) → Memᴰ y (x ∷ ms) → addressed m.to y ≡ false
     later h y (Memᴰ.head e) =
-        ne_eqb y.to m.to (λ i. let k : y.to ≡ x.to = ap (λ (z : Message). z.to) e in omega (arith, leb_false x.to m.to h))
+        ne_eqb y.to m.to (λ i. let k : y.to ≡ x.to = ap (λ (z : Message). z.to) e in omega (arith, leb-false x.to m.to h))
     later h y (Memᴰ.tail i) = ne_eqb y.to m.to
-        (λ j. omega (arith, leb_false x.to m.to h, leb_true x.to y.to (chain_before rising rising_on x ms c y i)))
+        (λ j. omega (arith, leb-false x.to m.to h, leb-true x.to y.to (chain_before rising rising_on x ms c y i)))
 
     last : leb x.to m.to ≡ false → keep (addressed m.to) (m ∷ x ∷ ms) ≡ keep (addressed m.to) (x ∷ ms) ++ (m ∷ [])
-    last h = rw (eq_eqb m.to m.to refl) (ap (λ (l : List Message). m ∷ l) (keep_none_of (addressed m.to) (x ∷ ms) (later h))
+    last h = rw (eq-eqb m.to m.to refl) (ap (λ (l : List Message). m ∷ l) (keep_none_of (addressed m.to) (x ∷ ms) (later h))
         ∙ ap (λ (l : List Message). l ++ (m ∷ [])) (sym (keep_none_of (addressed m.to) (x ∷ ms) (later h))))
 
 -- a runner goes on
@@ -246,7 +246,7 @@ module _ (L : Limits) (T : Tables) (R : Ruled L T) (bytes : List ℕ) (n : ℕ) 
       F = pulled_first (wanted_by s w) T.messages j
 
       to_s : m.to ≡ s
-      to_s = eqb_true m.to s (and_left (m.to == s) _ F.passes)
+      to_s = eqb-true m.to s (and_left (m.to == s) _ F.passes)
 
       whole : inbox n T ≡ keep (addressed n) F.before ++ keep (addressed n) (m ∷ F.after)
       whole = ap (keep (addressed n)) F.was ∙ keep_append (addressed n) F.before (m ∷ F.after)
@@ -261,7 +261,7 @@ module _ (L : Limits) (T : Tables) (R : Ruled L T) (bytes : List ℕ) (n : ℕ) 
 
       own : s ≡ n → Taken L T bytes n
       own d =
-          let a : addressed n m ≡ true = eq_eqb m.to n (to_s ∙ d) in
+          let a : addressed n m ≡ true = eq-eqb m.to n (to_s ∙ d) in
           record {
             wanted = w;
             slice = q;
@@ -476,7 +476,7 @@ first_of_sender Anybody x (y ∷ b) h e = unfold any in absurd (true≢false h)
 first_of_sender (Only g) x b h e =
     keep_none_of (λ m. m.from == x.from) b
     (λ y i. ne_eqb y.from x.from
-    (λ k. clash (eq_eqb g y.from (eqb_true g x.from e ∙ sym k)) (not_any (wanted_from (Only g)) b y h i)))
+    (λ k. clash (eq-eqb g y.from (eqb-true g x.from e ∙ sym k)) (not_any (wanted_from (Only g)) b y h i)))
 
 -- one is taken from a list, and the rest of the account is as before
 passes_one : (f : ℕ) (w : Wanted) (b : List Message) (x : Message) (c old new ins more rest : List Message) →
@@ -515,7 +515,7 @@ module _ (L : Limits) (n f : ℕ) where
   pub first_in_first_out : (T : Tables) (es : Input) (ins outs : List Message) → Passes L n T es ins outs →
       of_sender f (inbox n T) ++ of_sender f ins ≡ of_sender f outs ++ of_sender f (inbox n (run L T es))
   unfolding run
-  first_in_first_out T es ins outs (over U) = unfold keep in append_nil (of_sender f (inbox n T))
+  first_in_first_out T es ins outs (over U) = unfold keep in append-nil (of_sender f (inbox n T))
   first_in_first_out T (e ∷ es) ins outs (stays U d ds i p) =
       ap (λ (l : List Message). of_sender f l ++ of_sender f ins) (sym i) ∙ first_in_first_out (step L T e).tables es ins outs p
   first_in_first_out T (e ∷ es) ins outs (comes U d ds {ins = more} m s i p) =

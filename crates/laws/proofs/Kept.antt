@@ -5,7 +5,7 @@ use mathlib.Core.Logic.{◌⊎◌, inl, inr}
 use mathlib.Core.Bool.{true, false, false≢true}
 use mathlib.Core.List.{List, [], ◌∷◌, Memᴰ}
 use native.Mathlib.Omega.{arith}
-use borrow.Author.Tests.{eqb_true}
+use borrow.Author.Tests.{eqb-true}
 use Rattle.rules.specs.Lists.{◌==◌, any, count, chain}
 use Rattle.rules.specs.Numbers.{Limits, names, full_slice}
 use Rattle.rules.specs.Tables.{Tables, new_thread, runs_as, start}
@@ -45,7 +45,7 @@ unfolding any
 start_inv L l = record { agree = start_agree; low = λ n h. low n (or_cases (n == 0) false h); few = omega arith; last = omega arith }
   where
     low : (n : ℕ) → ((n == 0) ≡ true) ⊎ (false ≡ true) → n < names
-    low n (inl e) = omega (arith, eqb_true n 0 e)
+    low n (inl e) = omega (arith, eqb-true n 0 e)
     low n (inr e) = absurd (false≢true e)
 
 start_steady : Steady start

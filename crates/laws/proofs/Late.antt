@@ -3,9 +3,9 @@ use Prim.Native.Nat.{ℕ, zero, suc, ◌≤◌, ◌<◌}
 use mathlib.Core.Path.{◌≡◌, refl, sym, ap, ◌∙◌, subst}
 use mathlib.Core.Logic.{⊎_elim}
 use mathlib.Core.Bool.{Bool, true, false, false≢true}
-use mathlib.Core.List.{List, [], ◌∷◌, ◌++◌, append_nil, append_assoc, Memᴰ}
+use mathlib.Core.List.{List, [], ◌∷◌, ◌++◌, append-nil, append_assoc, Memᴰ}
 use native.Mathlib.Omega.{arith}
-use borrow.Author.Tests.{eqb_true}
+use borrow.Author.Tests.{eqb-true}
 use Rattle.rules.specs.Lists.{has}
 use Rattle.rules.specs.Numbers.{Limits, names}
 use Rattle.rules.specs.Tables.{Tables, named, live, manager, start}
@@ -67,7 +67,7 @@ module _ (L : Limits) (es : Input) (n : ℕ) (dead : live n (run L start es) ≡
   pub last_since : (ds : Input) (c : List ℕ) (gs : Input) → ds ++ (c ∷ []) ≡ es ++ gs → live n (run L start (ds ++ (c ∷ []))) ≡ true →
       (hs : Input) × (ds ≡ es ++ hs) × (gs ≡ hs ++ (c ∷ []))
   last_since ds c gs i l =
-      ⊎_elim (λ e. absurd (clash l (ap (λ (x : Input). live n (run L start x)) (i ∙ ap (λ (x : Input). es ++ x) e ∙ append_nil es) ∙ dead)))
+      ⊎_elim (λ e. absurd (clash l (ap (λ (x : Input). live n (run L start x)) (i ∙ ap (λ (x : Input). es ++ x) e ∙ append-nil es) ∙ dead)))
       (λ r.
       let k = last_same ds (es ++ r.0) (i ∙ ap (λ (x : Input). es ++ x) r.2 ∙ sym (append_assoc es r.0 (r.1 ∷ []))) in
       (r.0, k.0, r.2 ∙ ap (λ (x : List ℕ). r.0 ++ (x ∷ [])) (sym k.1)))
@@ -107,7 +107,7 @@ ended_dead T e x m i h = none_any (named m) (dispatch (act T e)).tables.threads 
         go : (b : Bool) → named m u ≡ b → b ≡ false
         go false k = refl
         go true k =
-            absurd (clash h (ap (λ (y : ℕ). has y (ended_set T.threads x)) (eqb_true m u.name k ∙ r.2)
+            absurd (clash h (ap (λ (y : ℕ). has y (ended_set T.threads x)) (eqb-true m u.name k ∙ r.2)
             ∙ (ending_forgets x T).threads r.0 (subst (λ (U : Tables). Memᴰ r.0 U.threads) i r.1)))
 
 step_accepted : (L : Limits) (T : Tables) (bytes : List ℕ) → (step L T bytes).decision.refusal ≡ 0 →

@@ -7,7 +7,7 @@ use mathlib.Core.Logic.{⊎_elim, ◌≢◌}
 use mathlib.Core.Bool.{true, false, false≢true}
 use mathlib.Core.List.{List, [], ◌∷◌, Memᴰ}
 use native.Mathlib.Omega.{arith}
-use borrow.Author.Tests.{eq_eqb}
+use borrow.Author.Tests.{eq-eqb}
 use Rattle.rules.specs.Lists.{◌==◌, one_if, any, has, count, times_in}
 use Rattle.rules.specs.Numbers.{Limits, names}
 use Rattle.rules.specs.Tables.{Tables, named, live, manager}
@@ -133,7 +133,7 @@ module _ (T U : Tables) (N : NamesTheLiving T) (p : Parent) (a : Answer) (M : Ma
 
 alone : (x y : ℕ) → x ≡ y → times_in (y ∷ []) x ≡ 1
 unfolding count
-alone x y e = omega (arith, ap one_if (eq_eqb x y e))
+alone x y e = omega (arith, ap one_if (eq-eqb x y e))
 
 -- the thread that is created
 created_not_yet_named : (L : Limits) (T : Tables) → L.threads < names → table_rules L T ≡ true → (p : Parent) →

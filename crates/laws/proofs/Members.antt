@@ -5,7 +5,7 @@ use mathlib.Core.Logic.{◌⊎◌, inl, inr, ⊎_elim}
 use mathlib.Core.Bool.{Bool, true, false, false≢true}
 use mathlib.Core.List.{List, [], ◌∷◌, ◌++◌, map, Memᴰ}
 use native.Mathlib.Omega.{arith}
-use borrow.Author.Tests.{eqb_true, eq_eqb}
+use borrow.Author.Tests.{eqb-true, eq-eqb}
 use Rattle.rules.specs.Lists.{if◌then◌else◌, ◌==◌, any, keep, insert, has, times_in, from_on, same}
 use Rattle.laws.proofs.Tests.{by_if, same?, and_left, and_right, ◌&◌, or_cases, or_left, or_right}
 use Rattle.laws.proofs.Tally.{any_count, count_any, any_append, any_member, member_any}
@@ -72,10 +72,10 @@ map_back code read (x ∷ xs) h =
 -- ---- numbers in a list
 
 pub member_has : {x : ℕ} (l : List ℕ) → Memᴰ x l → has x l ≡ true
-member_has {x} l m = member_any (λ k. x == k) l x m (eq_eqb x x refl)
+member_has {x} l m = member_any (λ k. x == k) l x m (eq-eqb x x refl)
 
 pub has_member : {x : ℕ} (l : List ℕ) → has x l ≡ true → Memᴰ x l
-has_member {x} l h = let r = any_member (λ k. x == k) l h in rw (eqb_true x r.0 r.2) r.1
+has_member {x} l h = let r = any_member (λ k. x == k) l h in rw (eqb-true x r.0 r.2) r.1
 
 pub member_times : (l : List ℕ) (n : ℕ) → Memᴰ n l → 1 ≤ times_in l n
 member_times l n m = any_count (λ k. n == k) l (member_has l m)
@@ -126,7 +126,7 @@ from_on_parts a (suc k) l =
 pub same_refl : (xs : List ℕ) → same xs xs ≡ true
 unfolding same
 same_refl [] = refl
-same_refl (x ∷ xs) = eq_eqb x x refl & same_refl xs
+same_refl (x ∷ xs) = eq-eqb x x refl & same_refl xs
 
 pub same_true : (xs ys : List ℕ) → same xs ys ≡ true → xs ≡ ys
 unfolding same
@@ -134,7 +134,7 @@ same_true [] [] h = refl
 same_true [] (y ∷ ys) h = absurd (false≢true h)
 same_true (x ∷ xs) [] h = absurd (false≢true h)
 same_true (x ∷ xs) (y ∷ ys) h =
-    ap₂ (λ (z : ℕ) (zs : List ℕ). z ∷ zs) (eqb_true x y (and_left (x == y) _ h)) (same_true xs ys (and_right (x == y) _ h))
+    ap₂ (λ (z : ℕ) (zs : List ℕ). z ∷ zs) (eqb-true x y (and_left (x == y) _ h)) (same_true xs ys (and_right (x == y) _ h))
 
 -- ---- the end of a list
 

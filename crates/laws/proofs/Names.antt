@@ -5,9 +5,9 @@ use mathlib.Core.Logic.{◌≢◌}
 use mathlib.Core.Bool.{Bool, true, false, not}
 use mathlib.Core.List.{List}
 use native.Mathlib.Omega.{arith}
-use native.Mathlib.Nat.{mod_lt}
+use native.Mathlib.Nat.{mod-lt}
 use lib.ListN.{length}
-use borrow.Author.Tests.{eqb_true, ne_eqb}
+use borrow.Author.Tests.{eqb-true, ne_eqb}
 use Rattle.rules.specs.Lists.{◌==◌, any, keep}
 use Rattle.rules.specs.Numbers.{Limits, names}
 use Rattle.rules.specs.Tables.{Tables, with_threads, named, live}
@@ -71,7 +71,7 @@ others c T = with_threads (keep (λ t. not (named c t)) T.threads) T
 
 live_others : (m c : ℕ) → m ≢ c → (ts : List Thread) → any (named m) (keep (λ t. not (named c t)) ts) ≡ any (named m) ts
 live_others m c d ts = any_counts (named m) (named m) _ ts
-    (all_left (λ t. t.name) (λ x. c == x) (named m) m (λ t e. eqb_true m t.name e) (ne_eqb c m (λ e. d (sym e))) ts)
+    (all_left (λ t. t.name) (λ x. c == x) (named m) m (λ t e. eqb-true m t.name e) (ne_eqb c m (λ e. d (sym e))) ts)
 
 -- with at most k threads, k at most 253, the name given is no thread's: of the k + 1 names behind n, which differ, k can be taken
 fresh : (k n : ℕ) (T : Tables) → k < names → length T.threads ≤ k → live (free_name k n T) T ≡ false
@@ -86,7 +86,7 @@ fresh (suc k) n T b l = go (live (after n 1) T) refl (λ le. fresh k (after n 1)
         live (free_name (suc k) n T) T ≡ false
     go false e later = rw (e, free_name) e
     go true e later =
-        let hc : c < names = mod_lt (n + 1) (omega arith) in
+        let hc : c < names = mod-lt (n + 1) (omega arith) in
         let p = found k c T in
         let q : free_name k c (others c T) ≡ free_name k c T =
         same_tries k c (others c T) T (λ i one most. live_others (after c i) c (omega arith) T.threads) in
@@ -104,7 +104,7 @@ fresh (suc k) n T b l = go (live (after n 1) T) refl (λ le. fresh k (after n 1)
 
 -- the name given is 0 to 253
 pub name_low : (T : Tables) → next_name T < names
-name_low T = let p = found (length T.threads) T.last T in rw p.given (mod_lt (T.last + p.steps) (omega arith))
+name_low T = let p = found (length T.threads) T.last T in rw p.given (mod-lt (T.last + p.steps) (omega arith))
 
 -- where there are fewer than 254 threads, it is no live thread's
 pub name_fresh : (T : Tables) → length T.threads < names → live (next_name T) T ≡ false

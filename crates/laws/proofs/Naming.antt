@@ -4,13 +4,13 @@ use mathlib.Core.Path.{◌≡◌, refl, sym, ap, ◌∙◌}
 use mathlib.Core.Logic.{⊎_elim, ◌≢◌}
 use mathlib.Core.Bool.{Bool, true, false, ◌||◌, false≢true}
 use mathlib.Core.List.{List, [], ◌∷◌, Memᴰ}
-use native.Mathlib.Nat.{mod_lt}
-use native.Mathlib.Numerals.{add_one}
+use native.Mathlib.Nat.{mod-lt}
+use native.Mathlib.Numerals.{add-one}
 use native.Mathlib.Omega.{arith}
 use lib.Dec.{ltb}
-use lib.ListN.{length, drop, get_or, drop_of_length_le}
-use lib.Seq.{drop_cons}
-use borrow.Author.Tests.{eq_eqb, ne_eqb, ltb_true, ltb_false}
+use lib.ListN.{length, drop, get_or, drop_of_length-le}
+use lib.Seq.{drop-cons}
+use borrow.Author.Tests.{eq-eqb, ne_eqb, ltb-true, ltb-false}
 use Rattle.rules.specs.Lists.{if◌then◌else◌, any, chain}
 use Rattle.rules.specs.Numbers.{names}
 use Rattle.rules.specs.Tables.{Tables, named, live}
@@ -64,11 +64,11 @@ higher : (ts : List Thread) (i : ℕ) (d e : Thread) → Rising ts → suc i < l
 unfolding chain
 higher [] i d e r h = absurd (omega arith)
 higher (t ∷ []) i d e r h = absurd (omega arith)
-higher (t ∷ u ∷ ts) zero d e r h = ltb_true t.name u.name (and_left (ltb t.name u.name) _ r)
+higher (t ∷ u ∷ ts) zero d e r h = ltb-true t.name u.name (and_left (ltb t.name u.name) _ r)
 higher (t ∷ u ∷ ts) (suc i) d e r h = higher (u ∷ ts) i d e (and_right (ltb t.name u.name) _ r) (omega arith)
 
 pub rising_next : (ts : List Thread) (i : ℕ) (d e : Thread) → Rising ts → i + 1 < length ts → (get_or ts i d).name < (get_or ts (i + 1) e).name
-rising_next ts i d e r h = rw add_one (higher ts i d e r (omega arith))
+rising_next ts i d e r h = rw add-one (higher ts i d e r (omega arith))
 
 module _ (c : ℕ) where
   -- nobody has it
@@ -96,9 +96,9 @@ module _ (c : ℕ) where
       walked c (drop i ts) ≡ walked ((c + 1) % names) (drop (i + 1) ts)
   unfolding walked
   walk_moves ts i d h e =
-      ap (walked c) (drop_cons ts i d h)
-      ∙ ap (λ (b : Bool). walked (if b then (c + 1) % names else c) (drop (suc i) ts)) (eq_eqb c (get_or ts i d).name e)
-      ∙ ap (λ (j : ℕ). walked ((c + 1) % names) (drop j ts)) (sym (add_one i))
+      ap (walked c) (drop-cons ts i d h)
+      ∙ ap (λ (b : Bool). walked (if b then (c + 1) % names else c) (drop (suc i) ts)) (eq-eqb c (get_or ts i d).name e)
+      ∙ ap (λ (j : ℕ). walked ((c + 1) % names) (drop j ts)) (sym (add-one i))
 
   pub walk_stops : (ts : List Thread) (i : ℕ) (d : Thread) → Rising ts → i < length ts → c < (get_or ts i d).name → walked c (drop i ts) ≡ c
   walk_stops [] i d r h l = absurd (omega arith)
@@ -107,7 +107,7 @@ module _ (c : ℕ) where
 
   pub walk_ends : (ts : List Thread) (i : ℕ) → length ts ≤ i → walked c (drop i ts) ≡ c
   unfolding walked
-  walk_ends ts i h = rw (drop_of_length_le ts h)
+  walk_ends ts i h = rw (drop_of_length-le ts h)
 
 -- ---- what a walk finds
 
@@ -146,9 +146,9 @@ module _ (T : Tables) where
           ∙ sym (rw q (tries_next c T (names - (c + 1)) (l c (omega arith) ∙ rw f)))
         where
           go : (b : Bool) → ltb (c + 1) names ≡ b → walked next ts ≡ from_name (names - (c + 1)) next T
-          go true k = let n : next ≡ c + 1 = omega (arith, ltb_true (c + 1) names k) in rw n (later (ltb_true (c + 1) names k))
-          go false k = let n : next ≡ 0 = omega (arith, ltb_false (c + 1) names k) in
-              let z : names - (c + 1) ≡ 0 = omega (arith, ltb_false (c + 1) names k) in
+          go true k = let n : next ≡ c + 1 = omega (arith, ltb-true (c + 1) names k) in rw n (later (ltb-true (c + 1) names k))
+          go false k = let n : next ≡ 0 = omega (arith, ltb-false (c + 1) names k) in
+              let z : names - (c + 1) ≡ 0 = omega (arith, ltb-false (c + 1) names k) in
               rw (n, z) (walked_none 0 ts (or_false (named 0 t) (any (named 0) ts) (none_above 0 t ts r (omega arith))).1
               ∙ sym (untried 0 T))
 
@@ -157,9 +157,9 @@ module _ (T : Tables) where
       hasn't e f later = ap (λ (b : Bool). walked (if b then next else c) ts) f ∙ go (ltb t.name c) refl
         where
           go : (b : Bool) → ltb t.name c ≡ b → walked c ts ≡ from_name (names - c) c T
-          go true k = later (ltb_true t.name c k)
+          go true k = later (ltb-true t.name c k)
           go false k =
-              let z = none_above c t ts r (omega (arith, ltb_false t.name c k)) in
+              let z = none_above c t ts r (omega (arith, ltb-false t.name c k)) in
               walked_none c ts (or_false (named c t) (any (named c) ts) z).1
               ∙ sym (rw q (free_stays c T (suc (names - (c + 1))) (l c (omega arith) ∙ z)))
 
@@ -199,7 +199,7 @@ module _ (T : Tables) where
 
   -- a walk from the successor of n on gives what the rules' search gives if it may pass over every name up to 253
   pub walk_gives : Rising T.threads → (n : ℕ) → walked ((n + 1) % names) T.threads ≡ free_name (names - (n + 1) % names) n T
-  walk_gives r n = walk_finds ((n + 1) % names) T.threads (mod_lt (n + 1) (omega arith)) r (λ m h. refl)
+  walk_gives r n = walk_finds ((n + 1) % names) T.threads (mod-lt (n + 1) (omega arith)) r (λ m h. refl)
       ∙ by_first (names - (n + 1) % names) n T
 
   abbrev first : ℕ

@@ -7,8 +7,8 @@ use mathlib.Core.Bool.{Bool, true, false}
 use mathlib.Core.List.Memᴰ
 use mathlib.Core.List.{List, [], ◌∷◌, ◌++◌, map, Memᴰ}
 use native.Mathlib.Omega.{arith}
-use lib.ListN.{length, take, drop, length_drop}
-use lib.Seq.{drop_drop, length_take_le}
+use lib.ListN.{length, take, drop, length-drop}
+use lib.Seq.{drop-drop, length-take-le}
 use Rattle.rules.specs.Lists.{if◌then◌else◌, keep}
 use Rattle.rules.specs.Fields.{field_size, whole, complete}
 use Rattle.rules.specs.Load.{as_field}
@@ -44,9 +44,9 @@ begins = by_fields Begins none one
         go (Memᴰ.head e) = (0, ap (λ (p : Placed). p.at) e ∙ omega arith, front, w, ap (λ (p : Placed). p.field) e)
         go (Memᴰ.tail n) =
             let r = h _ _ f n in
-            let s = drop_drop r.0 (field_size l) l in (
+            let s = drop-drop r.0 (field_size l) l in (
               field_size l + r.0,
-              omega (arith, r.1, length_take_le (field_size l) l (whole_within l w).1),
+              omega (arith, r.1, length-take-le (field_size l) l (whole_within l w).1),
               behind w r.2,
               subst (λ (x : List ℕ). whole x ≡ true) s r.3,
               subst (λ (x : List ℕ). f.field ≡ as_field (take (field_size x) x)) s r.4,
@@ -95,11 +95,11 @@ lists _ _ (front {l}) w at before =
     )
 lists _ _ (behind {l} {k} v r) w at before =
     let f = take (field_size l) l in
-    let there = subst (λ (x : List ℕ). whole x ≡ true) (sym (drop_drop k (field_size l) l)) w in
+    let there = subst (λ (x : List ℕ). whole x ≡ true) (sym (drop-drop k (field_size l) l)) w in
     let p = lists (past l) k r there (at + length f) ((as_field f).tag ∷ before) in (
       p.0,
       subst (λ (fs : List (List ℕ)). Memᴰ p.0 (placed_from at before fs)) (sym (complete_first l v).0) (Memᴰ.tail p.1),
-      omega (arith, p.2, length_take_le (field_size l) l (whole_within l v).1),
+      omega (arith, p.2, length-take-le (field_size l) l (whole_within l v).1),
     )
 
 -- What is reached and opens with a complete field is listed.
@@ -108,7 +108,7 @@ reached_begins bytes o r w = let p =
     lists bytes o r w 0 [] in subst (BeginsAt bytes) (p.2 ∙ omega arith) (placed_begins bytes p.0 p.1)
 
 pub begins_within : (bytes : List ℕ) (o : ℕ) → BeginsAt bytes o → o < length bytes
-begins_within bytes o b = let s = whole_within (drop o bytes) b.all_there in omega (arith, s.0, s.1, length_drop o bytes)
+begins_within bytes o b = let s = whole_within (drop o bytes) b.all_there in omega (arith, s.0, s.1, length-drop o bytes)
 
 -- ---- offsets
 

@@ -9,7 +9,7 @@ use mathlib.Core.Bool.{Bool, true, false, ◌&&◌, ◌||◌, not}
 use mathlib.Core.List.{List, [], ◌∷◌, map}
 use native.Mathlib.Omega.{arith}
 use lib.Dec.{leb}
-use borrow.Author.Tests.{eqb_true, eq_eqb, ne_eqb}
+use borrow.Author.Tests.{eqb-true, eq-eqb, ne_eqb}
 use Rattle.rules.specs.Lists.{if◌then◌else◌, ◌==◌, one_if, any, has, keep, count, times_in, Pulled, missing, pulled, pull}
 use Rattle.rules.specs.Numbers.{Limits, names}
 use Rattle.rules.specs.Words.{by_manager}
@@ -95,7 +95,7 @@ awaited_as m s k T d =
     one : (t : Thread) → accepts m (turned (named s) (in_state (Trapped k) Nothing) t) ≡ accepts m t
     one t =
         by_if (λ (u : Thread). accepts m u ≡ accepts m t) (named s t)
-        (λ e. let o : named m.to t ≡ false = ne_eqb m.to t.name (λ i. d (i ∙ sym (eqb_true s t.name e))) in rw o)
+        (λ e. let o : named m.to t ≡ false = ne_eqb m.to t.name (λ i. d (i ∙ sym (eqb-true s t.name e))) in rw o)
         (λ _. refl)
 
 module _ (p : Message → Bool) where
@@ -222,7 +222,7 @@ module _ (p : Message → Bool) where
           R.inv.agree.once s,
           R.inv.agree.run s,
           ap (λ (r : Runner). one_if (runs_as s r)) h,
-          ap one_if (eq_eqb s s refl),
+          ap one_if (eq-eqb s s refl),
           R.inv.agree.wait s,
           ap (λ (l : List ℕ). times_in l s) (e ∙ ap (λ (x : ℕ). x ∷ ns) i),
           times_self s ns,
@@ -235,11 +235,11 @@ module _ (p : Message → Bool) where
     takes m ms j = subst (λ (o : Outcome). Account T event (decided 0 o) 0 0) (sym (runs_on (received s w T (pulled m ms)) s q h)) on
       where
         to_me : m.to ≡ me T.runner
-        to_me = eqb_true m.to s (and_left (m.to == s) _ (pull_took (wanted_by s w) T.messages j).passes) ∙ sym runs_as_s
+        to_me = eqb-true m.to s (and_left (m.to == s) _ (pull_took (wanted_by s w) T.messages j).passes) ∙ sym runs_as_s
 
         on : count p ms + count p (if me T.runner == me T.runner then as_message (me T.runner) (handed m) else [])
             + 0 ≡ count p T.messages + 0
-        on = rw (eq_eqb (me T.runner) (me T.runner) refl, handed_back m (me T.runner) to_me)
+        on = rw (eq-eqb (me T.runner) (me T.runner) refl, handed_back m (me T.runner) to_me)
             (omega (arith, (pull_took (wanted_by s w) T.messages j).each p))
 
     -- it waits, and another runs or nobody

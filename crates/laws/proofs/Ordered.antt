@@ -7,7 +7,7 @@ use mathlib.Core.List.{List, [], ◌∷◌, map, Memᴰ}
 use native.Mathlib.Omega.{arith}
 use lib.Dec.{ltb}
 use lib.ListN.{length}
-use borrow.Author.Tests.{ltb_true, ltb_false, lt_ltb, ne_eqb}
+use borrow.Author.Tests.{ltb-true, ltb-false, lt-ltb, ne_eqb}
 use Rattle.rules.specs.Lists.{◌==◌, one_if, Pulled, missing, pulled, any, keep, count, behind, pull, insert, chain}
 use Rattle.laws.proofs.Tests.{by_if, same?, and_left, and_right, ◌&◌}
 use Rattle.laws.proofs.Tally.{count_cons, count_keep_le, none_count, none_any}
@@ -137,10 +137,10 @@ module _ {A : Type 0} (key : A → ℕ) where
   up x y = ltb (key x) (key y)
 
   pub up_trans : Transitive up
-  up_trans x y z e f = lt_ltb (key x) (key z) (omega (arith, ltb_true (key x) (key y) e, ltb_true (key y) (key z) f))
+  up_trans x y z e f = lt-ltb (key x) (key z) (omega (arith, ltb-true (key x) (key y) e, ltb-true (key y) (key z) f))
 
   pub up_below : (x : A) (xs : List A) → chain up (x ∷ xs) ≡ true → (y : A) → Memᴰ y xs → key x < key y
-  up_below x xs c y m = ltb_true (key x) (key y) (chain_before up up_trans x xs c y m)
+  up_below x xs c y m = ltb-true (key x) (key y) (chain_before up up_trans x xs c y m)
 
   pub up_less : {xs ys : List A} → Less xs ys → chain up xs ≡ true → chain up ys ≡ true
   up_less l c = l.ordered up up_trans c
@@ -150,7 +150,7 @@ module _ {A : Type 0} (key : A → ℕ) where
 
   pub up_insert : (a : A) (xs : List A) → ((x : A) → Memᴰ x xs → key x ≢ key a) → chain up xs ≡ true →
       chain up (insert (λ x. up x a) a xs) ≡ true
-  up_insert a xs d c = chain_insert up up_trans a xs (λ x m e. lt_ltb (key a) (key x) (omega (arith, ltb_false (key x) (key a) e, d x m))) c
+  up_insert a xs d c = chain_insert up up_trans a xs (λ x m e. lt-ltb (key a) (key x) (omega (arith, ltb-false (key x) (key a) e, d x m))) c
 
   -- they are distinct
   pub up_once : (n : ℕ) (xs : List A) → chain up xs ≡ true → count (λ x. n == key x) xs ≤ 1

@@ -9,7 +9,7 @@ use native.Mathlib.Omega.{arith}
 use lib.Dec.{ltb}
 use lib.ListN.{replicate}
 use lib.Pow.{pow_mono}
-use borrow.Author.Tests.{eqb_true, eq_eqb, ne_eqb, ltb_true, lt_ltb}
+use borrow.Author.Tests.{eqb-true, eq-eqb, ne_eqb, ltb-true, lt-ltb}
 use Rattle.rules.specs.Lists.{if◌then◌else◌, ◌==◌, all, any, keep, from_on, is_byte, number_from, four_bytes}
 use Rattle.rules.specs.Numbers.{Limits, beat_ticks, devices, wrap}
 use Rattle.rules.specs.Words.{by_state}
@@ -172,7 +172,7 @@ last_tick T R s n m =
     (with_clock [] (with_time 0 (one_more T.beats) T)) R.runner R.ready R.queued n m
   where
     beaten : beat T ≡ at_beat T
-    beaten = unfold beat in rw (eq_eqb (T.since + 1) beat_ticks s)
+    beaten = unfold beat in rw (eq-eqb (T.since + 1) beat_ticks s)
 
 -- a tick before it only counts
 early_tick : (T : Tables) → Resting T → T.since + 1 ≢ beat_ticks → were_accepted T Tick ≡ with_time (T.since + 1) T.beats T
@@ -212,7 +212,7 @@ interrupt_wakes T R d w h =
     lives : (n : ℕ) → Memᴰ n (map (λ t. t.name) (keep (waits_for d) T.threads)) → live n T ≡ true
     lives n i =
         let u = mem_map (λ (t : Thread). t.name) (keep (waits_for d) T.threads) i in
-        member_any (named n) T.threads u.0 (mem_keep (waits_for d) T.threads u.1).0 (eq_eqb n u.0.name u.2)
+        member_any (named n) T.threads u.0 (mem_keep (waits_for d) T.threads u.1).0 (eq-eqb n u.0.name u.2)
 
 -- the thread that the series is for
 first_is : (since : ℕ) (ts : List Thread) → some_waits ts ≡ true
@@ -244,7 +244,7 @@ clock_series T R n m =
 
 device_series : (T : Tables) → Resting T → (d : ℕ) → d < devices → any (waits_for d) T.threads ≡ true → Woken T (Interrupt d 0 ∷ [])
 unfolding all from_outside outside
-device_series T R d l h = (rw (lt_ltb d devices l), interrupt_wakes T R d 0 h)
+device_series T R d l h = (rw (lt-ltb d devices l), interrupt_wakes T R d 0 h)
 
 -- With somebody on clock or device, the waking series is one of ticks and interrupts, and after it somebody runs.
 pub series_wakes : (T : Tables) → Resting T → some_waits T.threads ≡ true → Woken T (waking_series T)
@@ -257,7 +257,7 @@ series_wakes T R h = let f = first_is T.since T.threads h in rw f.3 (go f.0 f.1 
     go t m (Receiving w) e i = unfold wakes_from_outside on_clock in absurd (false≢true i)
     go t m Clock e i = unfold woken_by in clock_series T R t.name (R.waits t m e)
     go t m (Device d) e i = unfold woken_by in
-        device_series T R d (R.device t d m e) (member_any (waits_for d) T.threads t m (unfold at_device in rw e (eq_eqb d d refl)))
+        device_series T R d (R.device t d m e) (member_any (waits_for d) T.threads t m (unfold at_device in rw e (eq-eqb d d refl)))
     go t m (Trapped x) e i = unfold wakes_from_outside on_clock in absurd (false≢true i)
 
 -- ---- bytes say these events, and an idle node accepts them
@@ -288,7 +288,7 @@ picked d w h =
     let p = all_at (λ x. (pick (2 ^ x)).refusal == 0 && (pick (2 ^ x)).device == x) (from_on 0 devices) picks d
     (from_on_mem 0 devices d (omega arith) h) in
     rw (and_left ((pick (2 ^ d)).refusal == 0) _ p)
-    (ap (λ (x : ℕ). Interrupt x w) (eqb_true (pick (2 ^ d)).device d (and_right ((pick (2 ^ d)).refusal == 0) _ p)))
+    (ap (λ (x : ℕ). Interrupt x w) (eqb-true (pick (2 ^ d)).device d (and_right ((pick (2 ^ d)).refusal == 0) _ p)))
 
 -- Every tick and every interrupt in range is what some bytes say.
 pub said : (e : Event) → from_outside e ≡ true → decode (bytes_of e) ≡ e
@@ -297,14 +297,14 @@ said Malformed h = absurd (false≢true h)
 said (ByRunner c) h = absurd (false≢true h)
 said Tick h = unfold decode all field_of tag_facts facts_in meaning in refl
 said (Interrupt d w) h =
-    let l = ltb_true d devices (and_left (ltb d devices) _ h) in
-    word_said (2 ^ d) w (omega (arith, pow_mono {i = d} {j = 47} (omega arith))) (ltb_true w wrap (and_right (ltb d devices) _ h))
+    let l = ltb-true d devices (and_left (ltb d devices) _ h) in
+    word_said (2 ^ d) w (omega (arith, pow_mono {i = d} {j = 47} (omega arith))) (ltb-true w wrap (and_right (ltb d devices) _ h))
     ∙ picked d w l
 
 -- And no bytes say another interrupt: those of `from_outside` are all that there are.
 pub heard : (bytes : List ℕ) (d w : ℕ) → decode bytes ≡ Interrupt d w → from_outside (Interrupt d w) ≡ true
 unfolding from_outside Proper
-heard bytes d w e = let p : Proper (Interrupt d w) = rw e at (decode_proper bytes) in lt_ltb d devices p.0 & lt_ltb w wrap p.1
+heard bytes d w e = let p : Proper (Interrupt d w) = rw e at (decode_proper bytes) in lt-ltb d devices p.0 & lt-ltb w wrap p.1
 
 unrefused : (L : Limits) (T : Tables) (e : Event) → from_outside e ≡ true → over (status T) ≡ false → refusal L T e ≡ 0
 unfolding from_outside refusal first_of is_malformed needs_runner own_rules
@@ -345,5 +345,5 @@ series_accepted L T R h o = let f = first_is T.since T.threads h in rw f.3 (go f
     go t m (Receiving w) e i = unfold wakes_from_outside on_clock in absurd (false≢true i)
     go t m Clock e i = unfold woken_by in ticks_run L (beat_ticks - T.since) T R o (omega (arith, R.since))
     go t m (Device d) e i = unfold woken_by run outside in
-        step_accepts L T (Interrupt d 0) (unfold from_outside in rw (lt_ltb d devices (R.device t d m e))) o
+        step_accepts L T (Interrupt d 0) (unfold from_outside in rw (lt-ltb d devices (R.device t d m e))) o
     go t m (Trapped x) e i = unfold wakes_from_outside on_clock in absurd (false≢true i)

@@ -3,9 +3,9 @@ use Prim.Native.Nat.{ℕ, zero, suc, ◌+◌, ◌≤◌, ◌<◌}
 use mathlib.Core.Path.{◌≡◌, refl, sym, ap, ◌∙◌, subst}
 use mathlib.Core.Logic.{⊎_elim}
 use mathlib.Core.Bool.{Bool, true, false, not}
-use mathlib.Core.List.{List, [], ◌∷◌, ◌++◌, map, append_nil, append_assoc, Memᴰ}
+use mathlib.Core.List.{List, [], ◌∷◌, ◌++◌, map, append-nil, append_assoc, Memᴰ}
 use lib.Dec.{ltb}
-use borrow.Author.Tests.{eqb_true}
+use borrow.Author.Tests.{eqb-true}
 use Rattle.rules.specs.Lists.{if◌then◌else◌, ◌==◌, any, has, keep, Pulled, missing, pulled, pull}
 use Rattle.rules.specs.Numbers.{Limits, names, beat_ticks}
 use Rattle.rules.specs.Words.{by_manager}
@@ -111,7 +111,7 @@ module _ (P : ℕ → Answer → Type 0) where
   within_deliver m T h H =
       by_if (λ (U : Tables). Within P U) (any (accepts m) T.threads)
       (λ e. within_wake (accepts m) (λ t. handed m) _ T
-      (λ t i a. subst (λ (n : ℕ). P n (handed m)) (eqb_true m.to t.name (and_left _ _ a)) h) H)
+      (λ t i a. subst (λ (n : ℕ). P n (handed m)) (eqb-true m.to t.name (and_left _ _ a)) h) H)
       (λ e. record {
         messages = λ x i. ⊎_elim (λ j. subst (λ (y : Message). P y.to (handed y)) (sym j) h) (H.messages x)
             (mem_insert _ m T.messages i);
@@ -215,7 +215,7 @@ module _ (P : ℕ → Answer → Type 0) where
             let k = pull_took (wanted_by s w) T.messages i in
             record {
               within = within_messages ms T k.less.member H;
-              hands = hands_runner s q e (subst (λ (n : ℕ). P n (handed m)) (eqb_true m.to s (and_left _ _ k.passes))
+              hands = hands_runner s q e (subst (λ (n : ℕ). P n (handed m)) (eqb-true m.to s (and_left _ _ k.passes))
                   (H.messages m k.from));
             }
 
@@ -390,7 +390,7 @@ module _
       }
 
   within_from : (es fs : Input) → Within (S es) (run L start es) → Within (S (es ++ fs)) (run L start (es ++ fs))
-  within_from es [] H = rw append_nil H
+  within_from es [] H = rw append-nil H
   within_from es (f ∷ fs) H =
       subst (λ (x : Input). Within (S x) (run L start x)) (append_assoc es (f ∷ []) fs)
       (within_from (es ++ (f ∷ [])) fs (event_within es f H))

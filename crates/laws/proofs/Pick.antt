@@ -1,10 +1,10 @@
 -- The order of the pick, in the words of document 02, CR 1, and refusal 2.
-use Prim.Native.Nat.{ℕ, zero, suc, ◌+◌, ◌-◌, ◌/◌, ◌%◌, ◌^◌, ◌≤◌, ◌<◌, zero_le}
+use Prim.Native.Nat.{ℕ, zero, suc, ◌+◌, ◌-◌, ◌/◌, ◌%◌, ◌^◌, ◌≤◌, ◌<◌, zero-le}
 use mathlib.Core.Path.{◌≡◌, refl, sym, ap, subst, ◌∙◌}
 use mathlib.Core.Logic.{◌⊎◌, inl, inr, ◌↔◌, ⊎_elim}
 use mathlib.Core.Bool.{Bool, true, false}
 use mathlib.Core.List.{map}
-use native.Mathlib.Nat.{eq_or_lt_of_le, eq_zero_or_pos}
+use native.Mathlib.Nat.{eq-or-lt_of_le, eq-zero-or-pos}
 use native.Mathlib.Decide.{dec_lt}
 use native.Mathlib.Omega.{arith}
 use lib.Count.{count_trailing_zeros}
@@ -41,7 +41,7 @@ first_of w f a zero = inr (refl, λ m l h. absurd (omega arith))
 first_of w f a (suc n) = go (pending w (f a)) refl (first_of w f (suc a) n)
   where
     more : (P : ℕ → Type 0) → P a → ((m : ℕ) → suc a ≤ m → P m) → (m : ℕ) → a ≤ m → P m
-    more P here later m l = ⊎_elim (λ (e : a ≡ m). subst P e here) (λ g. later m g) (eq_or_lt_of_le l)
+    more P here later m l = ⊎_elim (λ (e : a ≡ m). subst P e here) (λ g. later m g) (eq-or-lt_of_le l)
 
     go : {p : Picked} (b : Bool) → pending w (f a) ≡ b → FirstOr w f (suc a) n p → FirstOr w f a (suc n) (if b then taken (f a) else p)
     go true t later =
@@ -65,15 +65,15 @@ NoDevice w = (d : ℕ) → d < devices → pending w d ≡ false
 
 -- A number below 48 is one of 0 to 31, a transmitter or a receiver.
 no_device : (w : ℕ) → NoneOf w (λ d. d) 0 line_devices → NoneOf w transmitter 0 terminals → NoneOf w receiver 0 terminals → NoDevice w
-no_device w f g h d l = by_class (dec_lt d line_devices) (eq_zero_or_pos ((d - line_devices) % 2))
+no_device w f g h d l = by_class (dec_lt d line_devices) (eq-zero-or-pos ((d - line_devices) % 2))
   where
     t : ℕ
     t = (d - line_devices) / 2
 
     by_class : Dec (d < line_devices) → ((d - line_devices) % 2 ≡ zero) ⊎ (zero < (d - line_devices) % 2) → pending w d ≡ false
-    by_class (yes k) e = f d zero_le k
-    by_class (no k) (inl e) = subst (λ (x : ℕ). pending w x ≡ false) (omega arith) (g t zero_le (omega arith))
-    by_class (no k) (inr e) = subst (λ (x : ℕ). pending w x ≡ false) (omega arith) (h t zero_le (omega arith))
+    by_class (yes k) e = f d zero-le k
+    by_class (no k) (inl e) = subst (λ (x : ℕ). pending w x ≡ false) (omega arith) (g t zero-le (omega arith))
+    by_class (no k) (inr e) = subst (λ (x : ℕ). pending w x ≡ false) (omega arith) (h t zero-le (omega arith))
 
 -- The first pending device of the order is the foremost, and where there is none no device is pending.
 pub by_order : (w : ℕ) → Takes w (first_pending w pick_order) ⊎ ((first_pending w pick_order ≡ no_pick) × NoDevice w)
@@ -87,14 +87,14 @@ by_order w =
 
     go : {p q r : Picked} → FirstOr w (λ d. d) 0 line_devices p → FirstOr w transmitter 0 terminals q → FirstOr w receiver 0 terminals r
         → Answer (or_else p (or_else q r))
-    go (inl F) q r = inl (F.place, rw F.takes, omega (arith, F.high), F.set, on_a_line F.high (λ m l. F.clear m zero_le l))
+    go (inl F) q r = inl (F.place, rw F.takes, omega (arith, F.high), F.set, on_a_line F.high (λ m l. F.clear m zero-le l))
     go (inr N) (inl F) r =
         inl (
           transmitter F.place,
           rw (N.0, F.takes),
           omega (arith, F.high),
           F.set,
-          transmits F.place F.high refl (λ m. N.1 m zero_le) (λ s. F.clear s zero_le),
+          transmits F.place F.high refl (λ m. N.1 m zero-le) (λ s. F.clear s zero-le),
         )
     go (inr N) (inr O) (inl F) =
         inl (
@@ -102,7 +102,7 @@ by_order w =
           rw (N.0, O.0, F.takes),
           omega (arith, F.high),
           F.set,
-          receives F.place F.high refl (λ m. N.1 m zero_le) (λ s. O.1 s zero_le) (λ s. F.clear s zero_le),
+          receives F.place F.high refl (λ m. N.1 m zero-le) (λ s. O.1 s zero-le) (λ s. F.clear s zero-le),
         )
     go (inr N) (inr O) (inr P) = inr (rw (N.0, O.0, P.0), no_device w N.1 O.1 P.1)
 
@@ -117,11 +117,11 @@ pick_takes w p h =
     (by_order w)
 
 decided : (w : ℕ) → w < 2 ^ pending_bits → (Unservable w × (pick w ≡ no_pick)) ⊎ ((Unservable w → ⊥) × ((pick w).refusal ≡ 0))
-decided w h = go (eq_zero_or_pos w) (dec_lt w (2 ^ devices))
+decided w h = go (eq-zero-or-pos w) (dec_lt w (2 ^ devices))
   where
     go : (w ≡ zero) ⊎ (zero < w) → Dec (w < 2 ^ devices) → (Unservable w × (pick w ≡ no_pick))
         ⊎ ((Unservable w → ⊥) × ((pick w).refusal ≡ 0))
-    go (inl e) d = inl (inl (λ n. no_bit 0 w n (omega arith) zero_le), ap pick e ∙ pick_zero)
+    go (inl e) d = inl (inl (λ n. no_bit 0 w n (omega arith) zero-le), ap pick e ∙ pick_zero)
     go (inr p) (no f) =
         let l : 2 ^ devices ≤ w = omega arith in
         let b = high_bit spare devices w l h in

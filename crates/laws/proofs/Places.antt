@@ -5,7 +5,7 @@ use mathlib.Core.Logic.{⊎_elim, ◌≢◌}
 use mathlib.Core.Bool.{Bool, true, false, ◌&&◌, not, false≢true}
 use mathlib.Core.List.{List, [], ◌∷◌, ◌++◌, map}
 use native.Mathlib.Omega.{arith}
-use borrow.Author.Tests.{eqb_true, eq_eqb, ne_eqb}
+use borrow.Author.Tests.{eqb-true, eq-eqb, ne_eqb}
 use Rattle.rules.specs.Lists.{if◌then◌else◌, ◌==◌, one_if, keep, count, insert, has, times_in}
 use Rattle.rules.specs.Words.{by_state, by_runner}
 use Rattle.rules.specs.Tables.{in_state, named, runs_as}
@@ -48,7 +48,7 @@ clock_apart (Trapped k) e = (refl, refl)
 
 pub runs_self : (m s : ℕ) → runs_as m (Runs m s) ≡ true
 unfolding runs_as
-runs_self m s = eq_eqb m m refl
+runs_self m s = eq-eqb m m refl
 
 pub runs_other : (n m s : ℕ) → n ≢ m → runs_as n (Runs m s) ≡ false
 unfolding runs_as
@@ -260,7 +260,7 @@ new_keeps n t p {ts} {q = q} e s z P = record {
 }
   where
     own : one_if (named n t) ≡ 1
-    own = rw (eq_eqb n t.name (sym e))
+    own = rw (eq-eqb n t.name (sym e))
 
     other : (k : ℕ) → k ≢ n → one_if (named k t) ≡ 0
     other k h = rw (ne_eqb k t.name (λ x. h (x ∙ e)))
@@ -269,7 +269,7 @@ new_keeps n t p {ts} {q = q} e s z P = record {
     kind f k h = rw (s, h, and_false (named k t))
 
     own_ready : one_if (named n t && is_ready t.state) ≡ 1
-    own_ready = rw (eq_eqb n t.name (sym e), s)
+    own_ready = rw (eq-eqb n t.name (sym e), s)
 
     other_ready : (k : ℕ) → k ≢ n → one_if (named k t && is_ready t.state) ≡ 0
     other_ready k h = rw (ne_eqb k t.name (λ x. h (x ∙ e)))
@@ -304,11 +304,11 @@ module _ (set : List ℕ) where
   here_left k n ts = count_map (λ t. named n t && k t.state) (without_managers set) (left set ts)
 
   none_here : (k : State → Bool) (n : ℕ) (ts : List Thread) → has n set ≡ true → here k n (map (without_managers set) (left set ts)) ≡ 0
-  none_here k n ts o = here_left k n ts ∙ none_left (λ t. t.name) (λ m. has m set) _ n (λ t e. eqb_true n t.name (and_left _ _ e)) o ts
+  none_here k n ts o = here_left k n ts ∙ none_left (λ t. t.name) (λ m. has m set) _ n (λ t e. eqb-true n t.name (and_left _ _ e)) o ts
 
   all_here : (k : State → Bool) (n : ℕ) (ts : List Thread) → has n set ≡ false →
       here k n (map (without_managers set) (left set ts)) ≡ here k n ts
-  all_here k n ts o = here_left k n ts ∙ all_left (λ t. t.name) (λ m. has m set) _ n (λ t e. eqb_true n t.name (and_left _ _ e)) o ts
+  all_here k n ts o = here_left k n ts ∙ all_left (λ t. t.name) (λ m. has m set) _ n (λ t e. eqb-true n t.name (and_left _ _ e)) o ts
       ∙ (unfold here in refl)
 
   queue_left : (k : State → Bool) (q : List ℕ) (ts : List Thread) → ((n : ℕ) → here k n ts ≡ times_in q n) → (n : ℕ) →
@@ -316,8 +316,8 @@ module _ (set : List ℕ) where
   queue_left k q ts h n = go (has n set) refl
     where
       go : (b : Bool) → has n set ≡ b → here k n (map (without_managers set) (left set ts)) ≡ times_in (left_queue q) n
-      go true o = none_here k n ts o ∙ sym (none_left (λ m. m) (λ m. has m set) _ n (λ m e. eqb_true n m e) o q)
-      go false o = all_here k n ts o ∙ h n ∙ sym (all_left (λ m. m) (λ m. has m set) _ n (λ m e. eqb_true n m e) o q)
+      go true o = none_here k n ts o ∙ sym (none_left (λ m. m) (λ m. has m set) _ n (λ m e. eqb-true n m e) o q)
+      go false o = all_here k n ts o ∙ h n ∙ sym (all_left (λ m. m) (λ m. has m set) _ n (λ m e. eqb-true n m e) o q)
 
   run_left : (r : Runner) (ts : List Thread) → ((n : ℕ) → here is_running n ts ≡ one_if (runs_as n r)) → (n : ℕ) →
       here is_running n (map (without_managers set) (left set ts)) ≡ one_if (runs_as n (left_runner r))

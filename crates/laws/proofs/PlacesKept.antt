@@ -5,8 +5,8 @@ use mathlib.Core.Bool.{Bool, true, false, not}
 use mathlib.Core.List.{List, map}
 use native.Mathlib.Omega.{arith}
 use lib.Dec.{ltb}
-use lib.ListN.{length, length_map}
-use borrow.Author.Tests.{eqb_true, leb_false}
+use lib.ListN.{length, length-map}
+use borrow.Author.Tests.{eqb-true, leb-false}
 use Rattle.rules.specs.Lists.{if◌then◌else◌, ◌==◌, one_if, Pulled, missing, pulled, any, insert, has}
 use Rattle.rules.specs.Numbers.{Limits, names, full_slice, beat_ticks}
 use Rattle.rules.specs.Words.{by_wanted, by_manager}
@@ -45,7 +45,7 @@ mapped : {L : Limits} {T U : Tables} (f : Thread → Thread) → ((t : Thread) �
 mapped {L} {T} f h e l A I = record {
   agree = A;
   low = λ n k. I.low n (sym (names_mapped f h n T.threads) ∙ ap (any (named n)) (sym e) ∙ k);
-  few = omega (arith, I.few, ap length e, length_map T.threads f);
+  few = omega (arith, I.few, ap length e, length-map T.threads f);
   last = omega (arith, I.last);
 }
 
@@ -109,7 +109,7 @@ remove_inv {L} {T} set I = record {
   few = omega (
     arith,
     I.few,
-    length_map (left set T.threads) (without_managers set),
+    length-map (left set T.threads) (without_managers set),
     length_keep (λ t. not (has t.name set))
         T.threads,
     count_length (λ t. not (has t.name set)) T.threads,
@@ -200,7 +200,7 @@ create_inv {L} {T} p l room I = record {
     new = new_thread n p Ready
 
     go : (m : ℕ) (b : Bool) → (m == n) ≡ b → any (named m) (insert (λ t. ltb t.name n) new T.threads) ≡ true → m < names
-    go m true i e = omega (arith, eqb_true m n i, name_low T)
+    go m true i e = omega (arith, eqb-true m n i, name_low T)
     go m false i e = I.low m (count_any (named m) T.threads
         (omega (arith, any_count (named m) _ e, count_insert (named m) (λ t. ltb t.name n) new T.threads, ap one_if i)))
 
@@ -248,8 +248,8 @@ module _ {L : Limits} {T : Tables} (n s : ℕ) (runs_now : T.runner ≡ Runs n s
   unfolding serve call_rules receive
   serve_inv (Send to w) l f = send_inv n to w I
   serve_inv (Receive w) l f = received_inv w _
-  serve_inv CreateBrother l f = create_inv _ l (leb_false L.threads (length T.threads) (passed _ 5 _ (passed _ 6 _ f).1).0) I
-  serve_inv CreateSon l f = create_inv _ l (leb_false L.threads (length T.threads) (passed _ 5 _ f).0) I
+  serve_inv CreateBrother l f = create_inv _ l (leb-false L.threads (length T.threads) (passed _ 5 _ (passed _ 6 _ f).1).0) I
+  serve_inv CreateSon l f = create_inv _ l (leb-false L.threads (length T.threads) (passed _ 5 _ f).0) I
   serve_inv (Terminate m) l f = terminate_inv m
   serve_inv (SetManager k m) l f = set_inv _ k m
   serve_inv GetCpuTime l f = I

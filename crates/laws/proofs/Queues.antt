@@ -3,10 +3,10 @@ use Prim.Native.Nat.{ℕ, suc, ◌+◌, ◌≤◌, ◌<◌}
 use mathlib.Core.Path.{◌≡◌, refl, sym, ap, ◌∙◌}
 use mathlib.Core.Logic.{⊎_elim, ◌≢◌}
 use mathlib.Core.Bool.{Bool, true, false≢true}
-use mathlib.Core.List.{List, [], ◌∷◌, ◌++◌, append_nil, append_assoc}
+use mathlib.Core.List.{List, [], ◌∷◌, ◌++◌, append-nil, append_assoc}
 use native.Mathlib.Omega.{arith}
 use lib.ListN.{length}
-use borrow.Author.Tests.{eq_eqb, ne_eqb}
+use borrow.Author.Tests.{eq-eqb, ne_eqb}
 use Rattle.rules.specs.Lists.{if◌then◌else◌, ◌==◌, one_if, any, keep, count, has, times_in}
 use Rattle.laws.proofs.Tests.{by_if, same?}
 use Rattle.laws.proofs.Tally.{count_cons, count_append}
@@ -19,7 +19,7 @@ unfolding count
 times_none n = refl
 
 pub times_self : (n : ℕ) (q : List ℕ) → times_in (n ∷ q) n ≡ 1 + times_in q n
-times_self n q = count_cons (λ m. n == m) n q ∙ rw (eq_eqb n n refl)
+times_self n q = count_cons (λ m. n == m) n q ∙ rw (eq-eqb n n refl)
 
 pub times_other : (n m : ℕ) (q : List ℕ) → n ≢ m → times_in (m ∷ q) n ≡ times_in q n
 times_other n m q d = count_cons (λ k. n == k) m q ∙ rw (ne_eqb n m d) (omega arith)
@@ -46,7 +46,7 @@ pub no_longer : (xs ys : List ℕ) → ((n : ℕ) → times_in xs n ≤ times_in
 unfolding count
 no_longer [] ys h = omega arith
 no_longer (x ∷ xs) ys h =
-    let r = one_out x ys (omega (arith, h x, ap one_if (eq_eqb x x refl))) in
+    let r = one_out x ys (omega (arith, h x, ap one_if (eq-eqb x x refl))) in
     omega (arith, r.1, no_longer xs r.0 (λ n. omega (arith, h n, r.2 n)))
 
 -- ---- how many stand before a name
@@ -89,7 +89,7 @@ pub record Longer (q r : List ℕ) : Type 0 where
   pub whole : r ≡ q ++ more
 
 pub longer_same : {q r : List ℕ} → r ≡ q → Longer q r
-longer_same {q} e = record { more = []; whole = e ∙ sym (append_nil q) }
+longer_same {q} e = record { more = []; whole = e ∙ sym (append-nil q) }
 
 pub longer_trans : {q r s : List ℕ} → Longer q r → Longer r s → Longer q s
 longer_trans {q} a b = record {

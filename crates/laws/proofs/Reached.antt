@@ -7,7 +7,7 @@ use mathlib.Core.List.{List, [], ◌∷◌, ◌++◌, append_assoc}
 use native.Mathlib.Omega.{arith}
 use lib.Dec.{ltb}
 use lib.ListN.{length, replicate}
-use borrow.Author.Tests.{eq_eqb, ne_eqb, ltb_true, ltb_false}
+use borrow.Author.Tests.{eq-eqb, ne_eqb, ltb-true, ltb-false}
 use Rattle.rules.specs.Lists.{◌==◌, any, count, each, from_on}
 use Rattle.rules.specs.Numbers.{Limits, small, names, full_slice}
 use Rattle.rules.specs.Tables.{Tables, with_last, live, start}
@@ -104,7 +104,7 @@ module _ (L : Limits) (l : L.threads < names) where
     runner = refl;
     last = refl;
     length_is = refl;
-    taken = λ x h. or_left (x == 0) false (eq_eqb x 0 (omega arith));
+    taken = λ x h. or_left (x == 0) false (eq-eqb x 0 (omega arith));
     free = λ x h. rw (ne_eqb x 0 (λ e. omega arith));
   }
 
@@ -168,12 +168,12 @@ module _ (L : Limits) (l : L.threads < names) where
       go : (i : ℕ) → 1 ≤ i → c ≡ (names - 1 + i) % names → live c T ≡ false →
           ((j : ℕ) → 1 ≤ j → j < i → live ((names - 1 + j) % names) T ≡ true) →
           (early : Bool) → ltb i (n + 2) ≡ early → (late : Bool) → ltb (n + 2) i ≡ late → c ≡ suc n
-      go i some e dead passed true a late b = let h = ltb_true i (n + 2) a in absurd (clash (S.taken c (omega arith)) dead)
+      go i some e dead passed true a late b = let h = ltb-true i (n + 2) a in absurd (clash (S.taken c (omega arith)) dead)
       go i some e dead passed false a true b =
-          let h = ltb_true (n + 2) i b in
+          let h = ltb-true (n + 2) i b in
           let q : (names - 1 + (n + 2)) % names ≡ suc n = omega arith in
           absurd (clash (ap (λ x. live x T) (sym q) ∙ passed (n + 2) (omega arith) h) (S.free (suc n) (omega arith)))
-      go i some e dead passed false a false b = let h = ltb_false i (n + 2) a in let k = ltb_false (n + 2) i b in omega arith
+      go i some e dead passed false a false b = let h = ltb-false i (n + 2) a in let k = ltb-false (n + 2) i b in omega arith
 
 -- ---- a round from the start
 

@@ -5,7 +5,7 @@ use mathlib.Core.Logic.{◌↔◌, ◌≢◌, ◌⊎◌, inl, inr, ⊎_elim}
 use mathlib.Core.Bool.{Bool, true, false, ◌||◌, not, true≢false, false≢true}
 use mathlib.Core.List.{List, [], ◌∷◌, map, Memᴰ}
 use native.Mathlib.Omega.{arith}
-use borrow.Author.Tests.{eq_eqb}
+use borrow.Author.Tests.{eq-eqb}
 use Rattle.rules.specs.Lists.{if◌then◌else◌, ◌==◌, all, any, has}
 use Rattle.rules.specs.Numbers.{Limits}
 use Rattle.rules.specs.Tables.{Tables, live, me}
@@ -79,7 +79,7 @@ none_exactly (r ∷ rs) o = go r.holds (none_exactly rs (and_right (not (r.numbe
   where
     go : (b : Bool) → (first_of rs ≡ 0) ↔ (any (λ s. s.holds) rs ≡ false) →
         ((if b then r.number else first_of rs) ≡ 0) ↔ ((b || any (λ s. s.holds) rs) ≡ false)
-    go true later = (λ g. absurd (clash (and_left _ _ o) (ap not (eq_eqb r.number 0 g))), λ x. absurd (true≢false x))
+    go true later = (λ g. absurd (clash (and_left _ _ o) (ap not (eq-eqb r.number 0 g))), λ x. absurd (true≢false x))
     go false later = later
 
 -- ---- the ten tests in the document's words

@@ -5,7 +5,7 @@ use mathlib.Core.Logic.{◌⊎◌, inl, inr, ⊎_elim, ◌≢◌}
 use mathlib.Core.Bool.{Bool, true, false, ◌||◌, not, false≢true}
 use mathlib.Core.List.{List, [], ◌∷◌, map, Memᴰ}
 use native.Mathlib.Omega.{arith}
-use borrow.Author.Tests.{eqb_true, eq_eqb, ne_eqb}
+use borrow.Author.Tests.{eqb-true, eq-eqb, ne_eqb}
 use Rattle.rules.specs.Lists.{if◌then◌else◌, ◌==◌, any, has, keep, count, times_in, missing, pulled, behind, pull}
 use Rattle.rules.specs.Numbers.{Limits, names}
 use Rattle.rules.specs.Tables.{Tables, with_threads, with_held, with_managers, in_state, named, live, of_thread, change, manager, set_entry}
@@ -101,7 +101,7 @@ pub held_word_is_taken : (L : Limits) (T : Tables) (bytes : List ℕ) (d : ℕ) 
 unfolding serve take_held
 held_word_is_taken L T bytes d R A h m e =
     let few = (tested_ruled L T R).fits.waiters d in
-    let q = pull_only (held_for d) T.held h (omega arith) m (eq_eqb h.device d e) in
+    let q = pull_only (held_for d) T.held h (omega arith) m (eq-eqb h.device d e) in
     let s = goes_on A (with_held (keep (λ x. not (x.device == d)) T.held) T handing Result h.word)
     (ap (take_held (requester T) d T) q) refl in (
       ap (λ x. x.decision.answer) s,
@@ -153,7 +153,7 @@ device_is_waited_for L T bytes d R A none =
         stopped = map (turned (named n) (in_state (Device d) Nothing)) T.threads
 
         there : Memᴰ w stopped
-        there = subst (λ (v : Thread). Memᴰ v stopped) (rw (eq_eqb n t.name e))
+        there = subst (λ (v : Thread). Memᴰ v stopped) (rw (eq-eqb n t.name e))
             (map_mem (turned (named n) (in_state (Device d) Nothing)) T.threads m)
 
         other : (x : ℕ) (q : List ℕ) → T.ready ≡ x ∷ q → turned (named x) (in_state Running Nothing) w ≡ w
@@ -168,7 +168,7 @@ ended_is_dead : (n : ℕ) (T : Tables) → live n (end n T) ≡ false
 ended_is_dead n T = none_any (named n) (end n T).threads (λ u m. go u m (named n u) refl)
   where
     go : (u : Thread) → Memᴰ u (end n T).threads → (b : Bool) → named n u ≡ b → named n u ≡ false
-    go u m true e = absurd (clash (ended_holds T.threads n) (ap (λ (x : ℕ). has x (ended_set T.threads n)) (eqb_true n u.name e)
+    go u m true e = absurd (clash (ended_holds T.threads n) (ap (λ (x : ℕ). has x (ended_set T.threads n)) (eqb-true n u.name e)
         ∙ (ending_forgets n T).threads u m))
     go u m false e = e
 
@@ -210,7 +210,7 @@ module _ {B : Type 0} (d : B) (n : ℕ) (g : Thread → Thread) (same : (t : Thr
     where
       go : (b : Bool) → named m t ≡ b → of_thread d f m (map (turned (named n) g) ts) ≡ of_thread d f m ts →
           (if b then f (turned (named n) g t) else of_thread d f m (map (turned (named n) g) ts)) ≡ (if b then f t else of_thread d f m ts)
-      go true i later = rw (ne_eqb n t.name (λ j. e (eqb_true m t.name i ∙ sym j)))
+      go true i later = rw (ne_eqb n t.name (λ j. e (eqb-true m t.name i ∙ sym j)))
       go false i later = later
 
   of_same : (f h : Thread → B) → ((t : Thread) → f t ≡ h t) → (ts : List Thread) → of_thread d f n ts ≡ of_thread d h n ts

@@ -9,7 +9,7 @@ use mathlib.Core.List.{List, [], ◌∷◌, ◌++◌}
 use native.Mathlib.Omega.{arith}
 use lib.Dec.{ltb}
 use lib.ListN.{length}
-use borrow.Author.Tests.{eqb_true, ne_eqb, ltb_true, ltb_false}
+use borrow.Author.Tests.{eqb-true, ne_eqb, ltb-true, ltb-false}
 use Rattle.rules.specs.Lists.{one_if, any, count, from_on}
 use Rattle.rules.specs.Numbers.{Limits, small, names}
 use Rattle.rules.specs.Tables.{Tables, named, live, start}
@@ -85,7 +85,7 @@ had_few n a k (t ∷ ts) l =
       count_le_add (λ i. named (after n i) t || any (named (after n i)) ts) (λ i. named (after n i) t) (λ i. any (named (after n i)) ts)
           (from_on a k) (λ i. either (named (after n i) t) (any (named (after n i)) ts)),
       one_passes (λ i. named (after n i) t) a k
-          (λ i j x y z e f. absurd (omega (arith, eqb_true (after n i) t.name e, eqb_true (after n j) t.name f))),
+          (λ i j x y z e f. absurd (omega (arith, eqb-true (after n i) t.name e, eqb-true (after n j) t.name f))),
     )
   where
     either : (b c : Bool) → one_if (b || c) ≤ one_if b + one_if c
@@ -158,7 +158,7 @@ module _ (L : Limits) (few : L.threads < names) (n : ℕ) (low : n < names) (U :
           by_steps : (s : ℕ) → 1 ≤ s → next_name T ≡ after T.last s → ((j : ℕ) → 1 ≤ j → j < s → live (after T.last j) T ≡ true) →
               (b : Bool) → ltb (R.steps + s) names ≡ b → Onward L n U k T bytes
           by_steps s some g p true l =
-              let h = ltb_true (R.steps + s) names l in
+              let h = ltb-true (R.steps + s) names l in
               let at : next_name T ≡ after n (R.steps + s) = omega (arith, R.last) in
               next (next_name T) e (λ i. omega arith) (record {
                 steps = R.steps + s;
@@ -174,7 +174,7 @@ module _ (L : Limits) (few : L.threads < names) (n : ℕ) (low : n < names) (U :
                     (creation_brings parent T (after n i) (ap (live (after n i)) (sym made) ∙ x));
               })
           by_steps s some g p false l =
-              let h = ltb_false (R.steps + s) names l in
+              let h = ltb-false (R.steps + s) names l in
               let q : R.steps + (names - 1 - R.steps) ≡ names - 1 = omega (arith, R.below) in
               over (next_name T) e
               (rw q at (passed_over k T R (names - 1 - R.steps) (omega arith) (λ j a b. p j a (omega (arith, R.below)))))

@@ -6,7 +6,7 @@ use mathlib.Core.Bool.{Bool, true, false}
 use mathlib.Core.List.{List, map, Memᴰ}
 use native.Mathlib.Omega.{arith}
 use lib.Dec.{leb}
-use borrow.Author.Tests.{eq_eqb, leb_true, leb_false, le_leb}
+use borrow.Author.Tests.{eq-eqb, leb-true, leb-false, le-leb}
 use Rattle.rules.specs.Lists.{any, count, insert, chain}
 use Rattle.rules.specs.Words.{by_wanted}
 use Rattle.rules.specs.Tables.{named, manager, new_thread}
@@ -30,7 +30,7 @@ abbrev pub by_receiver : Message → Message → Bool
 by_receiver m n = leb m.to n.to
 
 receivers : Transitive by_receiver
-receivers x y z e f = le_leb x.to z.to (omega (arith, leb_true x.to y.to e, leb_true y.to z.to f))
+receivers x y z e f = le-leb x.to z.to (omega (arith, leb-true x.to y.to e, leb-true y.to z.to f))
 
 pub less_order : {ms ns : List Message} → Less ms ns → chain by_receiver ms ≡ true → chain by_receiver ns ≡ true
 less_order l c = l.ordered by_receiver receivers c
@@ -38,7 +38,7 @@ less_order l c = l.ordered by_receiver receivers c
 pub order_insert : (a : Message) (ms : List Message) → chain by_receiver ms ≡ true →
     chain by_receiver (insert (λ x. leb x.to a.to) a ms) ≡ true
 order_insert a ms c =
-    chain_insert by_receiver receivers a ms (λ x m e. le_leb a.to x.to (omega (arith, leb_false x.to a.to e))) c
+    chain_insert by_receiver receivers a ms (λ x m e. le-leb a.to x.to (omega (arith, leb-false x.to a.to e))) c
 
 -- ---- a thread that is as it was, among others of which all that lived live, with fewer messages
 
@@ -96,7 +96,7 @@ new_right ts ms n p s d = record { entries = no_entry ts n; detail = d; answer =
 -- a notice counts among those of its sender
 pub notice_counts : (m : Message) (ms : List Message) → Memᴰ m ms → is_ordinary m.kind ≡ false → (n : ℕ) → n ≡ m.from →
     1 ≤ count (notice_of n) ms
-notice_counts m ms i k n e = any_count (notice_of n) ms (member_any (notice_of n) ms m i (rw (k, eq_eqb m.from n (sym e))))
+notice_counts m ms i k n e = any_count (notice_of n) ms (member_any (notice_of n) ms m i (rw (k, eq-eqb m.from n (sym e))))
 
 -- ---- some threads change
 

@@ -6,8 +6,8 @@ use mathlib.Core.Bool.{Bool, true, false, ◌&&◌, not, false≢true}
 use mathlib.Core.List.{List, [], ◌∷◌, map, Memᴰ}
 use native.Mathlib.Omega.{arith}
 use lib.Dec.{ltb}
-use lib.ListN.{length, length_map}
-use borrow.Author.Tests.{eqb_true, eqb_false}
+use lib.ListN.{length, length-map}
+use borrow.Author.Tests.{eqb-true, eqb-false}
 use Rattle.rules.specs.Lists.{◌==◌, one_if, any, keep, count, insert, times_in}
 use Rattle.rules.specs.Numbers.{Limits, devices}
 use Rattle.rules.specs.Tables.{Tables, named, live, runs, runs_as}
@@ -50,7 +50,7 @@ passed_length p ts q h =
     omega (
       arith,
       no_longer q (map (λ t. t.name) (keep p ts)) (λ n. omega (arith, h n, times_kept p n ts)),
-      length_map (keep p ts)
+      length-map (keep p ts)
           (λ t. t.name),
       length_keep p ts,
     )
@@ -155,7 +155,7 @@ module _ (L : Limits) (T : Tables) (fits : Fits L T) where
   sender_lives : (n : ℕ) → 1 ≤ count (notice_of n) T.messages → 1 ≤ count (named n) T.threads
   sender_lives n h =
       let r = any_member (notice_of n) T.messages (count_any (notice_of n) T.messages h) in
-      let e : r.0.from ≡ n = eqb_true _ _ (and_right (is_notice r.0) _ r.2) in
+      let e : r.0.from ≡ n = eqb-true _ _ (and_right (is_notice r.0) _ r.2) in
       any_count (named n) T.threads (rw e at (fits.messages r.0 r.1).from_live)
 
   -- A running thread has no notice under way.
@@ -167,7 +167,7 @@ module _ (L : Limits) (T : Tables) (fits : Fits L T) where
       go m k true e =
           let w : awaits m.to t ≡ true =
           (fits.messages m k).notice (not_true (is_ordinary m.kind) (and_left (is_notice m) _ e)) t i
-          (sym (eqb_true _ _ (and_right (is_notice m) _ e))) in
+          (sym (eqb-true _ _ (and_right (is_notice m) _ e))) in
           absurd (false≢true (sym (asleep _ _ _ t.state w).0 ∙ h))
       go m k false e = refl
 
@@ -178,9 +178,9 @@ notices_room L T fits n l none =
     omega (
       arith,
       no_longer (n ∷ senders) (map (λ t. t.name) T.threads) at_most,
-      length_map (keep is_notice T.messages) (λ m. m.from),
+      length-map (keep is_notice T.messages) (λ m. m.from),
       length_keep is_notice T.messages,
-      length_map T.threads (λ t. t.name),
+      length-map T.threads (λ t. t.name),
     )
   where
     senders : List ℕ
@@ -213,7 +213,7 @@ module _ (L : Limits) (T : Tables) (inv : Inv L T) (fits : Fits L T) (n s : ℕ)
   pub notice_room_used : length T.messages < blocks_used T + length T.threads
   notice_room_used =
       let r = runner_thread L T inv n s e in
-      let k : n ≡ r.0.name = eqb_true _ _ (and_left (named n r.0) _ r.2) in
+      let k : n ≡ r.0.name = eqb-true _ _ (and_left (named n r.0) _ r.2) in
       omega (
         arith,
         length_count T.messages,
@@ -237,7 +237,7 @@ held_room L T fits d l none =
       arith,
       length_insert (λ h. ltb h.device d) new T.held,
       up_few (λ h. h.device) 0 devices (insert (λ h. ltb h.device d) new T.held) (omega arith)
-          (up_insert (λ h. h.device) new T.held (λ h m. eqb_false h.device d (not_any (held_for d) T.held h none m))
+          (up_insert (λ h. h.device) new T.held (λ h m. eqb-false h.device d (not_any (held_for d) T.held h none m))
           fits.held_order)
           (λ h m. (
             omega arith,

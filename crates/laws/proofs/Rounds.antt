@@ -5,9 +5,9 @@ use mathlib.Core.Logic.{◌⊎◌, inl, inr, ⊎_elim, ◌≢◌}
 use mathlib.Core.Bool.{Bool, true, false, ◌&&◌, not, true≢false, false≢true}
 use mathlib.Core.List.{List, [], ◌∷◌, map, Memᴰ}
 use native.Mathlib.Omega.{arith}
-use native.Mathlib.Nat.{add_zero, add_suc}
-use lib.ListN.{length, length_append, length_map}
-use borrow.Author.Tests.{eq_eqb, ne_eqb}
+use native.Mathlib.Nat.{add-zero, add-suc}
+use lib.ListN.{length, length-append, length-map}
+use borrow.Author.Tests.{eq-eqb, ne_eqb}
 use Rattle.rules.specs.Lists.{one_if, any, has, keep, count, times}
 use Rattle.rules.specs.Tables.{named}
 use Rattle.rules.specs.Ending.{depends, grow, ended_set}
@@ -23,8 +23,8 @@ module _ {A : Type 0} where
   -- b times behind a times
   pub times_add : (b a : ℕ) (f : A → A) (x : A) → times (b + a) f x ≡ times b f (times a f x)
   unfolding times
-  times_add b zero f x = rw add_zero
-  times_add b (suc a) f x = rw add_suc (times_add b a f (f x))
+  times_add b zero f x = rw add-zero
+  times_add b (suc a) f x = rw add-suc (times_add b a f (f x))
 
   -- what a step does not change, no number of steps changes
   pub times_still : (k : ℕ) (f : A → A) (x : A) → f x ≡ x → times k f x ≡ x
@@ -58,8 +58,8 @@ module _ (ts : List Thread) (set : List ℕ) where
   unfolding grow
   grow_length = omega (
     arith,
-    length_append set (map (λ t. t.name) (keep (joins set) ts)),
-    length_map (keep (joins set) ts) (λ t. t.name),
+    length-append set (map (λ t. t.name) (keep (joins set) ts)),
+    length-map (keep (joins set) ts) (λ t. t.name),
     length_keep (joins set) ts,
   )
 
@@ -96,8 +96,8 @@ module _ (ts : List Thread) (set : List ℕ) where
       joined : (t : Thread) → Memᴰ t ts → has t.name (map (λ u. u.name) (keep (joins set) ts)) ≡ true → joins set t ≡ true
       joined t m h =
           let s = has_kept (λ u. u.name) (joins set) ts t.name h in
-          let e = only_one (named t.name) ts (once t.name) t s.0 m s.1 (eq_eqb t.name t.name refl)
-          (eq_eqb t.name s.0.name s.3) in
+          let e = only_one (named t.name) ts (once t.name) t s.0 m s.1 (eq-eqb t.name t.name refl)
+          (eq-eqb t.name s.0.name s.3) in
           ap (joins set) e ∙ s.2
 
       each : (t : Thread) → Memᴰ t ts → one_if (not (has t.name set)) ≡ one_if (not (has t.name (grow ts set)))
@@ -149,7 +149,7 @@ module _ (ts : List Thread) (n : ℕ) where
         arith,
         length_count ts,
         count_add_in (λ t. true) (λ t. not (has t.name (n ∷ []))) (named n) ts
-            (λ t m. ⊎_elim (λ e. rw (e.1, eq_eqb n t.name (sym e.0))) (λ e. rw (e.1, ne_eqb n t.name (λ q. e.0 (sym q))))
+            (λ t m. ⊎_elim (λ e. rw (e.1, eq-eqb n t.name (sym e.0))) (λ e. rw (e.1, ne_eqb n t.name (λ q. e.0 (sym q))))
             (same? t.name n)),
       )
 

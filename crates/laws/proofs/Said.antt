@@ -5,7 +5,7 @@ use mathlib.Core.Logic.{◌≢◌}
 use mathlib.Core.Bool.{Bool, true}
 use mathlib.Core.List.{[], ◌∷◌, ◌++◌}
 use native.Mathlib.Omega.{arith}
-use borrow.Author.Tests.{eqb_true, lt_ltb, ne_eqb}
+use borrow.Author.Tests.{eqb-true, lt-ltb, ne_eqb}
 use Rattle.rules.specs.Lists.{if◌then◌else◌, all, is_byte, number_from, number, four_bytes}
 use Rattle.rules.specs.Numbers.{wrap}
 use Rattle.rules.specs.Tags.{facts_in, tag_facts, rule_in, argument_rule, meets}
@@ -41,27 +41,27 @@ pub naming_requests_say : (n : ℕ) → n < 256 →
     × (decode (asking 6 n) ≡ ByRunner (SetManager SysBp n))
 unfolding decode all field_of tag_facts facts_in meaning argument_rule rule_in meets asked_in request
 naming_requests_say n h = (
-  λ d. rw (lt_ltb n 256 h, one_back n, ne_eqb n 255 d),
-  rw (lt_ltb n 256 h, one_back n),
-  rw (lt_ltb n 256 h, one_back n),
-  rw (lt_ltb n 256 h, one_back n),
+  λ d. rw (lt-ltb n 256 h, one_back n, ne_eqb n 255 d),
+  rw (lt-ltb n 256 h, one_back n),
+  rw (lt-ltb n 256 h, one_back n),
+  rw (lt-ltb n 256 h, one_back n),
 )
 
 -- "9 WAITFORIO", of "devices 0 to 47".
 pub device_request_says : (d : ℕ) → d < 48 → decode (asking 9 d) ≡ ByRunner (WaitForIo d)
 unfolding decode all field_of tag_facts facts_in meaning argument_rule rule_in meets asked_in request
-device_request_says d h = rw (lt_ltb d 256 (omega arith), one_back d, lt_ltb d 48 h)
+device_request_says d h = rw (lt-ltb d 256 (omega arith), one_back d, lt-ltb d 48 h)
 
 -- "16 send (name 1, word 4)"
 pub send_says : (n w : ℕ) → n < 256 → w < wrap → decode (16 ∷ 0 ∷ 5 ∷ n ∷ four_bytes w) ≡ ByRunner (Send n w)
 unfolding decode all field_of tag_facts facts_in meaning
-send_says n w h k = rw (lt_ltb n 256 h, four_are_bytes w, four_back w k)
+send_says n w h k = rw (lt-ltb n 256 h, four_are_bytes w, four_back w k)
 
 -- "17 receive (name 1)", "255 .. anybody"
 pub receive_says : (decode (17 ∷ 0 ∷ 1 ∷ 255 ∷ []) ≡ ByRunner (Receive Anybody))
     × ((n : ℕ) → n < 255 → decode (17 ∷ 0 ∷ 1 ∷ n ∷ []) ≡ ByRunner (Receive (Only n)))
 unfolding decode all field_of tag_facts facts_in meaning
-receive_says = (refl, λ n h. rw (lt_ltb n 256 (omega arith), ne_eqb n 255 (λ e. omega (arith, e))))
+receive_says = (refl, λ n h. rw (lt-ltb n 256 (omega arith), ne_eqb n 255 (λ e. omega (arith, e))))
 
 -- "19 trap (kind 1, cause 4)", "kinds 0 program, 1 TLB, 2 SYS/Bp"
 pub trap_says : (c : ℕ) → c < wrap →
@@ -97,6 +97,6 @@ interrupt_says p w o h k =
           ∙ ap₂ (λ (x y : ℕ). interrupt_of (pick x) y) (eight_back p h) (four_back w k)
           ∙ ap (λ (x : Picked). interrupt_of x w) r.1,
       r.2,
-      eqb_true (p / 2 ^ r.0 % 2) 1 r.3,
+      eqb-true (p / 2 ^ r.0 % 2) 1 r.3,
       r.4,
     )

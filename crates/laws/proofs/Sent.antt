@@ -7,7 +7,7 @@ use mathlib.Core.Bool.{Bool, true, false, ◌&&◌, ◌||◌, not, false≢true}
 use mathlib.Core.List.{List, [], ◌∷◌, map, Memᴰ}
 use native.Mathlib.Omega.{arith}
 use lib.Dec.{ltb}
-use borrow.Author.Tests.{eqb_true, eq_eqb, ne_eqb}
+use borrow.Author.Tests.{eqb-true, eq-eqb, ne_eqb}
 use Rattle.rules.specs.Lists.{if◌then◌else◌, ◌==◌, one_if, any, has, keep, count, insert, Pulled, missing, pulled, pull}
 use Rattle.rules.specs.Numbers.{Limits, names, beat_ticks}
 use Rattle.rules.specs.Words.{by_manager, by_runner}
@@ -189,7 +189,7 @@ module _ (p : Message → Bool) where
         I.agree.once t.name,
         I.agree.run t.name,
         ap (λ (r : Runner). one_if (runs_as t.name r)) h,
-        ap one_if (eq_eqb t.name s (sym (eqb_true s t.name e))),
+        ap one_if (eq-eqb t.name s (sym (eqb-true s t.name e))),
       ))))
 
   stop_due : {L : Limits} {T : Tables} → Inv L T → Calm T.threads → (s q : ℕ) → T.runner ≡ Runs s q → (to : State) →
@@ -243,7 +243,7 @@ module _ (p : Message → Bool) where
 
       given : (t : Thread) → accepts m t ≡ true → owes p (in_state Ready (handed m) t) ≡ p m
       given t e = unfold owes any in
-          (ap (any p) (handed_back m t.name (eqb_true m.to t.name (and_left (named m.to t) _ e))) ∙ or_none (p m))
+          (ap (any p) (handed_back m t.name (eqb-true m.to t.name (and_left (named m.to t) _ e))) ∙ or_none (p m))
 
       pointwise : (t : Thread) → Memᴰ t T.threads →
           one_if (owes p (turned (accepts m) (λ u. in_state Ready (handed m) u) t)) ≡ one_if (owes p t) + one_if (accepts m t && p m)
@@ -359,7 +359,7 @@ module _ (p : Message → Bool) where
           (as_message n (of_thread Nothing (λ t. t.answer) n o.tables.threads))
       front n true e =
           let r = live_member ts n e in
-          count_only (named n) (owes p) ts (once n) r.0 r.1 (eq_eqb n r.0.name r.2)
+          count_only (named n) (owes p) ts (once n) r.0 r.1 (eq-eqb n r.0.name r.2)
           ∙ unfold owes in (ap (λ (x : ℕ). one_if (any p (as_message x r.0.answer))) (sym r.2) ∙ sym (one_answer n r.0.answer))
           ∙ ap (λ (a : Answer). count p (as_message n a)) (sym (of_only Nothing (λ t. t.answer) n ts (once n) r.0 r.1 (sym r.2)))
       front n false e =
@@ -378,7 +378,7 @@ module _ (p : Message → Bool) where
 
           member_named : (t : Thread) × Memᴰ t o.tables.threads × (t.name ≡ n)
               × (of_thread Nothing (λ t. t.answer) n o.tables.threads ≡ t.answer) → any (named n) o.tables.threads ≡ true
-          member_named r = member_any (named n) ts r.0 r.1 (eq_eqb n r.0.name (sym r.2))
+          member_named r = member_any (named n) ts r.0 r.1 (eq-eqb n r.0.name (sym r.2))
 
       go : (r : Runner) (q : List ℕ) → o.tables.runner ≡ r → o.tables.ready ≡ q →
           due (by_runner (run_next q o) (λ n s. o) r).tables
@@ -631,7 +631,7 @@ module _ (p : Message → Bool) where
 
             on : Dues (ByRunner (Receive w)) (decided 0 (received (me T.runner) w T (pulled m ms)))
             on = unfold received hands is_receive call_is ends queues sends count in
-                rw (eq_eqb (me T.runner) (me T.runner) refl) (omega (arith, none_lost T))
+                rw (eq-eqb (me T.runner) (me T.runner) refl) (omega (arith, none_lost T))
 
     no_receive : (e : Event) → L.threads < names → refusal L T e ≡ 0 → is_receive (λ w. true) e ≡ false → Dues e (settle 0 T e)
     no_receive e few a h = by_dispatching e few a (plain e h) (not_received e (settle 0 T e).decision h)

@@ -6,7 +6,7 @@ use mathlib.Core.Bool.{Bool, true, false, ◌&&◌, ◌||◌, not}
 use mathlib.Core.List.{List, [], ◌∷◌, ◌++◌, map, Memᴰ}
 use native.Mathlib.Omega.{arith}
 use lib.ListN.{length, get_or, set}
-use borrow.Author.Tests.{eqb_true, eq_eqb, ne_eqb}
+use borrow.Author.Tests.{eqb-true, eq-eqb, ne_eqb}
 use Rattle.rules.specs.Lists.{if◌then◌else◌, one_if, any, keep, count}
 use Rattle.rules.specs.Numbers.{full_slice, beat_ticks}
 use Rattle.rules.specs.Tables.{Tables, with_runner, with_time, with_threads, with_ready, with_clock, with_messages, with_held, in_state}
@@ -156,7 +156,7 @@ module _ (T : Tables) (once : (n : ℕ) → count (named n) T.threads ≤ 1) (i 
       ap₂ (λ (ns : List ℕ) (l : List Thread). with_ready (T.ready ++ ns) (with_threads l T))
       (ap (map (λ t. t.name)) (keep_one p T.threads i z c inside e))
       (map_one p (in_state Ready a) T.threads i z c inside e
-      ∙ sym (map_one (named x_name) (in_state Ready a) T.threads i z (once x_name) inside (eq_eqb x_name x_name refl)))
+      ∙ sym (map_one (named x_name) (in_state Ready a) T.threads i z (once x_name) inside (eq-eqb x_name x_name refl)))
     where
       x_name : ℕ
       x_name = (get_or T.threads i z).name
@@ -186,7 +186,7 @@ module _ (T : Tables) (once : (n : ℕ) → count (named n) T.threads ≤ 1) whe
       wake_by_name (λ t. named n t && q t) (λ t. a) T ≡ wake n a T
   wake_named n q a h =
       let r = any_place (λ t. named n t && q t) T.threads h in
-      let e : n ≡ (get_or T.threads r.1 r.0).name = eqb_true _ _ (and_left (named n (get_or T.threads r.1 r.0)) _ r.3) in
+      let e : n ≡ (get_or T.threads r.1 r.0).name = eqb-true _ _ (and_left (named n (get_or T.threads r.1 r.0)) _ r.3) in
       wake_one T once r.1 r.0 r.2 (λ t. named n t && q t) a few r.3 ∙ ap (λ (k : ℕ). wake k a T) (sym e)
     where
       few : count (λ t. named n t && q t) T.threads ≤ 1
@@ -235,7 +235,7 @@ module _ (T : Tables) where
       beat T ≡ wake_those (λ t. on_clock t.state) (λ t. Result (one_more T.beats)) T.clock
       (with_clock [] (with_time 0 (one_more T.beats) T))
   unfolding beat
-  beat_strikes e = rw (eq_eqb (T.since + 1) beat_ticks e)
+  beat_strikes e = rw (eq-eqb (T.since + 1) beat_ticks e)
 
   -- Another tick only counts.
   pub beat_passes : T.since + 1 ≢ beat_ticks → beat T ≡ with_time (T.since + 1) T.beats T

@@ -9,7 +9,7 @@ use mathlib.Core.List.{List, [], ◌∷◌, Memᴰ}
 use native.Mathlib.Omega.{arith}
 use lib.Dec.{leb, ltb}
 use lib.ListN.{length}
-use borrow.Author.Tests.{eqb_true, eqb_false, eq_eqb, ne_eqb, leb_true, le_leb, ltb_true, lt_ltb}
+use borrow.Author.Tests.{eqb-true, eqb-false, eq-eqb, ne_eqb, leb-true, le-leb, ltb-true, lt-ltb}
 use Rattle.rules.specs.Lists.{◌==◌, all, any, count, chain}
 use Rattle.rules.specs.Numbers.{Limits, names, full_slice, beat_ticks, devices, wrap}
 use Rattle.rules.specs.Tables.{Tables, named, live, manager}
@@ -48,7 +48,7 @@ module _ (T : Tables) where
   tested_entry : (own : ℕ) (m : Manager) → entry_right T own m ≡ true → Entry T.threads own m
   unfolding Entry
   tested_entry own Unset h = tt
-  tested_entry own (Set n) h = (and_left (live n T) _ h, eqb_false n own (not_true _ (and_right (live n T) _ h)))
+  tested_entry own (Set n) h = (and_left (live n T) _ h, eqb-false n own (not_true _ (and_right (live n T) _ h)))
   tested_entry own Gone h = tt
 
   tested_entries : (t : Thread) → entries_right T t ≡ true → (k : TrapKind) → Entry T.threads t.name (manager k t.managers)
@@ -71,7 +71,7 @@ module _ (T : Tables) where
   tested_detail n g Ready a b c d = tt
   tested_detail n g (Receiving w) a b c d = (b, not_true _ d)
   tested_detail n g Clock a b c d = tt
-  tested_detail n g (Device e) a b c d = ltb_true e devices a
+  tested_detail n g (Device e) a b c d = ltb-true e devices a
   tested_detail n g (Trapped k) a b c d = c
 
 module _ (L : Limits) (T : Tables) (pass : table_rules L T ≡ true) where
@@ -103,7 +103,7 @@ module _ (L : Limits) (T : Tables) (pass : table_rules L T ≡ true) where
 
   held_ranged : (h : Held) → Memᴰ h T.held → (h.device < devices) × (h.word < wrap)
   held_ranged x m = let h = all_at _ T.held ranged.5 x m in
-      (ltb_true x.device devices (and_left _ _ h), ltb_true x.word wrap (and_right (ltb x.device devices) _ h))
+      (ltb-true x.device devices (and_left _ _ h), ltb-true x.word wrap (and_right (ltb x.device devices) _ h))
 
   living : (t : Thread) → Memᴰ t T.threads → (wanted_live T t.state ≡ true) × (entries_right T t ≡ true)
   living t m =
@@ -150,18 +150,18 @@ module _ (L : Limits) (T : Tables) (pass : table_rules L T ≡ true) where
   tested_inv = record {
     agree = tested_places T once (test (places_agree T) (tail (tail (tail (head refl)))));
     low = λ n h. let r = live_member T.threads n h in
-        omega (arith, ltb_true r.0.name names (all_at (λ t. ltb t.name names) T.threads naming.1 r.0 r.1), r.2);
-    few = leb_true (length T.threads) L.threads naming.2;
-    last = ltb_true T.last names ranged.0;
+        omega (arith, ltb-true r.0.name names (all_at (λ t. ltb t.name names) T.threads naming.1 r.0 r.1), r.2);
+    few = leb-true (length T.threads) L.threads naming.2;
+    last = ltb-true T.last names ranged.0;
   }
 
   tested_steady : Steady T
   tested_steady = record {
     slice = λ n s e. let h : (leb 1 s && leb s full_slice) ≡ true = rw e at served in
-        (leb_true 1 s (and_left (leb 1 s) _ h), leb_true s full_slice (and_right (leb 1 s) _ h));
-    quiet = λ e. let h : (length T.ready == 0) ≡ true = rw e at served in empty_is T.ready (eqb_true (length T.ready) 0 h);
-    since = ltb_true T.since beat_ticks ranged.1;
-    beats = ltb_true T.beats wrap ranged.2;
+        (leb-true 1 s (and_left (leb 1 s) _ h), leb-true s full_slice (and_right (leb 1 s) _ h));
+    quiet = λ e. let h : (length T.ready == 0) ≡ true = rw e at served in empty_is T.ready (eqb-true (length T.ready) 0 h);
+    since = ltb-true T.since beat_ticks ranged.1;
+    beats = ltb-true T.beats wrap ranged.2;
   }
 
   tested_right : (t : Thread) → Memᴰ t T.threads → Right T.threads T.messages t
@@ -171,7 +171,7 @@ module _ (L : Limits) (T : Tables) (pass : table_rules L T ≡ true) where
     answer = λ f. ⊎_elim (λ e. absurd (clash e f)) (nothing_is t.answer)
         (or_cases (is_ready t.state) (is_nothing t.answer) (answered t m).1);
     form = (answered t m).0;
-    ticks = ltb_true t.ticks wrap (state_ranged t m).0;
+    ticks = ltb-true t.ticks wrap (state_ranged t m).0;
   }
 
   senders : (m : Message) → Memᴰ m T.messages → (live m.to T ≡ true) × (live m.from T ≡ true)
@@ -182,9 +182,9 @@ module _ (L : Limits) (T : Tables) (pass : table_rules L T ≡ true) where
   tested_post m i = record {
     to_live = (senders m i).0;
     from_live = (senders m i).1;
-    word = ltb_true m.word wrap (all_at (λ x. ltb x.word wrap) T.messages ranged.4 m i);
+    word = ltb-true m.word wrap (all_at (λ x. ltb x.word wrap) T.messages ranged.4 m i);
     notice = λ f t j e. sym (any_only (named m.from) (awaits m.to) T.threads (once m.from) t j
-        (eq_eqb m.from t.name (sym e))) ∙ waited f;
+        (eq-eqb m.from t.name (sym e))) ∙ waited f;
   }
     where
       waited : is_ordinary m.kind ≡ false → any (λ t. named m.from t && awaits m.to t) T.threads ≡ true
@@ -200,14 +200,14 @@ module _ (L : Limits) (T : Tables) (pass : table_rules L T ≡ true) where
       none : live n T ≡ false → (m : Message) → Memᴰ m T.messages → (b : Bool) → notice_of n m ≡ b → b ≡ false
       none f m i false e = refl
       none f m i true e = absurd (clash (senders m i).1
-          (ap (λ (x : ℕ). live x T) (eqb_true m.from n (and_right (not (is_ordinary m.kind)) _ e)) ∙ f))
+          (ap (λ (x : ℕ). live x T) (eqb-true m.from n (and_right (not (is_ordinary m.kind)) _ e)) ∙ f))
 
       go : (b : Bool) → live n T ≡ b → count (notice_of n) T.messages ≤ 1
       go true e =
           let r = live_member T.threads n e in
           omega (
             arith,
-            leb_true (count (notice_of r.0.name) T.messages) 1
+            leb-true (count (notice_of r.0.name) T.messages) 1
                 (all_at (λ t. leb (count (notice_of t.name) T.messages) 1) T.threads noticed.1 r.0 r.1),
             ap (λ (x : ℕ). count (notice_of x) T.messages) r.2,
           )
@@ -225,7 +225,7 @@ module _ (L : Limits) (T : Tables) (pass : table_rules L T ≡ true) where
         (test (devices_right T) (tail (tail (tail (tail (head refl))))));
     messages = tested_post;
     notices = tested_notices;
-    blocks = leb_true (blocks_used T) L.blocks posted.1;
+    blocks = leb-true (blocks_used T) L.blocks posted.1;
     rising = naming.0;
     order = ordered.0;
     held = held_ranged;
@@ -253,12 +253,12 @@ module _ (T : Tables) where
   detail_tested n g Ready d = (refl, refl, refl, refl)
   detail_tested n g (Receiving w) d = (refl, d.0, refl, ap not d.1)
   detail_tested n g Clock d = (refl, refl, refl, refl)
-  detail_tested n g (Device e) d = (lt_ltb e devices d, refl, refl, refl)
+  detail_tested n g (Device e) d = (lt-ltb e devices d, refl, refl, refl)
   detail_tested n g (Trapped k) d = (refl, refl, d, refl)
 
   runner_tested : (r : Runner) → T.runner ≡ r → Steady T → runner_right T.ready r ≡ true
-  runner_tested NoRunner e S = eq_eqb (length T.ready) 0 (ap length (S.quiet e))
-  runner_tested (Runs n s) e S = le_leb 1 s (S.slice n s e).0 & le_leb s full_slice (S.slice n s e).1
+  runner_tested NoRunner e S = eq-eqb (length T.ready) 0 (ap length (S.quiet e))
+  runner_tested (Runs n s) e S = le-leb 1 s (S.slice n s e).0 & le-leb s full_slice (S.slice n s e).1
 
 nothing_tested : (s : State) (a : Answer) → (is_ready s ≡ false → a ≡ Nothing) → (is_ready s || is_nothing a) ≡ true
 unfolding is_nothing
@@ -281,22 +281,22 @@ module _ {L : Limits} {T : Tables} (R : Ruled L T) where
 
   ranges_tested : ranges T ≡ true
   ranges_tested =
-      lt_ltb T.last names I.last & lt_ltb T.since beat_ticks R.steady.since & lt_ltb T.beats wrap R.steady.beats
-      & all_of _ T.threads (λ t m. lt_ltb t.ticks wrap (G.threads t m).ticks & (detailed t m).0)
-      & all_of _ T.messages (λ m i. lt_ltb m.word wrap (G.messages m i).word)
-      & all_of _ T.held (λ h i. lt_ltb h.device devices (G.held h i).0 & lt_ltb h.word wrap (G.held h i).1)
+      lt-ltb T.last names I.last & lt-ltb T.since beat_ticks R.steady.since & lt-ltb T.beats wrap R.steady.beats
+      & all_of _ T.threads (λ t m. lt-ltb t.ticks wrap (G.threads t m).ticks & (detailed t m).0)
+      & all_of _ T.messages (λ m i. lt-ltb m.word wrap (G.messages m i).word)
+      & all_of _ T.held (λ h i. lt-ltb h.device devices (G.held h i).0 & lt-ltb h.word wrap (G.held h i).1)
 
   names_tested : names_right L T ≡ true
   names_tested =
-      G.rising & all_of _ T.threads (λ t m. lt_ltb t.name names (I.low t.name (member_live T.threads t m)))
-      & le_leb (length T.threads) L.threads I.few
+      G.rising & all_of _ T.threads (λ t m. lt-ltb t.name names (I.low t.name (member_live T.threads t m)))
+      & le-leb (length T.threads) L.threads I.few
 
   live_tested : names_live T ≡ true
   live_tested = all_of _ T.threads (λ t m. (detailed t m).1 & entries_tested T t (G.threads t m).entries)
 
   messages_tested : messages_right L T ≡ true
   messages_tested =
-      all_of _ T.messages (λ m i. (G.messages m i).to_live & (G.messages m i).from_live) & le_leb (blocks_used T) L.blocks G.blocks
+      all_of _ T.messages (λ m i. (G.messages m i).to_live & (G.messages m i).from_live) & le-leb (blocks_used T) L.blocks G.blocks
 
   notice_tested : (m : Message) → Memᴰ m T.messages →
       (is_ordinary m.kind || any (λ t. named m.from t && awaits m.to t) T.threads) ≡ true
@@ -308,10 +308,10 @@ module _ {L : Limits} {T : Tables} (R : Ruled L T) where
           let P = G.messages m i in
           let r = any_member (named m.from) T.threads P.from_live in
           member_any (λ t. named m.from t && awaits m.to t) T.threads r.0 r.1
-          (r.2 & P.notice e r.0 r.1 (sym (eqb_true m.from r.0.name r.2)))
+          (r.2 & P.notice e r.0 r.1 (sym (eqb-true m.from r.0.name r.2)))
 
   notices_tested : notices_right T ≡ true
-  notices_tested = all_of _ T.messages notice_tested & all_of _ T.threads (λ t m. le_leb _ 1 (G.notices t.name))
+  notices_tested = all_of _ T.messages notice_tested & all_of _ T.threads (λ t m. le-leb _ 1 (G.notices t.name))
 
   answers_tested : answers_right T ≡ true
   answers_tested = all_of _ T.threads (λ t m. (G.threads t m).form & nothing_tested t.state t.answer (G.threads t m).answer)

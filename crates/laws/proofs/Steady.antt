@@ -3,8 +3,8 @@ use Prim.Native.Nat.{ℕ, ◌+◌, ◌-◌, ◌≤◌, ◌<◌}
 use mathlib.Core.Path.{◌≡◌, refl, sym, ◌∙◌}
 use mathlib.Core.List.{List}
 use native.Mathlib.Omega.{arith}
-use native.Mathlib.Nat.{mod_lt}
-use borrow.Author.Tests.{eqb_false}
+use native.Mathlib.Nat.{mod-lt}
+use borrow.Author.Tests.{eqb-false}
 use Rattle.rules.specs.Lists.{◌==◌}
 use Rattle.rules.specs.Numbers.{Limits, names, full_slice, beat_ticks, wrap}
 use Rattle.rules.specs.Tables.{Tables, change}
@@ -61,8 +61,8 @@ beat_timed : (T : Tables) → Ticking T → Ticking (beat T)
 unfolding beat wake_those
 beat_timed T H =
     by_if Ticking (T.since + 1 == beat_ticks)
-    (λ e. record { slice = H.slice; since = omega arith; beats = mod_lt (T.beats + 1) (omega arith) })
-    (λ e. record { slice = H.slice; since = omega (arith, H.since, eqb_false (T.since + 1) beat_ticks e); beats = H.beats })
+    (λ e. record { slice = H.slice; since = omega arith; beats = mod-lt (T.beats + 1) (omega arith) })
+    (λ e. record { slice = H.slice; since = omega (arith, H.since, eqb-false (T.since + 1) beat_ticks e); beats = H.beats })
 
 rotate_timed : (T : Tables) → Ticking T → Timed (rotate T)
 unfolding rotate wake_those
@@ -74,7 +74,7 @@ rotate_timed T H =
     (λ z. record { slice = λ m u i. absurd (no_runner refl i); since = H.since; beats = H.beats })
     (λ z. record {
       slice = λ m u i. let q : s ≡ u = cc in
-          omega (arith, H.slice n s e, eqb_false s 0 z);
+          omega (arith, H.slice n s e, eqb-false s 0 z);
       since = H.since;
       beats = H.beats;
     }))

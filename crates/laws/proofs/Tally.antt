@@ -4,7 +4,7 @@ use mathlib.Core.Path.{◌≡◌, refl, sym, ap, ap₂, ◌∙◌}
 use mathlib.Core.Bool.{Bool, true, false, ◌&&◌, ◌||◌, not, true≢false, false≢true}
 use mathlib.Core.List.{List, [], ◌∷◌, ◌++◌, map, append_assoc, Memᴰ}
 use native.Mathlib.Omega.{arith}
-use lib.ListN.{length, length_append, drop}
+use lib.ListN.{length, length-append, drop}
 use Rattle.rules.specs.Lists.{if◌then◌else◌, one_if, all, any, keep, count, insert, each}
 use Rattle.laws.proofs.Tests.{by_if, clash, and_left, and_right, ◌&◌, and_true, and_false, or_left, or_right, one_at_most, one_less}
 use Rattle.laws.proofs.Tests.{one_kind}
@@ -290,7 +290,7 @@ module _ {A B : Type 0} where
   pub length_each : (f : A → List B) (k : ℕ) (xs : List A) → ((x : A) → length (f x) ≡ k) → length (each f xs) ≡ k * length xs
   unfolding each
   length_each f k [] h = omega arith
-  length_each f k (x ∷ xs) h = omega (arith, length_append (f x) (each f xs), h x, length_each f k xs h)
+  length_each f k (x ∷ xs) h = omega (arith, length-append (f x) (each f xs), h x, length_each f k xs h)
 
 -- ---- without the elements whose key is out: of an out key none are left, of another as many as were
 module _ {A : Type 0} (key : A → ℕ) (out : ℕ → Bool) (p : A → Bool) (n : ℕ) (keyed : (x : A) → p x ≡ true → n ≡ key x) where

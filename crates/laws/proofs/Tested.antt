@@ -5,7 +5,7 @@ use mathlib.Core.Bool.{Bool, true, false, ◌&&◌}
 use mathlib.Core.List.{List, Memᴰ}
 use native.Mathlib.Omega.{arith}
 use lib.Dec.{ltb}
-use borrow.Author.Tests.{eqb_true, eq_eqb, ne_eqb, leb_true, le_leb, ltb_true, ltb_false}
+use borrow.Author.Tests.{eqb-true, eq-eqb, ne_eqb, leb-true, le-leb, ltb-true, ltb-false}
 use Rattle.rules.specs.Lists.{◌==◌, one_if, all, any, count, times_in, from_on}
 use Rattle.rules.specs.Numbers.{devices}
 use Rattle.rules.specs.Words.{by_runner}
@@ -56,11 +56,11 @@ placed T t =
 pub tested_places : (T : Tables) → ((n : ℕ) → count (named n) T.threads ≤ 1) → places_agree T ≡ true → Agree T
 tested_places T once pass = record {
   once = once;
-  run = counted is_running (λ n. one_if (runs_as n T.runner)) T.threads once (λ t m. eqb_true _ _ (agrees t m).0)
+  run = counted is_running (λ n. one_if (runs_as n T.runner)) T.threads once (λ t m. eqb-true _ _ (agrees t m).0)
       (runner_absent T T.runner parts.1);
-  wait = counted is_ready (times_in T.ready) T.threads once (λ t m. eqb_true _ _ (agrees t m).1)
+  wait = counted is_ready (times_in T.ready) T.threads once (λ t m. eqb-true _ _ (agrees t m).1)
       (queue_absent T T.ready parts.2);
-  beat = counted on_clock (times_in T.clock) T.threads once (λ t m. eqb_true _ _ (agrees t m).2)
+  beat = counted on_clock (times_in T.clock) T.threads once (λ t m. eqb-true _ _ (agrees t m).2)
       (queue_absent T T.clock parts.3);
 }
   where
@@ -82,15 +82,15 @@ runner_lives : (T : Tables) (r : Runner) → ((n : ℕ) → here is_running n T.
     by_runner true (λ n s. live n T) r ≡ true
 unfolding runs_as
 runner_lives T NoRunner h = refl
-runner_lives T (Runs n s) h = here_live is_running n T.threads (omega (arith, h n, ap one_if (eq_eqb n n refl)))
+runner_lives T (Runs n s) h = here_live is_running n T.threads (omega (arith, h n, ap one_if (eq-eqb n n refl)))
 
 -- Where they agree, the test passes.
 pub places_tested : (T : Tables) → Agree T → places_agree T ≡ true
 places_tested T A =
     all_of (placed T) T.threads (λ t m.
-    eq_eqb _ _ (sym (here_is is_running T.threads A.once t m) ∙ A.run t.name)
-    & eq_eqb _ _ (sym (here_is is_ready T.threads A.once t m) ∙ A.wait t.name)
-    & eq_eqb _ _ (sym (here_is on_clock T.threads A.once t m) ∙ A.beat t.name))
+    eq-eqb _ _ (sym (here_is is_running T.threads A.once t m) ∙ A.run t.name)
+    & eq-eqb _ _ (sym (here_is is_ready T.threads A.once t m) ∙ A.wait t.name)
+    & eq-eqb _ _ (sym (here_is on_clock T.threads A.once t m) ∙ A.beat t.name))
     & runner_lives T T.runner A.run
     & queue_live is_ready T T.ready A.wait
     & queue_live on_clock T T.clock A.beat
@@ -103,7 +103,7 @@ at_other d Running l h = refl
 at_other d Ready l h = refl
 at_other d (Receiving w) l h = refl
 at_other d Clock l h = refl
-at_other d (Device e) l h = ne_eqb d e (λ k. omega (arith, ltb_true e devices h))
+at_other d (Device e) l h = ne_eqb d e (λ k. omega (arith, ltb-true e devices h))
 at_other d (Trapped k) l h = refl
 
 -- Where the test passes, and states and held words are in range, no device has more than one of waiter and held word.
@@ -113,9 +113,9 @@ pub tested_devices : (T : Tables) → ((t : Thread) → Memᴰ t T.threads → s
 tested_devices T s h pass d = go (ltb d devices) refl
   where
     go : (b : Bool) → ltb d devices ≡ b → count (waits_for d) T.threads + count (held_for d) T.held ≤ 1
-    go true e = leb_true _ 1 (all_at _ (from_on 0 devices) pass d (from_on_mem 0 devices d (omega arith) (ltb_true d devices e)))
+    go true e = leb-true _ 1 (all_at _ (from_on 0 devices) pass d (from_on_mem 0 devices d (omega arith) (ltb-true d devices e)))
     go false e =
-        let l : devices ≤ d = ltb_false d devices e in
+        let l : devices ≤ d = ltb-false d devices e in
         omega (
           arith,
           none_count (waits_for d) T.threads (none_any (waits_for d) T.threads (λ t m. at_other d t.state l (s t m))),
@@ -124,4 +124,4 @@ tested_devices T s h pass d = go (ltb d devices) refl
 
 -- Where no device has more, the test passes.
 pub devices_tested : (T : Tables) → ((d : ℕ) → count (waits_for d) T.threads + count (held_for d) T.held ≤ 1) → devices_right T ≡ true
-devices_tested T h = all_of _ (from_on 0 devices) (λ d m. le_leb _ 1 (h d))
+devices_tested T h = all_of _ (from_on 0 devices) (λ d m. le-leb _ 1 (h d))

@@ -4,7 +4,7 @@ use mathlib.Core.Path.{◌≡◌, refl, sym, ◌∙◌}
 use mathlib.Core.Logic.{◌⊎◌, inl, inr, ⊎_elim, ◌≢◌}
 use mathlib.Core.Bool.{Bool, true, false, ◌&&◌, ◌||◌, not, true≢false, false≢true}
 use native.Mathlib.Omega.{arith}
-use borrow.Author.Tests.{eqb_true, eqb_false, ne_eqb}
+use borrow.Author.Tests.{eqb-true, eqb-false, ne_eqb}
 use Rattle.rules.specs.Lists.{if◌then◌else◌, ◌==◌, one_if}
 use Rattle.rules.specs.Words.{by_runner}
 use Rattle.laws.specs.Words.{Runner, NoRunner, Runs}
@@ -29,8 +29,8 @@ pub same? : (a b : ℕ) → ((a ≡ b) × ((a == b) ≡ true)) ⊎ ((a ≢ b) ×
 same? a b = go (a == b) refl
   where
     go : (t : Bool) → (a == b) ≡ t → ((a ≡ b) × ((a == b) ≡ true)) ⊎ ((a ≢ b) × ((a == b) ≡ false))
-    go true e = inl (eqb_true a b e, e)
-    go false e = inr (eqb_false a b e, e)
+    go true e = inl (eqb-true a b e, e)
+    go false e = inr (eqb-false a b e, e)
 
 pub same_turned : (a b : ℕ) → (a == b) ≡ (b == a)
 same_turned a b = ⊎_elim (λ e. rw e.0) (λ e. e.1 ∙ sym (ne_eqb b a (λ i. e.0 (sym i)))) (same? a b)

@@ -5,7 +5,7 @@ use mathlib.Core.Logic.{◌⊎◌, inl, inr, ⊎_elim}
 use mathlib.Core.Bool.{Bool, true, false, ◌&&◌, not}
 use mathlib.Core.List.{List, [], ◌∷◌, map, Memᴰ}
 use native.Mathlib.Omega.{arith}
-use borrow.Author.Tests.{eqb_true, eq_eqb}
+use borrow.Author.Tests.{eqb-true, eq-eqb}
 use Rattle.rules.specs.Lists.{if◌then◌else◌, ◌==◌, one_if, any, keep, count, has, times_in}
 use Rattle.rules.specs.Tables.{in_state, named, of_thread}
 use Rattle.rules.specs.States.{is_running, is_ready, on_clock}
@@ -18,16 +18,16 @@ use Rattle.laws.proofs.Tally.{any_member, member_any, count_only}
 -- ---- who lives
 
 pub member_live : (ts : List Thread) (t : Thread) → Memᴰ t ts → any (named t.name) ts ≡ true
-member_live ts t m = member_any (named t.name) ts t m (eq_eqb t.name t.name refl)
+member_live ts t m = member_any (named t.name) ts t m (eq-eqb t.name t.name refl)
 
 pub live_member : (ts : List Thread) (n : ℕ) → any (named n) ts ≡ true → (t : Thread) × Memᴰ t ts × (n ≡ t.name)
-live_member ts n h = let r = any_member (named n) ts h in (r.0, r.1, eqb_true n r.0.name r.2)
+live_member ts n h = let r = any_member (named n) ts h in (r.0, r.1, eqb-true n r.0.name r.2)
 
 -- what is looked up of a name is that of its only thread
 pub of_only : {A : Type 0} (d : A) (f : Thread → A) (n : ℕ) (ts : List Thread) → count (named n) ts ≤ 1 → (t : Thread) → Memᴰ t ts →
     t.name ≡ n → of_thread d f n ts ≡ f t
 unfolding of_thread
-of_only d f n (u ∷ ts) o t (Memᴰ.head e) x = rw (eq_eqb n u.name (sym x ∙ ap (λ (v : Thread). v.name) e)) (ap f (sym e))
+of_only d f n (u ∷ ts) o t (Memᴰ.head e) x = rw (eq-eqb n u.name (sym x ∙ ap (λ (v : Thread). v.name) e)) (ap f (sym e))
 of_only {A} d f n (u ∷ ts) o t (Memᴰ.tail m) x =
     by_if (λ (y : A). y ≡ f t) (named n u)
     (λ e. absurd
@@ -36,7 +36,7 @@ of_only {A} d f n (u ∷ ts) o t (Memᴰ.tail m) x =
       count_cons (named n) u ts,
       ap one_if e,
       any_count (named n) ts
-          (member_any (named n) ts t m (eq_eqb n t.name (sym x))),
+          (member_any (named n) ts t m (eq-eqb n t.name (sym x))),
     )))
     (λ e. of_only d f n ts (omega (arith, count_cons (named n) u ts)) t m x)
 
@@ -51,7 +51,7 @@ looked_up {A} other f n (t ∷ ts) = go (named n t) refl (looked_up other f n ts
         (of_thread other f n ts ≡ other) ⊎ ((u : Thread) × Memᴰ u ts × (u.name ≡ n) × (of_thread other f n ts ≡ f u)) →
         ((if b then f t else of_thread other f n ts) ≡ other)
         ⊎ ((u : Thread) × Memᴰ u (t ∷ ts) × (u.name ≡ n) × ((if b then f t else of_thread other f n ts) ≡ f u))
-    go true e later = inr (t, Memᴰ.head refl, sym (eqb_true n t.name e), refl)
+    go true e later = inr (t, Memᴰ.head refl, sym (eqb-true n t.name e), refl)
     go false e later = ⊎_elim (λ i. inl i) (λ r. inr (r.0, Memᴰ.tail r.1, r.2, r.3)) later
 
 -- names under a change that keeps each name
@@ -100,7 +100,7 @@ here_live p n ts h = count_any (named n) ts (omega (arith, here_le p n ts))
 pub here_is : (p : State → Bool) (ts : List Thread) → ((n : ℕ) → count (named n) ts ≤ 1) → (t : Thread) → Memᴰ t ts →
     here p t.name ts ≡ one_if (p t.state)
 unfolding here
-here_is p ts once t m = count_only (named t.name) (λ u. p u.state) ts (once t.name) t m (eq_eqb t.name t.name refl)
+here_is p ts once t m = count_only (named t.name) (λ u. p u.state) ts (once t.name) t m (eq-eqb t.name t.name refl)
 
 -- where one thread of the name is in a kind of state, every thread of the name is
 pub here_only : (p : State → Bool) (ts : List Thread) → ((n : ℕ) → count (named n) ts ≤ 1) → (t : Thread) → Memᴰ t ts →
@@ -110,7 +110,7 @@ here_only p ts once t m h = one_true (p t.state) (omega (arith, here_is p ts onc
 pub member_here : (p : State → Bool) (ts : List Thread) (t : Thread) → Memᴰ t ts → p t.state ≡ true → 1 ≤ here p t.name ts
 unfolding here
 member_here p ts t m h = any_count (λ u. named t.name u && p u.state) ts
-    (member_any (λ u. named t.name u && p u.state) ts t m (eq_eqb t.name t.name refl & h))
+    (member_any (λ u. named t.name u && p u.state) ts t m (eq-eqb t.name t.name refl & h))
 
 pub here_member : (p : State → Bool) (ts : List Thread) (n : ℕ) → 1 ≤ here p n ts → (t : Thread) × Memᴰ t ts × (named n t ≡ true)
     × (p t.state ≡ true)

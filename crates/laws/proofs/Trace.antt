@@ -1,12 +1,12 @@
 -- What comes of a thread that is made and ended at once: the tables are as before, but for the name given last.
 use Prim.Native.Nat.{ℕ, ◌<◌}
 use mathlib.Core.Path.{◌≡◌, refl, sym, ap, ◌∙◌}
-use mathlib.Core.Bool.{Bool, true, false, ◌||◌, not, false≢true, not_eq_not}
-use mathlib.Core.List.{List, [], ◌∷◌, map, append_nil, Memᴰ}
+use mathlib.Core.Bool.{Bool, true, false, ◌||◌, not, false≢true, not-eq-not}
+use mathlib.Core.List.{List, [], ◌∷◌, map, append-nil, Memᴰ}
 use native.Mathlib.Omega.{arith}
 use lib.Dec.{ltb}
 use lib.ListN.{length}
-use borrow.Author.Tests.{eqb_true, ne_eqb, lt_leb}
+use borrow.Author.Tests.{eqb-true, ne_eqb, lt-leb}
 use Rattle.rules.specs.Lists.{if◌then◌else◌, ◌==◌, one_if, any, has, keep, count}
 use Rattle.rules.specs.Numbers.{Limits, names}
 use Rattle.rules.specs.Words.{by_parent, by_manager, by_runner}
@@ -50,7 +50,7 @@ use Rattle.laws.proofs.Living.{ruled_names_the_living, named_nowhere}
 -- an entry that is set to a name
 entry_names : (x : ℕ) (m : Manager) → by_manager false (λ y. x == y) m ≡ true → m ≡ Set x
 entry_names x Unset e = absurd (false≢true e)
-entry_names x (Set y) e = ap Set (sym (eqb_true x y e))
+entry_names x (Set y) e = ap Set (sym (eqb-true x y e))
 entry_names x Gone e = absurd (false≢true e)
 
 -- who is trapped on a name has it as a manager
@@ -72,7 +72,7 @@ module _ {set : List ℕ} {T : Tables} (F : Forgotten set T) where
     -- nobody depends on them
     independent : depends set t ≡ false
     independent =
-        rw (parent t.parent refl) (none_any (λ x. awaits x t) set (λ x i. (not_eq_not {b = false}).0 (trapped x (member_has set i))))
+        rw (parent t.parent refl) (none_any (λ x. awaits x t) set (λ x i. (not-eq-not {b = false}).0 (trapped x (member_has set i))))
       where
         parent : (p : Parent) → t.parent ≡ p → by_parent false (λ x. has x set) p ≡ false
         parent NoParent e = refl
@@ -93,7 +93,7 @@ module _ {set : List ℕ} {T : Tables} (F : Forgotten set T) where
         rw (p, q, r)
 
     not_missing : misses set t.state ≡ false
-    not_missing = (not_eq_not {b = false}).0 (λ e. let r = missed set t.state e in clash r.2 (F.wanted t m r.0 r.1))
+    not_missing = (not-eq-not {b = false}).0 (λ e. let r = missed set t.state e in clash r.2 (F.wanted t m r.0 r.1))
 
   same_threads : map (without_managers set) (keep (λ t. not (has t.name set)) T.threads) ≡ T.threads
   same_threads = ap (map (without_managers set)) (kept (λ t. has t.name set) T.threads F.threads)
@@ -123,7 +123,7 @@ module _ {set : List ℕ} {T : Tables} (F : Forgotten set T) where
   unreleased =
       let t = map_same (freed set) T.threads (λ t m. rw (not_missing t m)) in
       let n = keep_none_of (λ t. misses set t.state) T.threads not_missing in
-      rw (t, n, append_nil T.ready)
+      rw (t, n, append-nil T.ready)
 
 -- ---- the newcomer ends alone
 
@@ -168,7 +168,7 @@ module _ {L : Limits} {T : Tables} (l : L.threads < names) (R : Ruled L T) (m : 
       let t = keep_insert (λ t. not (has t.name (n ∷ []))) (λ t. ltb t.name n) (son m T) T.threads (ap not n_ends) in
       let q = keep_append (λ x. not (has x (n ∷ []))) T.ready (n ∷ []) in
       let e = keep_none_of (λ x. not (has x (n ∷ []))) (n ∷ []) (λ x i. ap not (member_has (n ∷ []) i)) in
-      rw (t, q, e, append_nil)
+      rw (t, q, e, append-nil)
 
   no_trace : end n (with_son m T) ≡ with_last n T
   unfolding end release wake_those
@@ -193,7 +193,7 @@ module _ (L : Limits) (T : Tables) (m s : ℕ) (e : T.runner ≡ Runs m s) (room
   first = goes_on asked (create (ParentIs m) T) (ap (λ r. create (ParentIs (me r)) T) e) (unfold create in refl)
     where
       free : first_of (call_rules L T m CreateSon) ≡ 0
-      free = unfold call_rules first_of in rw (lt_leb L.threads (length T.threads) room)
+      free = unfold call_rules first_of in rw (lt-leb L.threads (length T.threads) room)
 
       asked : Accepted L T (ask 2 0) CreateSon
       asked = record { asked = requests_say.1; accepted = ap (refusal L T) requests_say.1 ∙ heard L T m s e CreateSon ∙ free }

@@ -5,8 +5,8 @@ use mathlib.Core.Path.{◌≡◌, refl, ap}
 use mathlib.Core.Bool.{true, false, ◌&&◌, not, false≢true}
 use mathlib.Core.List.{List, [], ◌∷◌, map}
 use native.Mathlib.Omega.{arith}
-use lib.ListN.{length, replicate, length_map}
-use borrow.Author.Tests.{le_leb, ne_eqb}
+use lib.ListN.{length, replicate, length-map}
+use borrow.Author.Tests.{le-leb, ne_eqb}
 use Rattle.rules.specs.Lists.{◌==◌, one_if, any, has, times_in}
 use Rattle.rules.specs.Numbers.{Limits, small, names, full_slice}
 use Rattle.rules.specs.Tables.{Tables, live, runs_as, start}
@@ -48,7 +48,7 @@ slice_right {L} {T} n R h = go T.runner refl
 ready_few : {L : Limits} {T : Tables} (m s : ℕ) → Ruled L T → T.runner ≡ Runs m s → suc (length T.ready) ≤ length T.threads
 unfolding runs_as
 ready_few {L} {T} m s R e =
-    omega (arith, no_longer (m ∷ T.ready) (map (λ t. t.name) T.threads) each, length_map T.threads (λ t. t.name))
+    omega (arith, no_longer (m ∷ T.ready) (map (λ t. t.name) T.threads) each, length-map T.threads (λ t. t.name))
   where
     each : (n : ℕ) → times_in (m ∷ T.ready) n ≤ times_in (map (λ t. t.name) T.threads) n
     each n =
@@ -118,7 +118,7 @@ pub rank_served : {L : Limits} (k n : ℕ) (T : Tables) (es : Input) → L.threa
 unfolding ticks_accepted served_by
 rank_served {L} k n T [] l R h le enough = absurd (omega (arith, rank_least n R h))
 rank_served {L} k n T (e ∷ es) l R h le enough =
-    or_right (served n T) _ (le_leb t k (omega (arith, first)) & later (step_nearer n e R h)
+    or_right (served n T) _ (le-leb t k (omega (arith, first)) & later (step_nearer n e R h)
     (rank_served (k - t) n U es l (step_ruled e l R)))
   where
     t : ℕ

@@ -4,7 +4,7 @@ use mathlib.Core.Path.{◌≡◌}
 use mathlib.Core.Bool.{true, false}
 use mathlib.Core.List.{List}
 use lib.ListN.{length}
-use borrow.Author.Tests.{le_leb, lt_leb}
+use borrow.Author.Tests.{le-leb, lt-leb}
 use Rattle.rules.specs.Dump.{dump}
 use Rattle.store.specs.Store.{tables}
 use Rattle.buffer.specs.Puts.{Puts}
@@ -26,10 +26,10 @@ module _ (m before : List ℕ) where
   module _ (v : valid m ≡ true) where
     pub twelve : (d : Dumped) → length before < length (dump (tables m)) → (d.refusal ≡ 12) × (d.length ≡ 0) → Answers m before d before
     unfolding dumped buffer_after
-    twelve d short h = (rw (v, lt_leb _ _ short) (made d 12 0 h), rw (v, lt_leb _ _ short))
+    twelve d short h = (rw (v, lt-leb _ _ short) (made d 12 0 h), rw (v, lt-leb _ _ short))
 
     pub written : (n : ℕ) (after : List ℕ) → length (dump (tables m)) ≤ length before → Puts (dump (tables m)) before after n →
         Answers m before (record { refusal = 0; length = n }) after
     unfolding dumped buffer_after
     written n after fits p =
-        (rw (v, le_leb _ _ fits) (λ j. record { refusal = 0; length = p.counts j }), rw (v, le_leb _ _ fits) p.shows)
+        (rw (v, le-leb _ _ fits) (λ j. record { refusal = 0; length = p.counts j }), rw (v, le-leb _ _ fits) p.shows)

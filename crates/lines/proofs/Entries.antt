@@ -2,12 +2,12 @@
 use Prim.Native.Nat.{ℕ, ◌+◌, ◌*◌, ◌≤◌, ◌<◌}
 use mathlib.Core.Path.{◌≡◌, refl, sym, ap, ◌∙◌}
 use mathlib.Core.Bool.{true, false}
-use mathlib.Core.List.{List, [], ◌∷◌, ◌++◌, append_nil}
-use native.Mathlib.Nat.{mul_suc, mul_le_mul_left}
-use native.Mathlib.Numerals.{add_one}
+use mathlib.Core.List.{List, [], ◌∷◌, ◌++◌, append-nil}
+use native.Mathlib.Nat.{mul-suc, mul-le-mul_left}
+use native.Mathlib.Numerals.{add-one}
 use native.Mathlib.Omega.{arith}
-use lib.ListN.{length, get_or, take, set, length_set}
-use lib.Seq.{take_suc, take_all, length_take_le}
+use lib.ListN.{length, get_or, take, set, length-set}
+use lib.Seq.{take-suc, take_all, length-take-le}
 use Rattle.rules.specs.Lists.{any, each}
 use Rattle.rules.specs.Interrupt.{held_for}
 use Rattle.rules.specs.declared.Thread.{Thread}
@@ -26,7 +26,7 @@ use Rattle.lines.proofs.NumberLines.{line_few}
 
 single : {A : Type 0} (f : A → List ℕ) (x : A) → each f (x ∷ []) ≡ f x
 unfolding each
-single f x = append_nil (f x)
+single f x = append-nil (f x)
 
 -- an entry by itself
 pub one_line : {A : Type 0} (f : A → List ℕ) {x y : A} {before after : List ℕ} {n : ℕ} → x ≡ y → Puts (f x) before after n
@@ -61,11 +61,11 @@ module _ {A : Type 0} {f : A → List ℕ} {w n : ℕ} {whole : List A} {done ne
     up = omega arith
 
     further : w * (i + 1) ≡ w * i + w
-    further = ap (λ (j : ℕ). w * j) (add_one i) ∙ omega (arith, mul_suc w i)
+    further = ap (λ (j : ℕ). w * j) (add-one i) ∙ omega (arith, mul-suc w i)
 
     -- behind the place reached there is room for one turn more
     pub listed_room : w ≤ length (rest at mid)
-    listed_room = omega (arith, room_left l.puts, l.low, l.room, mul_le_mul_left w up, further)
+    listed_room = omega (arith, room_left l.puts, l.low, l.room, mul-le-mul_left w up, further)
 
     pub listed_next : {ys : List ℕ} {k : ℕ} → length (each f (next i)) ≤ w → Puts (each f (next i)) (rest at mid) ys k
         → Listed f w n done before (back at mid ys) (at + k) (i + 1)
@@ -74,7 +74,7 @@ module _ {A : Type 0} {f : A → List ℕ} {w n : ℕ} {whole : List A} {done ne
           room = l.room;
           within = up;
           low = low;
-          long = stays_long puts (omega (arith, puts.counts, low, mul_le_mul_left w up, l.room));
+          long = stays_long puts (omega (arith, puts.counts, low, mul-le-mul_left w up, l.room));
           puts = puts;
         }
       where
@@ -133,7 +133,7 @@ pub named_next : {tag i : ℕ} {names row : List ℕ} (x : ℕ) → Named tag na
 named_next {tag} {i} {names} {row} x l h e =
     record {
       few = l.few;
-      long = length_set row (i + 1) x ∙ l.long;
+      long = length-set row (i + 1) x ∙ l.long;
       within = omega arith;
       so = wrote row (i + 1) x (omega (arith, l.few, l.long))
           ∙ (ap (λ (t : List ℕ). t ++ (x ∷ [])) l.so
@@ -143,7 +143,7 @@ named_next {tag} {i} {names} {row} x l h e =
     more : take i names ++ (x ∷ []) ≡ take (i + 1) names
     more =
         ap (λ (y : ℕ). take i names ++ (y ∷ [])) e
-        ∙ (sym (take_suc names i 0 h) ∙ ap (λ (j : ℕ). take j names) (sym (add_one i)))
+        ∙ (sym (take-suc names i 0 h) ∙ ap (λ (j : ℕ). take j names) (sym (add-one i)))
 
 module _ {tag n i : ℕ} {names row : List ℕ} (l : Named tag names row i) (e : n ≡ length names) where
   pub named_ends : n ≤ i → take (n + 1) row ≡ tag ∷ names
@@ -152,4 +152,4 @@ module _ {tag n i : ℕ} {names row : List ℕ} (l : Named tag names row i) (e :
       ap (λ (j : ℕ). take (j + 1) row) same ∙ (l.so ∙ ap (λ (t : List ℕ). tag ∷ t) (take_all i names (omega arith)))
 
   pub named_long : length (take (n + 1) row) ≡ n + 1
-  named_long = length_take_le (n + 1) row (omega (arith, l.few, l.long))
+  named_long = length-take-le (n + 1) row (omega (arith, l.few, l.long))

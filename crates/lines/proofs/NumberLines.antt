@@ -1,11 +1,11 @@
 -- A line of numbers, put number by number.
 use Prim.Native.Nat.{ℕ, ◌+◌, ◌-◌, ◌*◌, ◌≤◌, ◌<◌}
 use mathlib.Core.Path.{◌≡◌, refl, sym, ap, ◌∙◌}
-use mathlib.Core.List.{List, [], ◌∷◌, ◌++◌, append_nil, append_assoc}
-use native.Mathlib.Numerals.{add_one}
+use mathlib.Core.List.{List, [], ◌∷◌, ◌++◌, append-nil, append_assoc}
+use native.Mathlib.Numerals.{add-one}
 use native.Mathlib.Omega.{arith}
-use lib.ListN.{length, get_or, take, set, length_append}
-use lib.Seq.{take_suc, take_all, length_take_le}
+use lib.ListN.{length, get_or, take, set, length-append}
+use lib.Seq.{take-suc, take_all, length-take-le}
 use Rattle.rules.specs.Lists.{each}
 use Rattle.laws.proofs.Tally.{each_append}
 use Rattle.buffer.specs.Puts.{Puts}
@@ -24,13 +24,13 @@ body (n ∷ ns) = decimal n ++ each (λ m. 32 ∷ decimal m) ns
 body_first : (row : List ℕ) → 0 < length row → body (take 1 row) ≡ decimal (get_or row 0 0)
 unfolding body each
 body_first [] h = absurd (omega arith)
-body_first (n ∷ ns) h = append_nil (decimal n)
+body_first (n ∷ ns) h = append-nil (decimal n)
 
 body_more : (l : List ℕ) (m : ℕ) → 0 < length l → body (l ++ (m ∷ [])) ≡ body l ++ spaced m
 unfolding body each
 body_more [] m h = absurd (omega arith)
 body_more (n ∷ ns) m h =
-    ap (λ (t : List ℕ). decimal n ++ t) (each_append spaced ns (m ∷ []) ∙ ap (λ (t : List ℕ). each spaced ns ++ t) (append_nil (spaced m)))
+    ap (λ (t : List ℕ). decimal n ++ t) (each_append spaced ns (m ∷ []) ∙ ap (λ (t : List ℕ). each spaced ns ++ t) (append-nil (spaced m)))
     ∙ sym (append_assoc (decimal n) (each spaced ns) (spaced m))
 
 body_end : (row : List ℕ) → 0 < length row → body row ++ (10 ∷ []) ≡ numbers_line row
@@ -41,12 +41,12 @@ body_end (n ∷ ns) h = refl
 spaced_few : (ns : List ℕ) → length (each spaced ns) ≤ 21 * length ns
 unfolding each
 spaced_few [] = omega arith
-spaced_few (n ∷ ns) = omega (arith, length_append (spaced n) (each spaced ns), few_digits 20 n, spaced_few ns)
+spaced_few (n ∷ ns) = omega (arith, length-append (spaced n) (each spaced ns), few_digits 20 n, spaced_few ns)
 
 body_few : (l : List ℕ) → length (body l) ≤ 21 * length l
 unfolding body
 body_few [] = omega arith
-body_few (n ∷ ns) = omega (arith, length_append (decimal n) (each spaced ns), few_digits 20 n, spaced_few ns)
+body_few (n ∷ ns) = omega (arith, length-append (decimal n) (each spaced ns), few_digits 20 n, spaced_few ns)
 
 -- a line is no longer than 21 bytes a number, and its end
 pub line_few : (l : List ℕ) → length (numbers_line l) ≤ 1 + 21 * length l
@@ -55,8 +55,8 @@ line_few [] = omega arith
 line_few (n ∷ ns) =
     omega (
       arith,
-      length_append (decimal n ++ each spaced ns) (10 ∷ []),
-      length_append (decimal n) (each spaced ns),
+      length-append (decimal n ++ each spaced ns) (10 ∷ []),
+      length-append (decimal n) (each spaced ns),
       few_digits 20 n,
       spaced_few ns,
     )
@@ -64,7 +64,7 @@ line_few (n ∷ ns) =
 first_within : (row : List ℕ) → 0 < length row → length (decimal (get_or row 0 0)) ≤ length (numbers_line row)
 unfolding numbers_line
 first_within [] h = absurd (omega arith)
-first_within (n ∷ ns) h = omega (arith, length_append (decimal n ++ each spaced ns) (10 ∷ []), length_append (decimal n) (each spaced ns))
+first_within (n ∷ ns) h = omega (arith, length-append (decimal n ++ each spaced ns) (10 ∷ []), length-append (decimal n) (each spaced ns))
 
 -- The first i numbers of the row stand at the front of the buffer, which has room for the line.
 pub record Row (row : List ℕ) (before after : List ℕ) (at i : ℕ) : Type 0 where
@@ -78,7 +78,7 @@ pub record Row (row : List ℕ) (before after : List ℕ) (at i : ℕ) : Type 0 
 row_made : {row before after : List ℕ} {at i : ℕ} → 1 + 21 * length row ≤ length before → 0 < i → i ≤ length row
     → Puts (body (take i row)) before after at → Row row before after at i
 row_made {row} {before} {after} {at} {i} r s w p =
-    let e : length (take i row) ≡ i = length_take_le i row w in
+    let e : length (take i row) ≡ i = length-take-le i row w in
     let few : length (body (take i row)) ≤ 21 * i = omega (arith, body_few (take i row)) in
     record { room = r; some = s; within = w; low = omega (arith, p.counts); long = stays_long p (omega arith); puts = p }
 
@@ -96,9 +96,9 @@ row_next {row} {before} {mid} {ys} {at} {i} {k} l h q =
   where
     more : body (take i row) ++ spaced (get_or row i 0) ≡ body (take (i + 1) row)
     more =
-        let e : length (take i row) ≡ i = length_take_le i row l.within in
+        let e : length (take i row) ≡ i = length-take-le i row l.within in
         sym (body_more (take i row) (get_or row i 0) (omega (arith, l.some)))
-        ∙ ap body (sym (take_suc row i 0 h) ∙ ap (λ (j : ℕ). take j row) (sym (add_one i)))
+        ∙ ap body (sym (take-suc row i 0 h) ∙ ap (λ (j : ℕ). take j row) (sym (add-one i)))
 
 -- the line's end behind the last number
 pub row_ends : {row before mid after : List ℕ} {k at i : ℕ} → Puts (decimal (get_or row 0 0)) before mid k

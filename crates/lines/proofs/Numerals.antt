@@ -5,11 +5,11 @@ use mathlib.Core.Logic.{◌⊎◌, inl, inr, ⊎_elim}
 use mathlib.Core.Bool.{Bool, true, false}
 use mathlib.Core.List.{List, [], ◌∷◌, ◌++◌, append_assoc}
 use native.Mathlib.Omega.{arith}
-use native.Mathlib.Nat.{pow_suc}
+use native.Mathlib.Nat.{pow-suc}
 use lib.Dec.{ltb}
-use lib.ListN.{length, drop, set, length_append, length_set}
-use lib.Seq.{drop_cons, get_or_set_same, drop_set_lt}
-use borrow.Author.Tests.{ltb_true, ltb_false, lt_ltb, le_ltb}
+use lib.ListN.{length, drop, set, length-append, length-set}
+use lib.Seq.{drop-cons, get_or-set_same, drop-set-lt}
+use borrow.Author.Tests.{ltb-true, ltb-false, lt-ltb, le-ltb}
 use Rattle.buffer.specs.Puts.{Puts}
 use Rattle.buffer.proofs.Putting.{puts_none, one_more, said}
 use Rattle.lines.specs.Text.{decimal_in, decimal}
@@ -19,18 +19,18 @@ less? : (a b : ℕ) → (a < b) ⊎ (b ≤ a)
 less? a b = go (ltb a b) refl
   where
     go : (t : Bool) → ltb a b ≡ t → (a < b) ⊎ (b ≤ a)
-    go true e = inl (ltb_true a b e)
-    go false e = inr (ltb_false a b e)
+    go true e = inl (ltb-true a b e)
+    go false e = inr (ltb-false a b e)
 
 -- ---- one digit, or more
 
 pub one_digit : (f n : ℕ) → n < 10 → decimal_in (suc f) n ≡ (48 + n) ∷ []
 unfolding decimal_in
-one_digit f n h = rw (lt_ltb n 10 h)
+one_digit f n h = rw (lt-ltb n 10 h)
 
 pub more_digits : (f n : ℕ) → 10 ≤ n → decimal_in (suc f) n ≡ decimal_in f (n / 10) ++ ((48 + n % 10) ∷ [])
 unfolding decimal_in
-more_digits f n h = rw (le_ltb n 10 h)
+more_digits f n h = rw (le-ltb n 10 h)
 
 pub few_digits : (f n : ℕ) → length (decimal_in f n) ≤ f
 unfolding decimal_in
@@ -38,7 +38,7 @@ few_digits zero n = omega arith
 few_digits (suc f) n =
     ⊎_elim
     (λ h. omega (arith, ap length (one_digit f n h)))
-    (λ h. omega (arith, ap length (more_digits f n h), length_append (decimal_in f (n / 10)) ((48 + n % 10) ∷ []), few_digits f (n / 10)))
+    (λ h. omega (arith, ap length (more_digits f n h), length-append (decimal_in f (n / 10)) ((48 + n % 10) ∷ []), few_digits f (n / 10)))
     (less? n 10)
 
 -- ---- counted from the last
@@ -58,7 +58,7 @@ counts_one f n =
     (λ h. let e : n / 10 ≡ 0 = omega arith in ap length (one_digit f n h) ∙ ap (λ (r : ℕ). 1 + left f r) (sym e))
     (λ h.
     let some = left_some f (n / 10) (omega arith) in
-    omega (arith, ap length (more_digits f n h), length_append (decimal_in f (n / 10)) ((48 + n % 10) ∷ []), some))
+    omega (arith, ap length (more_digits f n h), length-append (decimal_in f (n / 10)) ((48 + n % 10) ∷ []), some))
     (less? n 10)
 
 -- k digits were counted, and the rest has at most as many digits as are left of 20
@@ -68,7 +68,7 @@ pub record Counted (n k rest : ℕ) : Type 0 where
   pub so : length (decimal n) ≡ k + left (20 - k) rest
 
 tenth : (f n : ℕ) → n < 10 ^ suc f → n / 10 < 10 ^ f
-tenth f n h = omega (arith, pow_suc 10 f)
+tenth f n h = omega (arith, pow-suc 10 f)
 
 pub counted_first : (n : ℕ) → n < 2 ^ 64 → Counted n 1 (n / 10)
 counted_first n h = record { within = omega arith; low = omega arith; so = counts_one 19 n }
@@ -122,7 +122,7 @@ all_digits (suc f) n = ⊎_elim small (large (decimal_in f (n / 10)) refl (all_d
     large l a e h =
         let d : ℕ = 48 + n % 10 in
         let whole : decimal_in (suc f) n ≡ l ++ (d ∷ []) = more_digits f n h ∙ ap (λ (t : List ℕ). t ++ (d ∷ [])) a in
-        let long : length (decimal_in (suc f) n) ≡ suc (length l) = omega (arith, ap length whole, length_append l ((48 + n % 10) ∷ [])) in
+        let long : length (decimal_in (suc f) n) ≡ suc (length l) = omega (arith, ap length whole, length-append l ((48 + n % 10) ∷ [])) in
         whole ∙ (ap (λ (t : List ℕ). t ++ ((48 + n % 10) ∷ [])) e ∙ sym (last_more (length l) _ n long))
 
 -- From the last digit to the first: those that are not put yet, then the buffer from i on, are the number and what is behind it.
@@ -142,8 +142,8 @@ putting_first n k before e =
 -- the buffer from j on, once a digit is put there
 put_at : (l : List ℕ) (j d : ℕ) → j < length l → drop j (set l j d) ≡ d ∷ drop (suc j) l
 put_at l j d h =
-    drop_cons (set l j d) j 0 (omega (arith, length_set l j d))
-    ∙ ap₂ (λ (x : ℕ) (t : List ℕ). x ∷ t) (get_or_set_same l j d 0 h) (drop_set_lt (suc j) l j d (omega arith))
+    drop-cons (set l j d) j 0 (omega (arith, length-set l j d))
+    ∙ ap₂ (λ (x : ℕ) (t : List ℕ). x ∷ t) (get_or-set_same l j d 0 h) (drop-set-lt (suc j) l j d (omega arith))
 
 pub putting_next : (n k i rest : ℕ) (before after : List ℕ) → 0 < i → k ≤ length before → Putting n k i rest before after
     → Putting n k (i - 1) (rest / 10) before (set after (i - 1) (48 + rest % 10))
@@ -157,7 +157,7 @@ putting_next n k i rest before after h room p = go (i - 1) (omega arith)
         put_at after j d (omega (arith, p.within, p.long)) ∙ ap (λ (m : ℕ). d ∷ drop m after) (sym e) in
         record {
           within = omega (arith, p.within);
-          long = length_set after j d ∙ p.long;
+          long = length-set after j d ∙ p.long;
           so = ap (λ (l : List ℕ). front ++ l) put
               ∙ (sym (append_assoc front (d ∷ []) (drop i after))
               ∙ (ap (λ (l : List ℕ). l ++ drop i after) (sym (last_more j i rest e)) ∙ p.so));

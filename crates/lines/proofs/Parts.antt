@@ -2,9 +2,9 @@
 use Prim.Native.Nat.{ℕ, ◌+◌, ◌*◌, ◌≤◌}
 use mathlib.Core.Path.{◌≡◌, ap}
 use mathlib.Core.List.{List, [], ◌∷◌, ◌++◌}
-use native.Mathlib.Nat.{mul_suc, mul_le_mul_left}
+use native.Mathlib.Nat.{mul-suc, mul-le-mul_left}
 use native.Mathlib.Omega.{arith}
-use lib.ListN.{length, length_append}
+use lib.ListN.{length, length-append}
 use Rattle.rules.specs.Lists.{each}
 use Rattle.rules.specs.Numbers.{Limits, small}
 use Rattle.rules.specs.Tables.{Tables}
@@ -34,7 +34,7 @@ filled_more {a} {c} j f h r q =
       puts = p;
       low = omega (arith, f.low, q.counts);
       room = r;
-      long = stays_long p (omega (arith, length_append a c, f.puts.counts, f.low));
+      long = stays_long p (omega (arith, length-append a c, f.puts.counts, f.low));
     }
 
 -- behind the place reached there is the room that was left
@@ -50,11 +50,11 @@ head_few T = line_few _
 each_few : {A : Type 0} (f : A → List ℕ) (w : ℕ) → ((x : A) → length (f x) ≤ w) → (xs : List A) → length (each f xs) ≤ w * length xs
 unfolding each
 each_few f w h [] = omega arith
-each_few f w h (x ∷ xs) = omega (arith, length_append (f x) (each f xs), h x, each_few f w h xs, mul_suc w (length xs))
+each_few f w h (x ∷ xs) = omega (arith, length-append (f x) (each f xs), h x, each_few f w h xs, mul-suc w (length xs))
 
 pub rows_few : {A : Type 0} (f : A → List ℕ) (w n : ℕ) → ((x : A) → length (f x) ≤ w) → (xs : List A) → length xs ≤ n
     → length (each f xs) ≤ w * n
-rows_few f w n h xs k = omega (arith, each_few f w h xs, mul_le_mul_left w k)
+rows_few f w n h xs k = omega (arith, each_few f w h xs, mul-le-mul_left w k)
 
 pub names_few : (tag : ℕ) (names : List ℕ) → length names ≤ 20 → length (numbers_line (tag ∷ names)) ≤ 442
 names_few tag names h = omega (arith, line_few (tag ∷ names))

@@ -4,10 +4,10 @@ use mathlib.Core.Path.{◌≡◌, refl, sym, ap, ◌∙◌}
 use mathlib.Core.Logic.{◌≢◌}
 use mathlib.Core.Bool.{Bool, true, false}
 use mathlib.Core.List.{List, [], ◌∷◌, ◌++◌}
-use native.Mathlib.Numerals.{add_one}
+use native.Mathlib.Numerals.{add-one}
 use native.Mathlib.Omega.{arith}
 use lib.ListN.{length, take, get_or}
-use lib.Seq.{take_suc, take_all, length_take_le}
+use lib.Seq.{take-suc, take_all, length-take-le}
 use Rattle.rules.specs.Lists.{same}
 use Rattle.laws.proofs.Members.{same_refl, same_true, last_same}
 
@@ -42,13 +42,13 @@ pub record Alike (a b : List ℕ) (n i : ℕ) (good : Bool) : Type 0 where
 
 module _ (a b : List ℕ) (n : ℕ) where
   pub other_length : n ≤ length a → length b ≢ n → same (take n a) b ≡ false
-  other_length h k = unlike (λ e. k (sym (ap length e) ∙ length_take_le n a h))
+  other_length h k = unlike (λ e. k (sym (ap length e) ∙ length-take-le n a h))
 
   pub alike_starts : n ≤ length a → length b ≡ n → Alike a b n 0 true
   alike_starts h e = record { whole = h; long = e; within = omega arith; so = sym (same_refl []) }
 
   more : (l : List ℕ) (i : ℕ) → i < length l → take (i + 1) l ≡ take i l ++ (get_or l i 0 ∷ [])
-  more l i k = ap (λ (j : ℕ). take j l) (add_one i) ∙ take_suc l i 0 k
+  more l i k = ap (λ (j : ℕ). take j l) (add-one i) ∙ take-suc l i 0 k
 
   longer : (i : ℕ) → n ≤ length a → length b ≡ n → i < n →
       same (take (i + 1) a) (take (i + 1) b) ≡ same (take i a ++ (get_or a i 0 ∷ [])) (take i b ++ (get_or b i 0 ∷ []))

@@ -3,12 +3,12 @@ use Prim.Native.Nat.{ℕ, ◌+◌, ◌*◌, ◌-◌, ◌≤◌, ◌<◌}
 use mathlib.Core.Path.{◌≡◌, refl, sym, ap, ◌∙◌}
 use mathlib.Core.Bool.{Bool, true, false, ◌&&◌, true≢false}
 use mathlib.Core.List.Memᴰ
-use mathlib.Core.List.{List, [], ◌∷◌, ◌++◌, Memᴰ, append_assoc, append_nil}
+use mathlib.Core.List.{List, [], ◌∷◌, ◌++◌, Memᴰ, append_assoc, append-nil}
 use native.Mathlib.Omega.{arith}
 use lib.Dec.{leb}
-use lib.ListN.{length, take, drop, get_or, length_append, length_drop}
-use lib.Seq.{take_at, drop_at, drop_drop, get_or_drop, take_all, append_snoc}
-use borrow.Author.Tests.{eq_eqb, leb_true, le_leb}
+use lib.ListN.{length, take, drop, get_or, length-append, length-drop}
+use lib.Seq.{take_at, drop_at, drop-drop, get_or-drop, take_all, append_snoc}
+use borrow.Author.Tests.{eq-eqb, leb-true, le-leb}
 use Rattle.rules.specs.Lists.{◌==◌, each}
 use Rattle.rules.specs.Dump.{field}
 use Rattle.laws.proofs.Tests.{three, clash, ◌&◌}
@@ -40,25 +40,25 @@ opens_room tag size (a ∷ []) e = absurd (true≢false (sym e))
 opens_room tag size (a ∷ b ∷ []) e = absurd (true≢false (sym e))
 opens_room tag size (a ∷ b ∷ c ∷ s) e =
     let h = three (a == tag) (b * 256 + c == size) (leb size (length s)) e in
-    (h.0, omega (arith, leb_true size (length s) h.2))
+    (h.0, omega (arith, leb-true size (length s) h.2))
 
 -- a field that is written opens
 pub field_opens : (tag : ℕ) (v rest : List ℕ) → length v < 256 → opens tag (length v) (field tag v ++ rest) ≡ true
 unfolding opens
 field_opens tag v rest h =
-    let k : length v ≤ length (v ++ rest) = omega (arith, length_append v rest) in
-    eq_eqb tag tag refl & eq_eqb _ _ (two_back (length v) (omega arith)) & le_leb _ _ k
+    let k : length v ≤ length (v ++ rest) = omega (arith, length-append v rest) in
+    eq-eqb tag tag refl & eq-eqb _ _ (two_back (length v) (omega arith)) & le-leb _ _ k
 
 -- the same of the slice from a place to the end
 pub seen : (tag size : ℕ) (bytes : List ℕ) (at : ℕ) {b r : Bool} → b ≡ opens tag size (take (length bytes - at) (drop at bytes)) → b ≡ r
     → opens tag size (drop at bytes) ≡ r
 seen tag size bytes at e f =
-    let h : length (drop at bytes) ≤ length bytes - at = omega (arith, length_drop at bytes) in
+    let h : length (drop at bytes) ≤ length bytes - at = omega (arith, length-drop at bytes) in
     ap (opens tag size) (sym (take_all (length bytes - at) (drop at bytes) h)) ∙ sym e ∙ f
 
 -- the field that opens at a place ends within the bytes
 pub field_within : (tag size : ℕ) (bytes : List ℕ) (at : ℕ) → opens tag size (drop at bytes) ≡ true → at + (size + 3) ≤ length bytes
-field_within tag size bytes at o = omega (arith, (opens_room tag size (drop at bytes) o).1, length_drop at bytes)
+field_within tag size bytes at o = omega (arith, (opens_room tag size (drop at bytes) o).1, length-drop at bytes)
 
 -- ---- a row of fields
 
@@ -113,11 +113,11 @@ module _ {A : Type 0} (most tag size : ℕ) (value : A → List ℕ) (back : Lis
     next_is row at x xs (y ∷ zs) rest o e f s p q =
         let r = one_read (drop at bytes) y zs rest q in
         let on : at + (size + 3) ≡ at + 3 + size = omega arith in
-        let same : x ≡ y = e ∙ ap back (ap (take size) (sym (drop_drop 3 at bytes)) ∙ r.0)
+        let same : x ≡ y = e ∙ ap back (ap (take size) (sym (drop-drop 3 at bytes)) ∙ r.0)
         ∙ backs xs f y (rw (← p) (Memᴰ.append_right row (Memᴰ.head refl))) in (
           zs,
           ap (λ (z : A). row ++ z ∷ zs) same ∙ p,
-          ap (λ (k : ℕ). drop k bytes) on ∙ sym (drop_drop size (at + 3) bytes) ∙ ap (drop size) (sym (drop_drop 3 at bytes)) ∙ r.1,
+          ap (λ (k : ℕ). drop k bytes) on ∙ sym (drop-drop size (at + 3) bytes) ∙ ap (drop size) (sym (drop-drop 3 at bytes)) ∙ r.1,
         )
 
     -- as the slice between two places says it
@@ -140,7 +140,7 @@ module _ {A : Type 0} (most tag size : ℕ) (value : A → List ℕ) (back : Lis
           let d : row' ≡ row ++ (x ∷ []) = grown xs q.0 f q.1 in (
             q.0,
             ap (λ (l : List A). l ++ q.0) d ∙ append_snoc row x q.0 ∙ q.1,
-            omega (arith, ap length d, length_append row (x ∷ []), r.2),
+            omega (arith, ap length d, length-append row (x ∷ []), r.2),
             q.2,
           );
     }
@@ -149,7 +149,7 @@ module _ {A : Type 0} (most tag size : ℕ) (value : A → List ℕ) (back : Lis
     at_end : (row : List A) (at : ℕ) (ys xs : List A) (rest : List ℕ) → length ys ≡ 0 → row ++ ys ≡ xs
         → drop at bytes ≡ each (λ x. field tag (value x)) ys ++ rest → (row ≡ xs) × (drop at bytes ≡ rest)
     unfolding each
-    at_end row at [] xs rest z p q = (sym (append_nil row) ∙ p, q)
+    at_end row at [] xs rest z p q = (sym (append-nil row) ∙ p, q)
     at_end row at (y ∷ ys) xs rest z p q = absurd (omega arith)
 
     -- no further field
@@ -166,7 +166,7 @@ module _ {A : Type 0} (most tag size : ℕ) (value : A → List ℕ) (back : Lis
     cut_full row n at C h = record {
       reads = λ xs rest l f s g.
           let r = C.so xs rest l f s g in
-          at_end row at r.0 xs rest (omega (arith, ap length r.1, length_append row r.0, r.2)) r.1 r.3;
+          at_end row at r.0 xs rest (omega (arith, ap length r.1, length-append row r.0, r.2)) r.1 r.3;
     }
 
     -- an element that no row has which is fine
@@ -185,12 +185,12 @@ module _ {A : Type 0} (most tag size : ℕ) (value : A → List ℕ) (back : Lis
 module _ (tag : ℕ) (bytes : List ℕ) (from : ℕ) where
   -- a field of names tells how many
   many : (q rest : List ℕ) → length q ≤ 20 → drop from bytes ≡ field tag q ++ rest → get_or bytes (from + 2) 0 ≡ length q
-  many q rest l e = omega (arith, ap (λ (s : List ℕ). get_or s 2 0) e, get_or_drop from bytes 2 0)
+  many q rest l e = omega (arith, ap (λ (s : List ℕ). get_or s 2 0) e, get_or-drop from bytes 2 0)
 
   -- bytes that start with no such field
   pub names_short : length bytes - from < 3 → NamesCounted tag bytes from 255
   names_short h =
-      record { whole = λ k. absurd (omega arith); counts = λ q rest l e. absurd (omega (arith, ap length e, length_drop from bytes)) }
+      record { whole = λ k. absurd (omega arith); counts = λ q rest l e. absurd (omega (arith, ap length e, length-drop from bytes)) }
 
   pub names_many : 20 < get_or bytes (from + 2) 0 → NamesCounted tag bytes from 255
   names_many h = record { whole = λ k. absurd (omega arith); counts = λ q rest l e. absurd (omega (arith, many q rest l e)) }
@@ -216,9 +216,9 @@ module _ (tag : ℕ) (bytes : List ℕ) (from : ℕ) where
       reads = λ q rest l e.
           let long : length q ≡ n = sym (C.counts q rest l e) in
           let size : from + 3 + n - (from + 3) ≡ n = omega arith in
-          let f : drop (from + 3) bytes ≡ q ++ rest = sym (drop_drop 3 from bytes) ∙ ap (drop 3) e in (
+          let f : drop (from + 3) bytes ≡ q ++ rest = sym (drop-drop 3 from bytes) ∙ ap (drop 3) e in (
             refl,
             k ∙ ap (λ (j : ℕ). take j (drop (from + 3) bytes)) size ∙ ap (take n) f ∙ take_at q rest n long,
-            sym (drop_drop n (from + 3) bytes) ∙ ap (drop n) f ∙ drop_at q rest n long,
+            sym (drop-drop n (from + 3) bytes) ∙ ap (drop n) f ∙ drop_at q rest n long,
           );
     }

@@ -5,9 +5,9 @@ use mathlib.Core.Path.{◌≡◌, refl, sym, ap, ◌∙◌}
 use mathlib.Core.Bool.{Bool, true, false}
 use mathlib.Core.List.{List, ◌++◌}
 use native.Mathlib.Omega.{arith}
-use lib.ListN.{length, take, drop, length_append}
+use lib.ListN.{length, take, drop, length-append}
 use lib.Seq.{take_at}
-use borrow.Author.Tests.{lt_ltb}
+use borrow.Author.Tests.{lt-ltb}
 use Rattle.rules.specs.Lists.{same}
 use Rattle.rules.specs.Numbers.{small, devices}
 use Rattle.rules.specs.Tables.{Tables}
@@ -47,7 +47,7 @@ writable m v =
     let r = tested_ruled small (tables m) (rules_of m v) in (
       record {
         shaped = shaped_right small m (and_left (shaped small m) _ v) (omega arith) (omega arith);
-        told = all_of _ (tables m).held (λ h k. lt_ltb h.device devices (r.fits.held h k).0);
+        told = all_of _ (tables m).held (λ h k. lt-ltb h.device devices (r.fits.held h k).0);
         rising = r.fits.held_order;
       },
       dump_fits_small (tables m) (rules_of m v),
@@ -58,7 +58,7 @@ pub front : (bytes before after : List ℕ) (n : ℕ) → Puts bytes before afte
 front bytes before after n p = ap (take n) p.shows ∙ take_at bytes (drop (length bytes) before) n (sym p.counts)
 
 pub front_fits : (bytes before after : List ℕ) (n : ℕ) → Puts bytes before after n → n ≤ length after
-front_fits bytes before after n p = omega (arith, p.counts, ap length p.shows, length_append bytes (drop (length bytes) before))
+front_fits bytes before after n p = omega (arith, p.counts, ap length p.shows, length-append bytes (drop (length bytes) before))
 
 -- ---- the stages together
 

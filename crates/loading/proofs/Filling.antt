@@ -5,12 +5,12 @@ use mathlib.Core.Logic.{⊎_elim}
 use mathlib.Core.Bool.{Bool, true, false, not}
 use mathlib.Core.List.Memᴰ
 use mathlib.Core.List.{List, [], ◌∷◌, ◌++◌, Memᴰ}
-use native.Mathlib.Numerals.{add_one}
+use native.Mathlib.Numerals.{add-one}
 use native.Mathlib.Omega.{arith}
 use lib.Dec.{ltb}
-use lib.ListN.{length, take, drop, get_or, length_append, length_drop}
-use lib.Seq.{take_suc, take_all, length_take_le}
-use borrow.Author.Tests.{ltb_true, lt_ltb, ne_eqb}
+use lib.ListN.{length, take, drop, get_or, length-append, length-drop}
+use lib.Seq.{take-suc, take_all, length-take-le}
+use borrow.Author.Tests.{ltb-true, lt-ltb, ne_eqb}
 use Rattle.rules.specs.Lists.{if◌then◌else◌, ◌==◌, all, keep, insert, chain}
 use Rattle.rules.specs.Numbers.{small, devices}
 use Rattle.rules.specs.Tables.{Tables, with_last, with_runner, with_time, with_threads, with_ready, with_clock, with_messages, with_held}
@@ -159,7 +159,7 @@ message_kind =
 
 -- one more is there
 pub one_longer : {A : Type 0} (l : List A) (x : A) (n : ℕ) → length l ≡ n → length (l ++ (x ∷ [])) ≡ n + 1
-one_longer l x n e = omega (arith, length_append l (x ∷ []), e)
+one_longer l x n e = omega (arith, length-append l (x ∷ []), e)
 
 -- there is room for it
 pub thread_room : {m₀ bytes : List ℕ} {from : ℕ} {m : List ℕ} {n at : ℕ} → Rowing thread_kind m₀ bytes from m n at → n < 20 →
@@ -205,7 +205,7 @@ rising_last [] zs h c = refl
 rising_last (k ∷ hs) zs h c =
     let l : k.device < h.device = up_below (λ (a : Held). a.device) k (hs ++ h ∷ zs) c h (Memᴰ.append_right hs (Memᴰ.head refl)) in
     let r = rising_last hs zs h (chain_tail (λ a b. ltb a.device b.device) k (hs ++ h ∷ zs) c) in
-    rw (ne_eqb k.device h.device (λ i. omega arith), lt_ltb k.device h.device l) (ap (λ (s : List Held). k ∷ s) r)
+    rw (ne_eqb k.device h.device (λ i. omega arith), lt-ltb k.device h.device l) (ap (λ (s : List Held). k ∷ s) r)
 
 pub held_last : (xs hs zs : List Held) (h : Held) → HeldFine xs → hs ++ h ∷ zs ≡ xs → hold h.device h.word hs ≡ hs ++ (h ∷ [])
 held_last xs hs zs h f e = rising_last hs zs h (ap (chain (λ a b. ltb a.device b.device)) e ∙ f.rising)
@@ -215,13 +215,13 @@ pub held_low : (hs : List Held) (d w : ℕ) → d < devices → all (λ h. ltb h
 unfolding hold
 held_low hs d w l a =
     all_of low _ (λ x m. ⊎_elim
-    (λ i. ap low i ∙ lt_ltb d devices l)
+    (λ i. ap low i ∙ lt-ltb d devices l)
     (λ i. all_at low hs a x (mem_keep (λ h. not (held_for d h)) hs i).0)
     (mem_insert (λ h. ltb h.device d) (record { device = d; word = w }) (keep (λ h. not (held_for d h)) hs) m))
 
 -- no row that is fine has a device that there is not
 pub never_high : (h : Held) → devices ≤ h.device → (xs : List Held) → HeldFine xs → Memᴰ h xs → ⊥
-never_high h l xs f m = let k : h.device < devices = ltb_true h.device devices (f.low h m) in omega arith
+never_high h l xs f m = let k : h.device < devices = ltb-true h.device devices (f.low h m) in omega arith
 
 -- ---- names
 
@@ -277,7 +277,7 @@ module _ (tag : ℕ) (names m₀ : List ℕ) where
 
     pub naming_room : i < length names → Shaped m × (length (names_in tag (tables m)) < (limits m).threads)
     naming_room h =
-        let k : length (names_in tag (tables m)) ≡ i = ap length names_now ∙ length_take_le i names N.within in
+        let k : length (names_in tag (tables m)) ≡ i = ap length names_now ∙ length-take-le i names N.within in
         let l : limits m ≡ small = N.only.same ∙ N.small in
         (N.only.shaped, rw l (omega (arith, k, N.few)))
 
@@ -286,7 +286,7 @@ module _ (tag : ℕ) (names m₀ : List ℕ) where
     naming_next m' x h e F j =
         let more : names_in tag (tables m) ++ (x ∷ []) ≡ take (i + 1) names =
         ap (λ (q : List ℕ). q ++ (x ∷ [])) names_now ∙ ap (λ (y : ℕ). take i names ++ (y ∷ [])) e
-        ∙ sym (ap (λ (j : ℕ). take j names) (add_one i) ∙ take_suc names i 0 h) in
+        ∙ sym (ap (λ (j : ℕ). take j names) (add-one i) ∙ take-suc names i 0 h) in
         record {
           few = N.few;
           within = omega arith;
@@ -322,7 +322,7 @@ module _ (tag : ℕ) (q m m' : List ℕ) (F : Fills m m' (with_names tag q (tabl
 
 -- a part of n bytes, where there are so many
 pub part_few : (bytes : List ℕ) (a n : ℕ) → n ≤ 20 → a + n ≤ length bytes → length (take (a + n - a) (drop a bytes)) ≤ 20
-part_few bytes a n h l = omega (arith, length_take_le (a + n - a) (drop a bytes) (omega (arith, length_drop a bytes)))
+part_few bytes a n h l = omega (arith, length-take-le (a + n - a) (drop a bytes) (omega (arith, length-drop a bytes)))
 
 -- ---- the head
 

@@ -2,11 +2,11 @@
 use Prim.Native.Nat.{ℕ, ◌≤◌}
 use mathlib.Core.Path.{◌≡◌, refl, sym, ap, ◌∙◌}
 use mathlib.Core.Bool.{Bool, true, false}
-use mathlib.Core.List.{List, [], ◌∷◌, ◌++◌, append_assoc, append_nil}
+use mathlib.Core.List.{List, [], ◌∷◌, ◌++◌, append_assoc, append-nil}
 use native.Mathlib.Omega.{arith}
 use lib.Dec.{eqb}
-use lib.ListN.{length, drop, get_or, length_drop}
-use borrow.Author.Tests.{eq_eqb, lt_ltb}
+use lib.ListN.{length, drop, get_or, length-drop}
+use borrow.Author.Tests.{eq-eqb, lt-ltb}
 use Rattle.rules.specs.Lists.{each}
 use Rattle.rules.specs.Numbers.{small, devices}
 use Rattle.rules.specs.Tables.{Tables, with_threads, with_ready, with_clock, with_messages, with_held}
@@ -193,10 +193,10 @@ module _ {bytes m₀ m₁ m₂ m₃ m₄ m₅ : List ℕ} {gr gc : Bool} {a b c 
       let w = P.held_read.reads T.held [] (held_few 20 T.threads T.messages T.held r.fits)
       (record {
         backs = record { each_back = λ x n. held_back x (r.fits.held x n).1 };
-        low = λ x n. lt_ltb x.device devices (r.fits.held x n).0;
+        low = λ x n. lt-ltb x.device devices (r.fits.held x n).0;
         rising = r.fits.held_order;
       })
-      refl (m.1 ∙ sym (append_nil (words T))) in
+      refl (m.1 ∙ sym (append-nil (words T))) in
       record { threads = t.0; good_r = q.0; ready = q.1; good_c = k.0; clock = k.1; messages = m.0; held = w.0; end = w.1 }
 
   -- a field of names that does not stand: no dump
@@ -221,7 +221,7 @@ module _ {bytes m₀ m₁ m₂ m₃ m₄ m₅ : List ℕ} {gr gc : Bool} {a b c 
   rest_found l = record {
     finds = λ T h i.
         let w = whole T h i in (
-          eq_eqb e (length bytes) (omega (arith, ap length w.end, length_drop e bytes)),
+          eq-eqb e (length bytes) (omega (arith, ap length w.end, length-drop e bytes)),
           together ∙ told T w,
           still_small (still_small (still_small (still_small (still_small P.small P.threads) P.ready) P.clock) P.messages)
               P.held,

@@ -3,10 +3,10 @@ use Prim.Native.Nat.{ℕ, suc, ◌+◌, ◌≤◌, ◌<◌}
 use mathlib.Core.Path.{◌≡◌, refl, sym, ap, ap₂, ◌∙◌}
 use mathlib.Core.Bool.{true}
 use mathlib.Core.List.{List, [], ◌∷◌, ◌++◌}
-use native.Mathlib.Numerals.{add_one}
+use native.Mathlib.Numerals.{add-one}
 use native.Mathlib.Omega.{arith}
-use lib.ListN.{length, take, drop, get_or, set, length_set, length_append, length_drop, get_or_append}
-use lib.Seq.{take_suc, take_all, drop_cons, length_take_le, append_snoc, set_append_seam, ext_get_or}
+use lib.ListN.{length, take, drop, get_or, set, length-set, length-append, length-drop, get_or-append}
+use lib.Seq.{take-suc, take_all, drop-cons, length-take-le, append_snoc, set-append_seam, ext_get_or}
 use Rattle.rules.specs.Lists.{each, from_on}
 use Rattle.rules.specs.Numbers.{Limits, small, devices}
 use Rattle.rules.specs.TableRules.{table_rules}
@@ -39,19 +39,19 @@ module _ (from to₀ : List ℕ) where
   module _ (to : List ℕ) (i : ℕ) (P : Placed from to₀ to i) where
     pub place_next : (x : ℕ) → i < length from → x ≡ get_or from i 0 → Placed from to₀ (set to i x) (i + 1)
     place_next x h e =
-        let front : length (take i from) ≡ i = length_take_le i from P.within in
+        let front : length (take i from) ≡ i = length-take-le i from P.within in
         let k : i < length to₀ = omega (arith, P.room) in
         record {
           room = P.room;
           within = omega arith;
-          long = length_set to i x ∙ P.long;
-          so = ap (λ (t : List ℕ). set t i x) (P.so ∙ ap (λ (r : List ℕ). take i from ++ r) (drop_cons to₀ i 0 k))
+          long = length-set to i x ∙ P.long;
+          so = ap (λ (t : List ℕ). set t i x) (P.so ∙ ap (λ (r : List ℕ). take i from ++ r) (drop-cons to₀ i 0 k))
               ∙ ap (λ (j : ℕ). set (take i from ++ get_or to₀ i 0 ∷ drop (suc i) to₀) j x) (sym front)
-              ∙ set_append_seam (take i from) (get_or to₀ i 0) (drop (suc i) to₀) x
+              ∙ set-append_seam (take i from) (get_or to₀ i 0) (drop (suc i) to₀) x
               ∙ sym (append_snoc (take i from) x (drop (suc i) to₀))
               ∙ ap (λ (y : ℕ). take i from ++ (y ∷ []) ++ drop (suc i) to₀) e
-              ∙ ap (λ (r : List ℕ). r ++ drop (suc i) to₀) (sym (take_suc from i 0 h))
-              ∙ ap (λ (j : ℕ). take j from ++ drop j to₀) (sym (add_one i));
+              ∙ ap (λ (r : List ℕ). r ++ drop (suc i) to₀) (sym (take-suc from i 0 h))
+              ∙ ap (λ (j : ℕ). take j from ++ drop j to₀) (sym (add-one i));
         }
 
     pub place_ends : length from ≤ i → to ≡ from ++ drop (length from) to₀
@@ -79,12 +79,12 @@ module _ (w rest : List ℕ) (v : stands small w ≡ true) (long : length w ≡ 
   blocks_is = ap (λ (l : Limits). l.blocks) (own_limits small w sized)
 
   word_front : (k : ℕ) → k < 656 → word m k ≡ word w k
-  word_front k h = get_or_append w rest 0 k (omega (arith, long))
+  word_front k h = get_or-append w rest 0 k (omega (arith, long))
 
   part_front : (a n : ℕ) → a + n ≤ 656 → part m a n ≡ part w a n
   part_front a n h =
-      let p : length (part m a n) ≡ n = length_take_le n (drop a m) (omega (arith, length_drop a m, length_append w rest, long)) in
-      let q : length (part w a n) ≡ n = length_take_le n (drop a w) (omega (arith, length_drop a w, long)) in
+      let p : length (part m a n) ≡ n = length-take-le n (drop a m) (omega (arith, length-drop a m, length-append w rest, long)) in
+      let q : length (part w a n) ≡ n = length-take-le n (drop a w) (omega (arith, length-drop a w, long)) in
       ext_get_or 0 (part m a n) (part w a n) (p ∙ sym q) (λ k i.
       let j : k < n = omega (arith, p) in
       part_word m a n k j ∙ word_front (a + k) (omega arith) ∙ sym (part_word w a n k j))
@@ -131,7 +131,7 @@ module _ (w rest : List ℕ) (v : stands small w ≡ true) (long : length w ≡ 
       by (λ (r : Rows). Fits r.limits r) rows_front
       (record {
         limits = refl;
-        roomy = record { long = omega (arith, s.roomy.long, length_append w rest); low = s.roomy.low; few = s.roomy.few };
+        roomy = record { long = omega (arith, s.roomy.long, length-append w rest); low = s.roomy.low; few = s.roomy.few };
         threads = s.threads;
         ready = s.ready;
         clock = s.clock;

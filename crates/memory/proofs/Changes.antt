@@ -4,8 +4,8 @@ use mathlib.Core.Path.{◌≡◌, ap, ap₂, ◌∙◌}
 use mathlib.Core.Logic.{⊎_elim, ◌⊎◌, inl, inr}
 use mathlib.Core.List.{List}
 use native.Mathlib.Omega.{arith}
-use lib.ListN.{length, get_or, set, length_set}
-use lib.Seq.{get_or_set_same, get_or_set_other}
+use lib.ListN.{length, get_or, set, length-set}
+use lib.Seq.{get_or-set_same, get_or-set_other}
 use Rattle.rules.specs.Lists.{if◌then◌else◌, ◌==◌, each}
 use Rattle.rules.specs.Numbers.{devices}
 use Rattle.laws.specs.Words.{Thread, Message, Held, Runner}
@@ -155,7 +155,7 @@ module _ {a n : ℕ} {m m' : List ℕ} (E : Elsewhere a n m m') (b : 2 ≤ a) wh
 -- the words after a store
 pub word_after : (m : List ℕ) (k v : ℕ) → k < length m → (j : ℕ) → word (set m k v) j ≡ put_word k v (words m) j
 word_after m k v h j =
-    ⊎_elim (λ e. rw (e.1, e.0) (get_or_set_same m k v 0 h)) (λ d. rw d.1 (get_or_set_other m k j v 0 d.0)) (same? j k)
+    ⊎_elim (λ e. rw (e.1, e.0) (get_or-set_same m k v 0 h)) (λ d. rw d.1 (get_or-set_other m k j v 0 d.0)) (same? j k)
 
 pub after_store : (m : List ℕ) (k v : ℕ) → k < length m → words (set m k v) ≡ put_word k v (words m)
 after_store m k v h = λ ι j. word_after m k v h j ι
@@ -175,7 +175,7 @@ unfolding rows_of
 runner_put m n s r h e =
     heads m (set (set m 3 n) 4 s) (put_word 4 s (put_word 3 n (words m)))
     (twice (widen 2 14 (stored m 3 n) (omega arith) (omega arith)) (widen 2 14 (stored (set m 3 n) 4 s) (omega arith) (omega arith)))
-    (after_store (set m 3 n) 4 s (omega (arith, length_set m 3 n)) ∙ ap (put_word 4 s) (after_store m 3 n (omega arith)))
+    (after_store (set m 3 n) 4 s (omega (arith, length-set m 3 n)) ∙ ap (put_word 4 s) (after_store m 3 n (omega arith)))
     ∙ ap (λ (x : Runner). put_runner x (rows_of m)) e
 
 -- hints say nothing
@@ -247,7 +247,7 @@ module _ (m : List ℕ) (i c x n : ℕ) (h : i < word m 0) (room : thread_place 
     pick d = if d == c then set (queue d m) i n else queue d m
 
     written : cell c m' i ≡ n
-    written = ap byte (get_or_set_same m (thread_place i + c) x 0 (omega arith)) ∙ says
+    written = ap byte (get_or-set_same m (thread_place i + c) x 0 (omega arith)) ∙ says
 
     picked : (d : ℕ) → 12 ≤ d → d < 16 → queue d m' ≡ pick d
     picked d r s =

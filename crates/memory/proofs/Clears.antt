@@ -3,7 +3,7 @@ use Prim.Native.Nat.{ℕ, ◌≤◌, ◌<◌}
 use mathlib.Core.Path.{◌≡◌, refl, ap, ◌∙◌}
 use mathlib.Core.List.{List, []}
 use native.Mathlib.Omega.{arith}
-use lib.ListN.{length, set, length_set}
+use lib.ListN.{length, set, length-set}
 use Rattle.laws.specs.Words.{NoRunner}
 use Rattle.memory.specs.Rows.{Rows, Room, Roomy, view, nothing, put_held, put_runner}
 use Rattle.memory.specs.Memory.{rows_of}
@@ -16,7 +16,7 @@ record Says (n : ℕ) (m : List ℕ) (w : ℕ → ℕ) : Type 0 where
 
 more : (n : ℕ) (m : List ℕ) (w : ℕ → ℕ) (k v : ℕ) → k < n → Says n m w → Says n (set m k v) (put_word k v w)
 more n m w k v h s =
-    record { long = length_set m k v ∙ s.long; words_are = after_store m k v (omega (arith, s.long)) ∙ ap (put_word k v) s.words_are }
+    record { long = length-set m k v ∙ s.long; words_are = after_store m k v (omega (arith, s.long)) ∙ ap (put_word k v) s.words_are }
 
 module _ (m : List ℕ) (t b : ℕ) (room : 16 ≤ length m) where
   abbrev pub anew : List ℕ

@@ -6,9 +6,9 @@ use mathlib.Core.List.{List, ◌++◌}
 use mathlib.Core.Bool.{Bool, true, false}
 use native.Mathlib.Omega.{arith}
 use lib.Dec.{ltb}
-use lib.ListN.{length, get_or, set, take, drop, length_take, length_drop}
-use lib.Seq.{get_or_set_same, get_or_set_other}
-use borrow.Author.Tests.{ltb_true, ltb_false}
+use lib.ListN.{length, get_or, set, take, drop, length-take, length-drop}
+use lib.Seq.{get_or-set_same, get_or-set_other}
+use borrow.Author.Tests.{ltb-true, ltb-false}
 use borrow.Rule.Slice.PartMut.{put_mid}
 use Rattle.rules.specs.Tables.{manager, with_managers, set_entry}
 use Rattle.laws.specs.Words.{Thread, Message, Manager, TrapKind, Program, Tlb, SysBp}
@@ -24,8 +24,8 @@ by_if_below : {A : Type 0} (k n : ℕ) → (k < n → A) → (n ≤ k → A) →
 by_if_below {A = A} k n f g = go (ltb k n) refl
   where
     go : (b : Bool) → ltb k n ≡ b → A
-    go true e = f (ltb_true k n e)
-    go false e = g (ltb_false k n e)
+    go true e = f (ltb-true k n e)
+    go false e = g (ltb-false k n e)
 
 -- the first of the n words from a on
 first : (m : List ℕ) (a n : ℕ) → 0 < n → word (part m a n) 0 ≡ word m a
@@ -91,9 +91,9 @@ module _ (m : List ℕ) (i : ℕ) (h : i < word m 0) where
       thread_put m (set m at v) i (f (get_or (rows_of m).threads i no_thread)) h
       (widen (thread_place i) 12 (stored m at v) (omega arith) (omega arith))
       (thread_told (set m at v) (thread_place i) (word m (thread_place i)) (put_word k v (λ j. word m (thread_place i + j)))
-      (get_or_set_other m at (thread_place i) v 0 (λ z. omega arith))
-      (λ j r s. ⊎_elim (λ z. rw (z.1, z.0) (get_or_set_same m at v 0 (omega arith)))
-      (λ z. rw z.1 (get_or_set_other m at (thread_place i + j) v 0 (λ y. z.0 (omega arith)))) (same? j k))
+      (get_or-set_other m at (thread_place i) v 0 (λ z. omega arith))
+      (λ j r s. ⊎_elim (λ z. rw (z.1, z.0) (get_or-set_same m at v 0 (omega arith)))
+      (λ z. rw z.1 (get_or-set_other m at (thread_place i + j) v 0 (λ y. z.0 (omega arith)))) (same? j k))
       ∙ e
       ∙ ap f (sym thread_entry))
 
@@ -176,7 +176,7 @@ pub four_more : (a b n x y : ℕ) (m m' m'' : List ℕ) → x ≡ a + n → y �
 four_more a b n x y m m' m'' xs ys apart M p q e =
     let L : length m' ≡ length m = M.where_else.long in
     let vs : List ℕ = part m' x 4 in
-    let l : length vs ≡ 4 = simp (length_take, length_drop) (omega arith) in
+    let l : length vs ≡ 4 = simp (length-take, length-drop) (omega arith) in
     let r : y + 4 ≤ length m' = omega arith in
     let B : Elsewhere y 4 m' m'' = rw e (lent m' y 4 vs r l) in
     let v : part m'' y 4 ≡ vs = rw e (lent_part m' y 4 vs r l) in

@@ -6,9 +6,9 @@ use mathlib.Core.Bool.{Bool, true, false, not, ◌&&◌}
 use mathlib.Core.List.{List, [], ◌∷◌, ◌++◌}
 use native.Mathlib.Omega.{arith}
 use lib.Dec.{ltb}
-use lib.ListN.{length, set, length_set}
-use lib.Seq.{get_or_set_same, get_or_set_other}
-use borrow.Author.Tests.{eqb_true, eqb_false, eq_eqb, ne_eqb, lt_ltb, le_ltb}
+use lib.ListN.{length, set, length-set}
+use lib.Seq.{get_or-set_same, get_or-set_other}
+use borrow.Author.Tests.{eqb-true, eqb-false, eq-eqb, ne_eqb, lt-ltb, le-ltb}
 use Rattle.rules.specs.Lists.{if◌then◌else◌, ◌==◌, each, from_on, all, any, keep, insert}
 use Rattle.rules.specs.Numbers.{devices, nobody}
 use Rattle.rules.specs.Interrupt.{held_for, hold}
@@ -26,10 +26,10 @@ by_flag : (P : List Held → Type 0) (d f w : ℕ) → (f ≡ 0 → P []) → (f
     (1 < f → P (record { device = nobody; word = w } ∷ [])) → P (held_in d f w)
 unfolding held_in
 by_flag P d f w none one more =
-    by_if P (f == 0) (λ e. none (eqb_true f 0 e)) (λ n.
-    by_if P (f == 1) (λ e. one (eqb_true f 1 e)) (λ o.
-    let z = eqb_false f 0 n in
-    let y = eqb_false f 1 o in
+    by_if P (f == 0) (λ e. none (eqb-true f 0 e)) (λ n.
+    by_if P (f == 1) (λ e. one (eqb-true f 1 e)) (λ o.
+    let z = eqb-false f 0 n in
+    let y = eqb-false f 1 o in
     more (by_cases f z y)))
   where
     by_cases : (f : ℕ) → f ≢ 0 → f ≢ 1 → 1 < f
@@ -80,7 +80,7 @@ module _ (F W : ℕ → ℕ) where
       (λ e. rw (← e.0) (by_flag (λ xs. keep (held_for a) (xs ++ helds (suc a) n) ≡ (if F a == 1 then record { device = a; word = W a }
       ∷ [] else [])) a (F a) (W a)
       (λ z. rw (ne_eqb (F a) 1 (λ y. omega arith)) (none_behind a (suc a) n (omega arith) (omega arith)))
-      (λ z. rw (eq_eqb (F a) 1 z, eq_eqb a a refl, none_behind a (suc a) n (omega arith) (omega arith)) refl)
+      (λ z. rw (eq-eqb (F a) 1 z, eq-eqb a a refl, none_behind a (suc a) n (omega arith) (omega arith)) refl)
       (λ z. rw (ne_eqb (F a) 1 (λ y. omega arith), ne_eqb nobody a (λ y. omega arith))
       (none_behind a (suc a) n (omega arith) (omega arith)))))
       (λ e. by_flag (λ xs. keep (held_for d) (xs ++ helds (suc a) n) ≡ (if F d == 1 then record { device = d; word = W d } ∷ [] else [])) a
@@ -94,13 +94,13 @@ module _ (F W : ℕ → ℕ) where
   unfolding any
   is_held d h =
       sym (any_keep (held_for d) (helds 0 devices)) ∙ ap (any (held_for d)) (own d 0 devices (omega arith) (omega arith) (omega arith))
-      ∙ by_if (λ xs. any (held_for d) xs ≡ (F d == 1)) (F d == 1) (λ e. rw (e, eq_eqb d d refl) refl) (λ e. sym e)
+      ∙ by_if (λ xs. any (held_for d) xs ≡ (F d == 1)) (F d == 1) (λ e. rw (e, eq-eqb d d refl) refl) (λ e. sym e)
 
   pub held_word : (d : ℕ) → d < devices → word_for d (helds 0 devices) ≡ (if F d == 1 then W d else 0)
   unfolding word_for
   held_word d h =
       sym (word_keep d (helds 0 devices)) ∙ ap (word_for d) (own d 0 devices (omega arith) (omega arith) (omega arith))
-      ∙ by_if (λ xs. word_for d xs ≡ (if F d == 1 then W d else 0)) (F d == 1) (λ e. rw (e, eq_eqb d d refl) refl) (λ e. rw e refl)
+      ∙ by_if (λ xs. word_for d xs ≡ (if F d == 1 then W d else 0)) (F d == 1) (λ e. rw (e, eq-eqb d d refl) refl) (λ e. rw e refl)
 
   pub held_taken : (d : ℕ) → d < devices → any (held_for d) (helds 0 devices) ≡ true → word_for d (helds 0 devices) ≡ W d
   held_taken d h e = held_word d h ∙ ap (λ (b : Bool). if b then W d else 0) (sym (is_held d h) ∙ e)
@@ -116,7 +116,7 @@ module _ (F W : ℕ → ℕ) where
   gentle_told a (suc n) h g =
       by_flag (λ xs. all (λ h. ltb h.device devices) (xs ++ helds (suc a) n) ≡ true) a (F a) (W a)
       (λ e. gentle_told (suc a) n (omega arith) (λ j p q. g j (omega arith) (omega arith)))
-      (λ e. rw (lt_ltb a devices (omega arith)) (gentle_told (suc a) n (omega arith) (λ j p q. g j (omega arith) (omega arith))))
+      (λ e. rw (lt-ltb a devices (omega arith)) (gentle_told (suc a) n (omega arith) (λ j p q. g j (omega arith) (omega arith))))
       (λ e. absurd (omega (arith, g a (omega arith) (omega arith))))
 
   pub untold : (a n d : ℕ) → a ≤ d → d < a + n → 1 < F d → all (λ h. ltb h.device devices) (helds a n) ≡ false
@@ -144,7 +144,7 @@ module _ (F W : ℕ → ℕ) where
   unfolding each from_on held_in
   none_held a zero h = refl
   none_held a (suc n) h =
-      rw (eq_eqb (F a) 0 (h a (omega arith) (omega arith))) (none_held (suc a) n (λ j p q. h j (omega arith) (omega arith)))
+      rw (eq-eqb (F a) 0 (h a (omega arith) (omega arith))) (none_held (suc a) n (λ j p q. h j (omega arith) (omega arith)))
 
   -- ---- one device's words change: g says what is held afterwards
 
@@ -165,7 +165,7 @@ module _ (F W : ℕ → ℕ) where
   first_behind x d a (suc n) h g =
       by_flag (λ xs. insert (λ h. ltb h.device d) x (xs ++ helds (suc a) n) ≡ x ∷ (xs ++ helds (suc a) n)) a (F a) (W a)
       (λ e. first_behind x d (suc a) n (omega arith) (λ j p q. g j (omega arith) (omega arith)))
-      (λ e. rw (le_ltb a d (omega arith)) refl)
+      (λ e. rw (le-ltb a d (omega arith)) refl)
       (λ e. absurd (omega (arith, g a (omega arith) (omega arith))))
 
   module _ (g : ℕ → List Held) (d : ℕ) (same : (j : ℕ) → j ≢ d → g j ≡ of j) where
@@ -205,7 +205,7 @@ module _ (F W : ℕ → ℕ) where
         (held_anew w e (suc a) n (omega (arith, y.0)) (omega arith) (λ j r s. t j (omega arith) (omega arith)))
         ∙ by_flag (λ xs. xs ++ hold d w (helds (suc a) n) ≡ insert below x (keep (other d) (xs ++ helds (suc a) n))) a (F a) (W a)
         (λ z. refl)
-        (λ z. rw (y.1, lt_ltb a d (omega (arith, y.0))) refl)
+        (λ z. rw (y.1, lt-ltb a d (omega (arith, y.0))) refl)
         (λ z. absurd (omega (arith, t a (omega arith) (omega arith)))))
         (same? a d)
 
@@ -229,13 +229,13 @@ module _ (m : List ℕ) (d : ℕ) (h : d < devices) (room : 176 ≤ length m) (g
         let at : ℕ = held_place d in
         let m₁ : List ℕ = set m at 1 in
         let m₂ : List ℕ = set m₁ (at + 1) w in
-        let l : length m₁ ≡ length m = length_set m at 1 in
+        let l : length m₁ ≡ length m = length-set m at 1 in
         let E : Elsewhere at 2 m m₂ =
         twice (widen at 2 (stored m at 1) (omega arith) (omega arith)) (widen at 2 (stored m₁ (at + 1) w) (omega arith) (omega arith)) in
         held_put m m₂ _ (widen 16 96 E (omega arith) (omega arith))
         (held_anew (flags m) (inside m) (held_of m₂) d (λ j n. held_stays E (omega arith) j (λ k x p q. n (omega arith))) w
-        (ap₂ (held_in d) (get_or_set_other m₁ (at + 1) at w 0 (λ z. omega arith) ∙ get_or_set_same m at 1 0 (omega arith))
-        (get_or_set_same m₁ (at + 1) w 0 (omega arith)))
+        (ap₂ (held_in d) (get_or-set_other m₁ (at + 1) at w 0 (λ z. omega arith) ∙ get_or-set_same m at 1 0 (omega arith))
+        (get_or-set_same m₁ (at + 1) w 0 (omega arith)))
         0 devices (omega arith) (omega arith) gentle)
 
     pub clear_put : rows_of (set m (held_place d) 0) ≡ put_held (keep (λ h. not (held_for d h)) (rows_of m).held) (rows_of m)
@@ -245,7 +245,7 @@ module _ (m : List ℕ) (d : ℕ) (h : d < devices) (room : 176 ≤ length m) (g
         let E : Elsewhere at 2 m (set m at 0) = widen at 2 (stored m at 0) (omega arith) (omega arith) in
         held_put m (set m at 0) _ (widen 16 96 E (omega arith) (omega arith))
         (cleared (flags m) (inside m) (held_of (set m at 0)) d (λ j n. held_stays E (omega arith) j (λ k x p q. n (omega arith)))
-        (ap (λ (f : ℕ). held_in d f (word (set m at 0) (at + 1))) (get_or_set_same m at 0 0 (omega arith)))
+        (ap (λ (f : ℕ). held_in d f (word (set m at 0) (at + 1))) (get_or-set_same m at 0 0 (omega arith)))
         0 devices (omega arith) (omega arith) gentle)
 
 -- the devices before d hold nothing, and all but the held words stands
@@ -261,8 +261,8 @@ one_emptied d m m' h room e =
     record {
       apart = twice e.apart (widen 16 96 (stored m' (held_place d) 0) (omega arith) (omega arith));
       empty = λ k l. ⊎_elim
-          (λ s. rw s.0 (get_or_set_same m' (held_place d) 0 0 (omega (arith, e.apart.long))))
-          (λ s. get_or_set_other m' (held_place d) (held_place k) 0 0 (λ z. s.0 (omega arith)) ∙ e.empty k (omega (arith, s.0)))
+          (λ s. rw s.0 (get_or-set_same m' (held_place d) 0 0 (omega (arith, e.apart.long))))
+          (λ s. get_or-set_other m' (held_place d) (held_place k) 0 0 (λ z. s.0 (omega arith)) ∙ e.empty k (omega (arith, s.0)))
           (same? k d);
     }
 

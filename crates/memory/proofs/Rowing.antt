@@ -6,10 +6,10 @@ use mathlib.Core.Bool.{Bool, true, false}
 use mathlib.Core.List.{List, ◌∷◌, ◌++◌}
 use native.Mathlib.Omega.{arith}
 use lib.Dec.{ltb}
-use lib.ListN.{length, get_or, take, drop, set, length_set, length_append, length_take, length_drop, get_or_append}
-use lib.Seq.{ext_get_or, get_or_take, get_or_drop, get_or_set_other, get_or_append_add, length_take_le, drop_at, take_at}
-use borrow.Author.Tests.{ltb_true, ltb_false}
-use borrow.Rule.Slice.PartMut.{mid_of, put_mid, Post_is}
+use lib.ListN.{length, get_or, take, drop, set, length-set, length-append, length-take, length-drop, get_or-append}
+use lib.Seq.{ext_get_or, get_or-take, get_or-drop, get_or-set_other, get_or-append-add, length-take-le, drop_at, take_at}
+use borrow.Author.Tests.{ltb-true, ltb-false}
+use borrow.Rule.Slice.PartMut.{mid_of, put_mid, Post-is}
 use Rattle.rules.specs.Lists.{each, from_on}
 use Rattle.words.specs.Saying.{word}
 use Rattle.memory.specs.Memory.{row, part}
@@ -63,14 +63,14 @@ pub record Elsewhere (a n : ℕ) (m m' : List ℕ) : Type 0 where
   pub same : (k : ℕ) → (a ≤ k → k < a + n → ⊥) → word m' k ≡ word m k
 
 pub part_word : (m : List ℕ) (a n k : ℕ) → k < n → word (part m a n) k ≡ word m (a + k)
-part_word m a n k h = get_or_take n (drop a m) k 0 h ∙ get_or_drop a m k 0
+part_word m a n k h = get_or-take n (drop a m) k 0 h ∙ get_or-drop a m k 0
 
 pub part_same : (m m' : List ℕ) (a n : ℕ) → length m' ≡ length m → ((k : ℕ) → k < n → word m' (a + k) ≡ word m (a + k)) →
     part m' a n ≡ part m a n
 part_same m m' a n l h =
-    let e : length (part m' a n) ≡ length (part m a n) = simp (length_take, length_drop, l) in
+    let e : length (part m' a n) ≡ length (part m a n) = simp (length-take, length-drop, l) in
     ext_get_or 0 (part m' a n) (part m a n) e (λ k i.
-    let j : k < n = omega (arith, simp (length_take, length_drop) at i) in
+    let j : k < n = omega (arith, simp (length-take, length-drop) at i) in
     part_word m' a n k j ∙ h k j ∙ sym (part_word m a n k j))
 
 pub widen : {a n : ℕ} (b l : ℕ) {m m' : List ℕ} → Elsewhere a n m m' → b ≤ a → a + n ≤ b + l → Elsewhere b l m m'
@@ -81,7 +81,7 @@ twice E F = record { long = F.long ∙ E.long; same = λ k o. F.same k o ∙ E.s
 
 -- one word
 pub stored : (m : List ℕ) (k v : ℕ) → Elsewhere k 1 m (set m k v)
-stored m k v = record { long = length_set m k v; same = λ j h. get_or_set_other m k j v 0 (λ e. h (omega arith) (omega arith)) }
+stored m k v = record { long = length-set m k v; same = λ j h. get_or-set_other m k j v 0 (λ e. h (omega arith) (omega arith)) }
 
 -- the words of a part that was lent
 module _ (m : List ℕ) (a n : ℕ) (vs : List ℕ) (h : a + n ≤ length m) (l : length vs ≡ n) where
@@ -89,37 +89,37 @@ module _ (m : List ℕ) (a n : ℕ) (vs : List ℕ) (h : a + n ≤ length m) (l 
   back = take a m ++ (vs ++ drop (a + n) m)
 
   front : length (take a m) ≡ a
-  front = length_take_le a m (omega arith)
+  front = length-take-le a m (omega arith)
 
   beyond : (k : ℕ) → a + n ≤ k → word back k ≡ word m k
   beyond k past =
       let j : ℕ = k - (a + n) in
       ap (λ (x : ℕ). word back x) (omega (arith, front, l))
-      ∙ get_or_append_add (take a m) (vs ++ drop (a + n) m) (length vs + j) 0
-      ∙ get_or_append_add vs (drop (a + n) m) j 0
-      ∙ get_or_drop (a + n) m j 0
+      ∙ get_or-append-add (take a m) (vs ++ drop (a + n) m) (length vs + j) 0
+      ∙ get_or-append-add vs (drop (a + n) m) j 0
+      ∙ get_or-drop (a + n) m j 0
       ∙ ap (λ (x : ℕ). word m x) (omega arith)
 
   apart : (k : ℕ) (b c : Bool) → ltb k a ≡ b → ltb k (a + n) ≡ c → (a ≤ k → k < a + n → ⊥) → word back k ≡ word m k
   apart k true c e f o =
-      let i : k < a = ltb_true k a e in
-      get_or_append (take a m) (vs ++ drop (a + n) m) 0 k (omega (arith, front)) ∙ get_or_take a m k 0 i
-  apart k false true e f o = absurd (o (ltb_false k a e) (ltb_true k (a + n) f))
-  apart k false false e f o = beyond k (ltb_false k (a + n) f)
+      let i : k < a = ltb-true k a e in
+      get_or-append (take a m) (vs ++ drop (a + n) m) 0 k (omega (arith, front)) ∙ get_or-take a m k 0 i
+  apart k false true e f o = absurd (o (ltb-false k a e) (ltb-true k (a + n) f))
+  apart k false false e f o = beyond k (ltb-false k (a + n) f)
 
   pub lent : Elsewhere a n m back
-  lent = record { long = simp (length_append, length_drop) (omega (arith, front)); same = λ k. apart k (ltb k a) (ltb k (a + n)) refl refl }
+  lent = record { long = simp (length-append, length-drop) (omega (arith, front)); same = λ k. apart k (ltb k a) (ltb k (a + n)) refl refl }
 
   pub lent_part : part back a n ≡ vs
   lent_part = ap (take n) (drop_at (take a m) (vs ++ drop (a + n) m) a front) ∙ take_at vs (drop (a + n) m) n l
 
   -- as the part comes back
   pub put_back : put_mid a (a + n - a) m vs ≡ back
-  put_back = ap (λ (z : List ℕ). take a m ++ (vs ++ z)) (Post_is a (a + n) m (omega arith))
+  put_back = ap (λ (z : List ℕ). take a m ++ (vs ++ z)) (Post-is a (a + n) m (omega arith))
 
 -- so many words are lent
 pub lent_size : (m : List ℕ) (a n : ℕ) (vs : List ℕ) → a + n ≤ length m → length vs ≡ length (mid_of a (a + n - a) m) → length vs ≡ n
-lent_size m a n vs h e = e ∙ simp (length_take, length_drop) (omega arith)
+lent_size m a n vs h e = e ∙ simp (length-take, length-drop) (omega arith)
 
 pub lent_is : (m : List ℕ) (a n : ℕ) → mid_of a (a + n - a) m ≡ part m a n
 lent_is m a n = let e : a + n - a ≡ n = omega arith in ap (λ (k : ℕ). take k (drop a m)) e

@@ -4,7 +4,7 @@ use mathlib.Core.Path.{◌≡◌, ap}
 use mathlib.Core.List.{List}
 use native.Mathlib.Omega.{arith}
 use lib.ListN.{length}
-use lib.Seq.{length_take_le}
+use lib.Seq.{length-take-le}
 use Rattle.rules.specs.Numbers.{Limits}
 use Rattle.memory.specs.Rows.{view, members, Fits}
 use Rattle.memory.specs.Memory.{rows_of}
@@ -43,26 +43,26 @@ module _ (m : List ℕ) where
     ready_whole = omega (arith, ready_long, limits_too (λ l. l.threads), f.ready)
 
     pub threads_count : length (view (rows_of m)).threads ≡ (rows_of m).count
-    threads_count = length_take_le _ (rows_of m).threads threads_whole
+    threads_count = length-take-le _ (rows_of m).threads threads_whole
 
     pub ready_count : length (view (rows_of m)).ready ≡ (rows_of m).readies
-    ready_count = length_take_le _ (rows_of m).ready ready_whole
+    ready_count = length-take-le _ (rows_of m).ready ready_whole
 
     pub clock_whole : (rows_of m).clocks ≤ length (rows_of m).clock
     clock_whole = omega (arith, clock_long, limits_too (λ l. l.threads), f.clock)
 
     pub clock_count : length (view (rows_of m)).clock ≡ (rows_of m).clocks
-    clock_count = length_take_le _ (rows_of m).clock clock_whole
+    clock_count = length-take-le _ (rows_of m).clock clock_whole
 
     pub messages_whole : (rows_of m).letters ≤ length (rows_of m).messages
     messages_whole = omega (arith, messages_long, limits_too (λ l. l.threads), limits_too (λ l. l.blocks), f.messages)
 
     pub messages_count : length (view (rows_of m)).messages ≡ (rows_of m).letters
-    messages_count = length_take_le _ (rows_of m).messages messages_whole
+    messages_count = length-take-le _ (rows_of m).messages messages_whole
 
   -- of an ending's set no table tells how many: whoever writes it says so
   pub members_count : (rows_of m).ends ≤ (rows_of m).limits.threads → length (members (rows_of m)) ≡ (rows_of m).ends
-  members_count h = length_take_le _ (rows_of m).ended (omega (arith, ended_long))
+  members_count h = length-take-le _ (rows_of m).ended (omega (arith, ended_long))
 
 -- memories whose rows have the same room are of one length
 pub same_room : (m m' : List ℕ) → (rows_of m').room ≡ (rows_of m).room → length m' ≡ length m

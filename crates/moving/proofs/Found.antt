@@ -1,15 +1,15 @@
 -- The place of the first that passes, and what the rules say by any, pull, insert, map, keep and of_thread.
--- That a store below n is a store among the first n, and that these are the array's own: take_set_lt and get_or_take of lib.Seq.
+-- That a store below n is a store among the first n, and that these are the array's own: take-set-lt and get_or-take of lib.Seq.
 use Prim.Native.Nat.{ℕ, zero, suc, ◌+◌, ◌≤◌, ◌<◌}
 use mathlib.Core.Path.{◌≡◌, refl, sym, ◌∙◌, ap}
 use mathlib.Core.Bool.{Bool, true, false, not, ◌||◌, true≢false}
 use mathlib.Core.List.{List, [], ◌∷◌, ◌++◌, map}
-use native.Mathlib.Numerals.{add_one}
+use native.Mathlib.Numerals.{add-one}
 use native.Mathlib.Omega.{arith}
-use lib.Dec.{ltb, leb_suc_suc}
+use lib.Dec.{ltb, leb-suc-suc}
 use lib.ListN.{length, take, drop, get_or, set}
-use lib.Seq.{length_take_le, get_or_take, take_set_lt}
-use borrow.Author.Tests.{lt_ltb, le_ltb, ltb_true, ltb_false}
+use lib.Seq.{length-take-le, get_or-take, take-set-lt}
+use borrow.Author.Tests.{lt-ltb, le-ltb, ltb-true, ltb-false}
 use Rattle.rules.specs.Lists.{if◌then◌else◌, one_if, missing, pulled, any, keep, count, behind, pull, insert}
 use Rattle.rules.specs.Tables.{named, of_thread}
 use Rattle.rules.specs.declared.Thread.{Thread}
@@ -39,20 +39,20 @@ module _ {A : Type 0} (p : A → Bool) where
   any_place (x ∷ xs) = go (any_place xs) (p x)
     where
       go : any p xs ≡ ltb (place p xs) (length xs) → (b : Bool) → (b || any p xs) ≡ ltb (head_or b xs) (suc (length xs))
-      go r true = sym (lt_ltb 0 (suc (length xs)) (omega arith))
-      go r false = r ∙ sym (leb_suc_suc (suc (place p xs)) (length xs))
+      go r true = sym (lt-ltb 0 (suc (length xs)) (omega arith))
+      go r false = r ∙ sym (leb-suc-suc (suc (place p xs)) (length xs))
 
   pub any_yes : (l : List A) → place p l < length l → any p l ≡ true
-  any_yes l h = any_place l ∙ lt_ltb _ _ h
+  any_yes l h = any_place l ∙ lt-ltb _ _ h
 
   pub any_no : (l : List A) → length l ≤ place p l → any p l ≡ false
-  any_no l h = any_place l ∙ le_ltb _ _ h
+  any_no l h = any_place l ∙ le-ltb _ _ h
 
   pub any_here : (l : List A) → any p l ≡ true → place p l < length l
-  any_here l e = ltb_true _ _ (sym (any_place l) ∙ e)
+  any_here l e = ltb-true _ _ (sym (any_place l) ∙ e)
 
   pub any_none : (l : List A) → any p l ≡ false → length l ≤ place p l
-  any_none l e = ltb_false _ _ (sym (any_place l) ∙ e)
+  any_none l e = ltb-false _ _ (sym (any_place l) ∙ e)
 
   -- ---- the one found
 
@@ -82,7 +82,7 @@ module _ {A : Type 0} (p : A → Bool) where
   pub pull_at : (d : A) (l : List A) → place p l < length l →
       pull p l ≡ pulled (get_or l (place p l) d) (take (place p l) l ++ drop (place p l + 1) l)
   pull_at d l h =
-      pull_suc d l h ∙ ap (λ (k : ℕ). pulled (get_or l (place p l) d) (take (place p l) l ++ drop k l)) (sym (add_one (place p l)))
+      pull_suc d l h ∙ ap (λ (k : ℕ). pulled (get_or l (place p l) d) (take (place p l) l ++ drop k l)) (sym (add-one (place p l)))
 
   pub pull_none : (l : List A) → length l ≤ place p l → pull p l ≡ missing
   unfolding place pull behind
@@ -204,16 +204,16 @@ module _ {B : Type 0} (other : B) (f : Thread → B) (n : ℕ) where
 -- ---- the same of an array's first n entries, where a loop found the place i
 module _ {A : Type 0} (p : A → Bool) (n : ℕ) (r : List A) (i : ℕ) (whole : n ≤ length r) (found : i ≡ place p (take n r)) where
   here : i < n → place p (take n r) < length (take n r)
-  here h = omega (arith, length_take_le n r whole)
+  here h = omega (arith, length-take-le n r whole)
 
   nowhere : n ≤ i → length (take n r) ≤ place p (take n r)
-  nowhere h = omega (arith, length_take_le n r whole)
+  nowhere h = omega (arith, length-take-le n r whole)
 
   there : (d : A) → i < n → get_or (take n r) (place p (take n r)) d ≡ get_or r i d
-  there d h = ap (λ (k : ℕ). get_or (take n r) k d) (sym found) ∙ get_or_take n r i d h
+  there d h = ap (λ (k : ℕ). get_or (take n r) k d) (sym found) ∙ get_or-take n r i d h
 
   pub found_within : i ≤ n
-  found_within = omega (arith, length_take_le n r whole, place_within p (take n r))
+  found_within = omega (arith, length-take-le n r whole, place_within p (take n r))
 
   pub found_passes : (d : A) → i < n → p (get_or r i d) ≡ true
   found_passes d h = ap p (sym (there d h)) ∙ passes_at p d (take n r) (here h)
@@ -225,10 +225,10 @@ module _ {A : Type 0} (p : A → Bool) (n : ℕ) (r : List A) (i : ℕ) (whole :
   no_any h = any_no p (take n r) (nowhere h)
 
   pub is_found : any p (take n r) ≡ true → i < n
-  is_found e = omega (arith, length_take_le n r whole, any_here p (take n r) e)
+  is_found e = omega (arith, length-take-le n r whole, any_here p (take n r) e)
 
   pub not_found : any p (take n r) ≡ false → n ≤ i
-  not_found e = omega (arith, length_take_le n r whole, any_none p (take n r) e)
+  not_found e = omega (arith, length-take-le n r whole, any_none p (take n r) e)
 
   pub found_pull : (d : A) → i < n → pull p (take n r) ≡ pulled (get_or r i d) (take i (take n r) ++ drop (i + 1) (take n r))
   found_pull d h =
@@ -244,7 +244,7 @@ module _ {A : Type 0} (p : A → Bool) (n : ℕ) (r : List A) (i : ℕ) (whole :
   found_map f d c h =
       map_one p f d (take n r) c (here h)
       ∙ (ap (λ (x : A). set (take n r) (place p (take n r)) (f x)) (there d h)
-      ∙ (ap (λ (k : ℕ). set (take n r) k (f (get_or r i d))) (sym found) ∙ sym (take_set_lt n r i (f (get_or r i d)) h)))
+      ∙ (ap (λ (k : ℕ). set (take n r) k (f (get_or r i d))) (sym found) ∙ sym (take-set-lt n r i (f (get_or r i d)) h)))
 
   pub no_map : (f : A → A) → n ≤ i → map (λ (x : A). if p x then f x else x) (take n r) ≡ take n r
   no_map f h = map_none p f (take n r) (no_any h)
@@ -262,10 +262,10 @@ module _ {A : Type 0} (p : A → Bool) (n : ℕ) (r : List A) (i : ℕ) (whole :
 module _ {A : Type 0} (p : A → Bool) (n : ℕ) (r : List A) (i : ℕ) (d : A) (whole : n ≤ length r) (low : i < n)
     (passes : p (get_or r i d) ≡ true) where
   in_range : i < length (take n r)
-  in_range = omega (arith, length_take_le n r whole)
+  in_range = omega (arith, length-take-le n r whole)
 
   is_there : p (get_or (take n r) i d) ≡ true
-  is_there = ap p (get_or_take n r i d low) ∙ passes
+  is_there = ap p (get_or-take n r i d low) ∙ passes
 
   pub hint_place : count p (take n r) ≤ 1 → i ≡ place p (take n r)
   hint_place c = one_place p d (take n r) i c in_range is_there

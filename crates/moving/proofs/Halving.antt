@@ -6,8 +6,8 @@ use mathlib.Core.List.{List, [], ◌∷◌}
 use native.Mathlib.Omega.{arith}
 use lib.Dec.{ltb}
 use lib.ListN.{length, take, get_or}
-use lib.Seq.{length_take_le, get_or_take}
-use borrow.Author.Tests.{lt_ltb, le_ltb}
+use lib.Seq.{length-take-le, get_or-take}
+use borrow.Author.Tests.{lt-ltb, le-ltb}
 use Rattle.rules.specs.Lists.{if◌then◌else◌}
 use Rattle.laws.specs.Words.{Thread}
 use Rattle.laws.specs.Types.{Rising}
@@ -24,18 +24,18 @@ module _ (name : ℕ) where
   below_before : (ts : List Thread) (i : ℕ) (d : Thread) → Rising ts → i < length ts → (get_or ts i d).name < name → i < place not_below ts
   unfolding place
   below_before [] i d r h l = absurd (omega arith)
-  below_before (t ∷ ts) zero d r h l = rw (lt_ltb t.name name l) (omega arith)
+  below_before (t ∷ ts) zero d r h l = rw (lt-ltb t.name name l) (omega arith)
   below_before (t ∷ ts) (suc i) d r h l =
       let k : i < length ts = omega arith in
       let low : t.name < name = omega (arith, up_below (λ u. u.name) t ts r (get_or ts i d) (getD_member ts i d k)) in
       let later = below_before ts i d (chain_tail _ t ts r) k l in
-      rw (lt_ltb t.name name low) (omega arith)
+      rw (lt-ltb t.name name low) (omega arith)
 
   -- who is not stands there, or behind it
   others_behind : (ts : List Thread) (i : ℕ) (d : Thread) → i < length ts → name ≤ (get_or ts i d).name → place not_below ts ≤ i
   unfolding place
   others_behind [] i d h l = absurd (omega arith)
-  others_behind (t ∷ ts) zero d h l = rw (le_ltb t.name name l) (omega arith)
+  others_behind (t ∷ ts) zero d h l = rw (le-ltb t.name name l) (omega arith)
   others_behind (t ∷ ts) (suc i) d h l = go (others_behind ts i d (omega arith) l) (not_below t)
     where
       go : place not_below ts ≤ i → (b : Bool) → (if b then 0 else suc (place not_below ts)) ≤ suc i
@@ -52,16 +52,16 @@ module _ (name : ℕ) where
     pub anywhere : n ≤ length row → (high : ℕ) → high ≡ n → Between 0 high
     anywhere whole high e = record {
       from = omega arith;
-      to = omega (arith, place_within not_below (take n row), length_take_le n row whole);
+      to = omega (arith, place_within not_below (take n row), length-take-le n row whole);
       within = omega arith;
     }
 
     module _ (whole : n ≤ length row) (low high i : ℕ) (d : Thread) (b : Between low high) (h : i < high) where
       here : (get_or (take n row) i d).name ≡ (get_or row i d).name
-      here = ap (λ (t : Thread). t.name) (get_or_take n row i d (omega (arith, b.within)))
+      here = ap (λ (t : Thread). t.name) (get_or-take n row i d (omega (arith, b.within)))
 
       inside : i < length (take n row)
-      inside = omega (arith, b.within, length_take_le n row whole)
+      inside = omega (arith, b.within, length-take-le n row whole)
 
       pub above : Rising (take n row) → (get_or row i d).name < name → Between (i + 1) high
       above r l =

@@ -3,12 +3,12 @@
 use Prim.Native.Nat.{ℕ, suc, ◌+◌, ◌-◌, ◌≤◌, ◌<◌}
 use mathlib.Core.Path.{◌≡◌, refl, sym, ◌∙◌, ap, ap₂, subst}
 use mathlib.Core.Bool.{Bool, true, false, ◌&&◌, ◌||◌}
-use mathlib.Core.List.{List, [], ◌∷◌, ◌++◌, map, map_id, append_nil}
-use native.Mathlib.Numerals.{add_one}
+use mathlib.Core.List.{List, [], ◌∷◌, ◌++◌, map, map-id, append-nil}
+use native.Mathlib.Numerals.{add-one}
 use native.Mathlib.Omega.{arith}
-use lib.ListN.{length, take, drop, get_or, set, length_set, drop_of_length_le}
-use lib.Seq.{drop_cons, get_or_take, get_or_drop, get_or_set_same, take_suc_set, take_set_le, take_set_lt, drop_set_lt, length_take_le}
-use lib.Seq.{append_snoc, take_take, drop_drop, set_get_or, set_split}
+use lib.ListN.{length, take, drop, get_or, set, length-set, drop_of_length-le}
+use lib.Seq.{drop-cons, get_or-take, get_or-drop, get_or-set_same, take-suc-set, take-set-le, take-set-lt, drop-set-lt, length-take-le}
+use lib.Seq.{append_snoc, take-take, drop-drop, set-get_or, set_split}
 use Rattle.rules.specs.Lists.{if◌then◌else◌, keep, count, any, one_if, all}
 use Rattle.memory.specs.Rows.{place}
 
@@ -17,19 +17,19 @@ module _ {A : Type 0} where
 
   pub cut_cons : (r : List A) (n i : ℕ) (d : A) → n ≤ length r → i < n → drop i (take n r) ≡ get_or r i d ∷ drop (i + 1) (take n r)
   cut_cons r n i d l h =
-      let e : length (take n r) ≡ n = length_take_le n r l in
-      drop_cons (take n r) i d (omega arith)
-      ∙ (ap (λ (k : ℕ). get_or (take n r) i d ∷ drop k (take n r)) (sym (add_one i))
-      ∙ ap (λ (x : A). x ∷ drop (i + 1) (take n r)) (get_or_take n r i d h))
+      let e : length (take n r) ≡ n = length-take-le n r l in
+      drop-cons (take n r) i d (omega arith)
+      ∙ (ap (λ (k : ℕ). get_or (take n r) i d ∷ drop k (take n r)) (sym (add-one i))
+      ∙ ap (λ (x : A). x ∷ drop (i + 1) (take n r)) (get_or-take n r i d h))
 
   pub cut_end : (r : List A) (n i : ℕ) → n ≤ length r → n ≤ i → drop i (take n r) ≡ []
   cut_end r n i l h =
-      let e : length (take n r) ≡ n = length_take_le n r l in
+      let e : length (take n r) ≡ n = length-take-le n r l in
       let k : length (take n r) ≤ i = omega arith in
-      drop_of_length_le (take n r) k
+      drop_of_length-le (take n r) k
 
   pub wrote : (r : List A) (k : ℕ) (x : A) → k < length r → take (k + 1) (set r k x) ≡ take k r ++ (x ∷ [])
-  wrote r k x h = ap (λ (j : ℕ). take j (set r k x)) (add_one k) ∙ take_suc_set r k x h
+  wrote r k x h = ap (λ (j : ℕ). take j (set r k x)) (add-one k) ∙ take-suc-set r k x h
 
   pub record Left (n : ℕ) (r₀ r : List A) (i : ℕ) : Type 0 where
     pub whole : n ≤ length r₀
@@ -41,7 +41,7 @@ module _ {A : Type 0} where
   starts n r i h k = record { whole = h; within = k; long = refl; rest = refl }
 
   pub same_at : (n : ℕ) (r₀ r : List A) (i j : ℕ) (d : A) → Left n r₀ r i → get_or r (i + j) d ≡ get_or r₀ (i + j) d
-  same_at n r₀ r i j d L = sym (get_or_drop i r j d) ∙ (ap (λ (l : List A). get_or l j d) L.rest ∙ get_or_drop i r₀ j d)
+  same_at n r₀ r i j d L = sym (get_or-drop i r j d) ∙ (ap (λ (l : List A). get_or l j d) L.rest ∙ get_or-drop i r₀ j d)
 
   pub same_here : (n : ℕ) (r₀ r : List A) (i : ℕ) (d : A) → Left n r₀ r i → get_or r i d ≡ get_or r₀ i d
   same_here n r₀ r i d L =
@@ -53,8 +53,8 @@ module _ {A : Type 0} where
       record {
         whole = L.whole;
         within = omega arith;
-        long = length_set r k x ∙ L.long;
-        rest = drop_set_lt (i + 1) r k x (omega arith) ∙ (sym (drop_drop 1 i r) ∙ (ap (drop 1) L.rest ∙ drop_drop 1 i r₀));
+        long = length-set r k x ∙ L.long;
+        rest = drop-set-lt (i + 1) r k x (omega arith) ∙ (sym (drop-drop 1 i r) ∙ (ap (drop 1) L.rest ∙ drop-drop 1 i r₀));
       }
 
   -- an entry passed over
@@ -63,8 +63,8 @@ module _ {A : Type 0} where
     whole = L.whole;
     within = omega arith;
     long = L.long;
-    rest = sym (drop_drop 1 i r)
-        ∙ (ap (drop 1) L.rest ∙ drop_drop 1 i r₀);
+    rest = sym (drop-drop 1 i r)
+        ∙ (ap (drop 1) L.rest ∙ drop-drop 1 i r₀);
   }
 
   pub left_cons : (n : ℕ) (r₀ r : List A) (i : ℕ) (d : A) → Left n r₀ r i → i < n → drop i (take n r₀) ≡ get_or r i d
@@ -95,7 +95,7 @@ module _ {A : Type 0} where
     map_ends r i M h =
         let e : i ≡ n = omega (arith, M.left.within) in
         ap (λ (k : ℕ). take k r) (sym e)
-        ∙ (sym (append_nil (take i r)) ∙ (ap (λ (l : List A). take i r ++ map f l) (sym (cut_end r₀ n i M.left.whole h)) ∙ M.so))
+        ∙ (sym (append-nil (take i r)) ∙ (ap (λ (l : List A). take i r ++ map f l) (sym (cut_end r₀ n i M.left.whole h)) ∙ M.so))
 
   -- ---- where the first stands that passes
   module _ (p : A → Bool) (n : ℕ) (r : List A) where
@@ -167,12 +167,12 @@ module _ {A : Type 0} where
     pub sift_ends : (r : List A) (k i : ℕ) → Sifted r k i → n ≤ i → take k r ≡ map g (keep p (take n r₀))
     unfolding keep
     sift_ends r k i S h =
-        sym (append_nil (take k r)) ∙ (ap (λ (l : List A). take k r ++ map g (keep p l)) (sym (cut_end r₀ n i S.left.whole h)) ∙ S.so)
+        sym (append-nil (take k r)) ∙ (ap (λ (l : List A). take k r ++ map g (keep p l)) (sym (cut_end r₀ n i S.left.whole h)) ∙ S.so)
 
   -- and not changed
   pub keep_ends : (p : A → Bool) (n : ℕ) (r₀ r : List A) (k i : ℕ) → Sifted p (λ (x : A). x) n r₀ r k i → n ≤ i →
       take k r ≡ keep p (take n r₀)
-  keep_ends p n r₀ r k i S h = sift_ends p (λ (x : A). x) n r₀ r k i S h ∙ map_id (keep p (take n r₀))
+  keep_ends p n r₀ r k i S h = sift_ends p (λ (x : A). x) n r₀ r k i S h ∙ map-id (keep p (take n r₀))
 
   -- ---- without the entry at a place
   module _ (at n : ℕ) (r₀ : List A) where
@@ -185,7 +185,7 @@ module _ {A : Type 0} where
     close_starts l h = record {
       left = starts n r₀ at l (omega arith);
       below = h;
-      so = ap (λ (z : List A). z ++ drop (at + 1) (take n r₀)) (sym (take_take at n r₀ (omega arith)));
+      so = ap (λ (z : List A). z ++ drop (at + 1) (take n r₀)) (sym (take-take at n r₀ (omega arith)));
     }
 
     pub close_next : (r : List A) (i : ℕ) (x d : A) → Closing r i → i < n - 1 → x ≡ get_or r (i + 1) d → Closing (set r i x) (i + 1)
@@ -204,7 +204,7 @@ module _ {A : Type 0} where
     close_ends r i C h =
         let e : i ≡ n - 1 = omega (arith, C.below) in
         ap (λ (k : ℕ). take k r) (sym e)
-        ∙ (sym (append_nil (take i r)) ∙ (ap (λ (l : List A). take i r ++ l) (sym (cut_end r₀ n (i + 1) C.left.whole (omega arith)))
+        ∙ (sym (append-nil (take i r)) ∙ (ap (λ (l : List A). take i r ++ l) (sym (cut_end r₀ n (i + 1) C.left.whole (omega arith)))
         ∙ C.so))
 
   -- ---- one more entry at a place: each from i on stands one further, and those before i as they were
@@ -223,29 +223,29 @@ module _ {A : Type 0} where
           room = h;
           within = omega arith;
           front = refl;
-          back = drop_of_length_le (take (n + 1) l₀) {i = n + 1} (omega (arith, length_take_le (n + 1) l₀ (omega arith)))
-              ∙ sym (drop_of_length_le (take n l₀) {i = n} (omega (arith, length_take_le n l₀ (omega arith))));
+          back = drop_of_length-le (take (n + 1) l₀) {i = n + 1} (omega (arith, length-take-le (n + 1) l₀ (omega arith)))
+              ∙ sym (drop_of_length-le (take n l₀) {i = n} (omega (arith, length-take-le n l₀ (omega arith))));
         }
 
     shift_down : (l : List A) (i : ℕ) (d : A) → Shifted l (i + 1) → Shifted (set l (i + 1) (get_or l i d)) i
     shift_down l i d S =
         let x : A = get_or l₀ i d in
         let low : i < n = omega (arith, S.within) in
-        let same : get_or l i d ≡ x = sym (get_or_take (i + 1) l i d (omega arith))
-        ∙ (ap (λ (k : List A). get_or k i d) S.front ∙ get_or_take (i + 1) l₀ i d (omega arith)) in
+        let same : get_or l i d ≡ x = sym (get_or-take (i + 1) l i d (omega arith))
+        ∙ (ap (λ (k : List A). get_or k i d) S.front ∙ get_or-take (i + 1) l₀ i d (omega arith)) in
         let in_l : i + 1 < length l = omega (arith, S.long, S.room) in
         let l' : List A = set l (i + 1) x in
-        let long' : length l' ≡ length l₀ = length_set l (i + 1) x ∙ S.long in
+        let long' : length l' ≡ length l₀ = length-set l (i + 1) x ∙ S.long in
         rw same (record {
           long = long';
           room = S.room;
           within = omega arith;
-          front = take_set_le i l (i + 1) x (omega arith)
-              ∙ (sym (take_take i (i + 1) l (omega arith)) ∙ (ap (take i) S.front ∙ take_take i (i + 1) l₀ (omega arith)));
+          front = take-set-le i l (i + 1) x (omega arith)
+              ∙ (sym (take-take i (i + 1) l (omega arith)) ∙ (ap (take i) S.front ∙ take-take i (i + 1) l₀ (omega arith)));
           back = cut_cons l' (n + 1) (i + 1) d (omega (arith, long', S.room)) (omega arith)
-              ∙ (ap₂ ◌∷◌ (get_or_set_same l (i + 1) x d in_l)
-              (ap (drop (i + 1 + 1)) (take_set_lt (n + 1) l (i + 1) x (omega arith))
-              ∙ (drop_set_lt (i + 1 + 1) (take (n + 1) l) (i + 1) x (omega arith) ∙ S.back))
+              ∙ (ap₂ ◌∷◌ (get_or-set_same l (i + 1) x d in_l)
+              (ap (drop (i + 1 + 1)) (take-set-lt (n + 1) l (i + 1) x (omega arith))
+              ∙ (drop-set-lt (i + 1 + 1) (take (n + 1) l) (i + 1) x (omega arith) ∙ S.back))
               ∙ sym (cut_cons l₀ n i d (omega (arith, S.room)) low));
         })
 
@@ -258,11 +258,11 @@ module _ {A : Type 0} where
     pub shift_ends : (l : List A) (at : ℕ) (x : A) → Shifted l at → take (n + 1) (set l at x) ≡ take at (take n l₀) ++ x
         ∷ drop at (take n l₀)
     shift_ends l at x S =
-        take_set_lt (n + 1) l at x (omega (arith, S.within))
-        ∙ (set_split (take (n + 1) l) at x (omega (arith, length_take_le (n + 1) l (omega (arith, S.long, S.room)), S.within))
+        take-set-lt (n + 1) l at x (omega (arith, S.within))
+        ∙ (set_split (take (n + 1) l) at x (omega (arith, length-take-le (n + 1) l (omega (arith, S.long, S.room)), S.within))
         ∙ ap₂ (λ (f b : List A). f ++ x ∷ b)
-        (take_take at (n + 1) l (omega (arith, S.within)) ∙ (S.front ∙ sym (take_take at n l₀ S.within)))
-        (ap (λ (k : ℕ). drop k (take (n + 1) l)) (sym (add_one at)) ∙ S.back))
+        (take-take at (n + 1) l (omega (arith, S.within)) ∙ (S.front ∙ sym (take-take at n l₀ S.within)))
+        (ap (λ (k : ℕ). drop k (take (n + 1) l)) (sym (add-one at)) ∙ S.back))
 
   -- ---- what a test's entries give joins another row
   module _ {B : Type 0} (p : A → Bool) (g : A → B) (n : ℕ) (r : List A) (q : List B) (m : ℕ) where
@@ -315,7 +315,7 @@ module _ {A : Type 0} where
     pub gather_ends : (o : List B) (k i : ℕ) → Gathered o k i → n ≤ i → (o ≡ q ++ map g (keep p (take n r))) × (k ≡ m + count p (take n r))
     unfolding keep count
     gather_ends o k i G h = (
-      sym (append_nil o) ∙ (ap (λ (l : List A). o ++ map g (keep p l)) (sym (cut_end r n i G.whole h)) ∙ G.so),
+      sym (append-nil o) ∙ (ap (λ (l : List A). o ++ map g (keep p l)) (sym (cut_end r n i G.whole h)) ∙ G.so),
       (let q : count p (drop i (take n r)) ≡ 0 = ap (count p) (cut_end r n i G.whole h) in omega (arith, G.room)),
     )
 
@@ -342,7 +342,7 @@ module _ {A : Type 0} where
         }
 
     pub append_ends : (o : List A) (k i : ℕ) → Appended o k i → n ≤ i → o ≡ q ++ take n r
-    append_ends o k i P h = sym (append_nil o) ∙ (ap (λ (l : List A). o ++ l) (sym (cut_end r n i P.whole h)) ∙ P.so)
+    append_ends o k i P h = sym (append-nil o) ∙ (ap (λ (l : List A). o ++ l) (sym (cut_end r n i P.whole h)) ∙ P.so)
 
   -- ---- do all pass?
   module _ (p : A → Bool) (n : ℕ) (r : List A) where
@@ -454,7 +454,7 @@ module _ {A : Type 0} where
         let x : A = get_or r i d in
         let s : Mapped turned n r₀ (set r i x) (i + 1) =
         map_next turned n r₀ r i x d T.mapped h (ap (λ (b : Bool). if b then g x else x) (sym e)) in
-        record { mapped = subst (λ (l : List A). Mapped turned n r₀ l (i + 1)) (set_get_or r i d) s }
+        record { mapped = subst (λ (l : List A). Mapped turned n r₀ l (i + 1)) (set-get_or r i d) s }
 
     pub turn_ends : (r : List A) (i : ℕ) → Turned r i → n ≤ i → take n r ≡ map (λ (t : A). if p t then g t else t) (take n r₀)
     turn_ends r i T h = map_ends turned n r₀ r i T.mapped h

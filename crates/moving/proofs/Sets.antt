@@ -5,9 +5,9 @@ use mathlib.Core.Bool.{Bool, true, false, not, ◌&&◌, true≢false}
 use mathlib.Core.List.{List, [], ◌∷◌, ◌++◌, map}
 use native.Mathlib.Omega.{arith}
 use lib.Dec.{eqb}
-use lib.ListN.{length, take, drop, get_or, set, length_set, length_append}
-use lib.Seq.{length_take_le, take_take, take_set_le, drop_set_lt, get_or_set_same, set_get_or, set_set}
-use borrow.Author.Tests.{eqb_true, eq_eqb}
+use lib.ListN.{length, take, drop, get_or, set, length-set, length-append}
+use lib.Seq.{length-take-le, take-take, take-set-le, drop-set-lt, get_or-set_same, set-get_or, set-set}
+use borrow.Author.Tests.{eqb-true, eq-eqb}
 use Rattle.rules.specs.Lists.{if◌then◌else◌, ◌==◌, any, has, keep, count}
 use Rattle.rules.specs.Words.{by_parent, by_manager}
 use Rattle.rules.specs.Tables.{in_state, manager, with_managers, set_entry}
@@ -37,11 +37,11 @@ any_never [] = refl
 any_never (x ∷ l) = any_never l
 
 eqb_turned : (a b : ℕ) (p : Bool) → eqb a b ≡ p → eqb b a ≡ p
-eqb_turned a b true e = eq_eqb b a (sym (eqb_true a b e))
+eqb_turned a b true e = eq-eqb b a (sym (eqb-true a b e))
 eqb_turned a b false e = go (eqb b a) refl
   where
     go : (q : Bool) → eqb b a ≡ q → eqb b a ≡ false
-    go true f = absurd (true≢false (sym (eq_eqb a b (sym (eqb_true b a f))) ∙ e))
+    go true f = absurd (true≢false (sym (eq-eqb a b (sym (eqb-true b a f))) ∙ e))
     go false f = f
 
 has_turned : (n : ℕ) (l : List ℕ) → any (λ k. k == n) l ≡ has n l
@@ -101,7 +101,7 @@ module _ {r₀ r : Rows} {i : ℕ} (G : Growing r₀ r i) where
   grow_tests n t =
       let x : Thread = get_or r.threads i no_thread in
       sym (t ∙ (ap (λ (k : ℕ). joins (take k (members r)) x) n
-      ∙ (ap (λ (l : List ℕ). joins l x) (take_take r₀.ends r.ends r.ended G.since ∙ G.old)
+      ∙ (ap (λ (l : List ℕ). joins l x) (take-take r₀.ends r.ends r.ended G.since ∙ G.old)
       ∙ ap (λ (s : Rows). joins (members r₀) (get_or s.threads i no_thread)) G.only)))
 
   pub grow_by : i < r₀.count → joins (members r₀) (get_or r₀.threads i no_thread) ≡ false → Growing r₀ r (i + 1)
@@ -126,9 +126,9 @@ module _ {r₀ r : Rows} {i : ℕ} (G : Growing r₀ r i) where
         only = ap (λ (s : Rows). put_ends (r.ends + 1) (put_ended (set r.ended r.ends x) s)) G.only;
         gathered = gather_joins _ _ _ _ _ _ _ _ _ _ _ no_thread G.gathered h e (wrote r.ended r.ends x (omega (arith, G.long))
             ∙ ap (λ (n : ℕ). members r ++ (n ∷ [])) y) refl;
-        old = take_set_le r₀.ends r.ended r.ends x G.since ∙ G.old;
+        old = take-set-le r₀.ends r.ended r.ends x G.since ∙ G.old;
         since = omega (arith, G.since);
-        long = length_set r.ended r.ends x ∙ G.long;
+        long = length-set r.ended r.ends x ∙ G.long;
       })
 
   pub grow_ends : r₀.count ≤ i → r₀.ends + count (joins (members r₀)) (view r₀).threads ≤ r₀.limits.threads →
@@ -140,7 +140,7 @@ module _ {r₀ r : Rows} {i : ℕ} (G : Growing r₀ r i) where
       record {
         only = G.only;
         says = e.0;
-        counts = sym (length_take_le r.ends r.ended (omega (arith, G.long))) ∙ ap length e.0;
+        counts = sym (length-take-le r.ends r.ended (omega (arith, G.long))) ∙ ap length e.0;
         fits = low;
       }
 
@@ -178,14 +178,14 @@ lose_none i k r e =
     let t : Thread = get_or r.threads i no_thread in
     let same : lost (members r) k t ≡ t = ap (λ (g : Managers). with_managers g t)
     (ap (λ (g : Manager). set_entry k g t.managers) (is_kept (members r) _ e) ∙ same_entry k t.managers) in
-    ap (λ (l : List Thread). put_threads l r) (sym (ap (set r.threads i) same ∙ set_get_or r.threads i no_thread))
+    ap (λ (l : List Thread). put_threads l r) (sym (ap (set r.threads i) same ∙ set-get_or r.threads i no_thread))
 
 -- what a loss at i is after the thread there has become t
 lost_then : (i : ℕ) (k : TrapKind) (r : Rows) (t : Thread) → i < length r.threads →
     lost_at i k (put_threads (set r.threads i t) r) ≡ put_threads (set r.threads i (lost (members r) k t)) r
 lost_then i k r t h =
-    ap (λ (x : Thread). put_threads (set (set r.threads i t) i (lost (members r) k x)) r) (get_or_set_same r.threads i t no_thread h)
-    ∙ ap (λ (l : List Thread). put_threads l r) (set_set r.threads i t (lost (members r) k t))
+    ap (λ (x : Thread). put_threads (set (set r.threads i t) i (lost (members r) k x)) r) (get_or-set_same r.threads i t no_thread h)
+    ∙ ap (λ (l : List Thread). put_threads l r) (set-set r.threads i t (lost (members r) k t))
 
 pub lose_all : (i : ℕ) (r : Rows) {r₁ r₂ r₃ : Rows} → i < length r.threads → r₁ ≡ lost_at i Program r → r₂ ≡ lost_at i Tlb r₁ →
     r₃ ≡ lost_at i SysBp r₂ →
@@ -206,15 +206,15 @@ sift_turns {A} p g n l₀ l k i x d S h e q =
     let L : Left n l₀ (set l i x) (i + 1) = moves n l₀ l i i x S.left h (omega arith) in
     let j : k < length l = omega (arith, S.left.whole, S.left.long, S.behind) in
     let front : take (k + 1) (set (set l i x) k x) ≡ take (k + 1) (set l k x) =
-    wrote (set l i x) k x (omega (arith, length_set l i x))
-    ∙ (ap (λ (z : List A). z ++ (x ∷ [])) (take_set_le k l i x S.behind) ∙ sym (wrote l k x j))
+    wrote (set l i x) k x (omega (arith, length-set l i x))
+    ∙ (ap (λ (z : List A). z ++ (x ∷ [])) (take-set-le k l i x S.behind) ∙ sym (wrote l k x j))
     in
     record {
       left = record {
         whole = L.whole;
         within = L.within;
-        long = length_set (set l i x) k x ∙ L.long;
-        rest = drop_set_lt (i + 1) (set l i x) k x (omega (arith, S.behind)) ∙ L.rest;
+        long = length-set (set l i x) k x ∙ L.long;
+        rest = drop-set-lt (i + 1) (set l i x) k x (omega (arith, S.behind)) ∙ L.rest;
       };
       behind = omega (arith, S.behind);
       so = ap (λ (z : List A). z ++ map g (keep p (drop (i + 1) (take n l₀)))) front ∙ (sift_holds p g n l₀ l k i x d S h e q).so;
@@ -242,7 +242,7 @@ module _ {r₀ r : Rows} {k i x : ℕ} {b : Bool} (U : Leaving r₀ r k i) (h : 
   leave_holds {r₁} {r₂} e w₁ w₂ =
       let l : List Thread = r.threads in
       let y : Thread = without_managers (members r) (get_or l i no_thread) in
-      let at : get_or (set l i y) i no_thread ≡ y = get_or_set_same l i y no_thread (omega (arith, U.so.left.whole, U.so.left.long)) in
+      let at : get_or (set l i y) i no_thread ≡ y = get_or-set_same l i y no_thread (omega (arith, U.so.left.whole, U.so.left.long)) in
       let w : r₂ ≡ put_threads (set (set l i y) k y) r = w₂
       ∙ (ap (λ (s : Rows). put_threads (set s.threads k (get_or s.threads i no_thread)) s) w₁
       ∙ ap (λ (v : Thread). put_threads (set (set l i y) k v) r) at) in
@@ -269,7 +269,7 @@ free_starts {r₀} h k = record {
   only = refl;
   turned = turn_starts _ _ _ _ h;
   gathered = gather_starts _ _ _ _ _ _ h;
-  counted = length_take_le r₀.readies r₀.ready k;
+  counted = length-take-le r₀.readies r₀.ready k;
 }
 
 module _ {r₀ r : Rows} {i : ℕ} (F : Freeing r₀ r i) where
@@ -306,7 +306,7 @@ module _ {r₀ r : Rows} {i : ℕ} (F : Freeing r₀ r i) where
       let y : Thread = in_state Ready a (get_or r.threads i no_thread) in
       let was : (view r₁).ready ≡ (view r).ready = ap (λ (s : Rows). (view s).ready) w in
       let one : r₂.readies ≡ r.readies + 1 = j.counts
-      ∙ (length_append (view r₁).ready (x ∷ []) ∙ (ap (λ (l : List ℕ). length l + 1) was ∙ ap (λ (k : ℕ). k + 1) F.counted)) in
+      ∙ (length-append (view r₁).ready (x ∷ []) ∙ (ap (λ (l : List ℕ). length l + 1) was ∙ ap (λ (k : ℕ). k + 1) F.counted)) in
       let threads : r₂.threads ≡ set r.threads i y = ap (λ (s : Rows). s.threads) j.only ∙ ap (λ (s : Rows). s.threads) w in
       record {
         only = j.only ∙ ap (λ (s : Rows). put_readies r₂.readies (put_ready r₂.ready s))

@@ -4,8 +4,8 @@ use mathlib.Core.Path.{◌≡◌, refl, sym, ap, ◌∙◌}
 use mathlib.Core.Bool.{Bool, true, false, not}
 use mathlib.Core.List.{List, [], ◌∷◌, ◌++◌}
 use native.Mathlib.Omega.{arith}
-use lib.ListN.{length, take, drop, get_or, set, length_append, length_set}
-use lib.Seq.{length_take_le}
+use lib.ListN.{length, take, drop, get_or, set, length-append, length-set}
+use lib.Seq.{length-take-le}
 use Rattle.laws.specs.Words.{Thread, Message}
 use Rattle.memory.specs.Rows.{Rows, view, Roomy, put_threads, put_count, put_ready, put_readies, put_clock, put_clocks, put_messages}
 use Rattle.memory.specs.Rows.{put_letters, ReadyIs, ClockIs, ThreadsAre, ThreadsLeft, MessagesAre}
@@ -93,7 +93,7 @@ module _ {A : Type 0} (w : Row A) (d : A) (q : A → Bool) {n : ℕ} {r₀ r : R
 pub one_more : {A : Type 0} (w : Row A) (r₀ : Rows) {r₁ : Rows} (n : ℕ) (x : A) → n < length (w.of r₀) →
     r₁ ≡ w.put (set (w.of r₀) n x) r₀ →
     Only w r₀ (λ (l : List A). (take (n + 1) l ≡ take n (w.of r₀) ++ (x ∷ [])) × (length l ≡ length (w.of r₀))) r₁
-one_more w r₀ n x h e = written w e (wrote (w.of r₀) n x h, length_set (w.of r₀) n x)
+one_more w r₀ n x h e = written w e (wrote (w.of r₀) n x h, length-set (w.of r₀) n x)
 
 -- in the gap that a loop has opened
 pub filled : {A : Type 0} (w : Row A) {r₀ r r₁ : Rows} {n i : ℕ} (at : ℕ) (x : A) → Only w r₀ (λ (l : List A). Shifted n (w.of r₀) l i) r →
@@ -107,7 +107,7 @@ module _ {r₀ r r₁ : Rows} (k : ℕ) where
   pub ready_is : {l : List ℕ} → r ≡ put_ready r.ready r₀ → r₁ ≡ put_readies k r → take k r.ready ≡ l → k ≤ length r.ready →
       k ≤ r₀.limits.threads → ReadyIs r₀ r₁ l
   ready_is o e s h f =
-      rw e (record { only = ap (put_readies k) o; says = s; counts = sym (length_take_le k r.ready h) ∙ ap length s; fits = f })
+      rw e (record { only = ap (put_readies k) o; says = s; counts = sym (length-take-le k r.ready h) ∙ ap length s; fits = f })
 
   pub clock_is : {l : List ℕ} → r ≡ put_clock r.clock r₀ → r₁ ≡ put_clocks k r → take k r.clock ≡ l → k ≤ r₀.limits.threads →
       ClockIs r₀ r₁ l
@@ -138,13 +138,13 @@ module _ (r₀ : Rows) where
   joins_starts l k f = record {
     only = refl;
     appended = append_starts r₀.clocks r₀.clock (view r₀).ready r₀.readies (omega arith);
-    counted = length_take_le r₀.readies r₀.ready (omega arith);
+    counted = length-take-le r₀.readies r₀.ready (omega arith);
   }
 
   pub joins_next : (r r₁ : Rows) (i x : ℕ) → Joins r i → i < r₀.clocks → x ≡ get_or r.clock i 0 →
       ReadyIs r r₁ ((view r).ready ++ (x ∷ [])) → Joins r₁ (i + 1)
   joins_next r r₁ i x J h z e =
-      let one : r₁.readies ≡ r.readies + 1 = e.counts ∙ (length_append (view r).ready (x ∷ []) ∙ ap (λ (k : ℕ). k + 1) J.counted) in
+      let one : r₁.readies ≡ r.readies + 1 = e.counts ∙ (length-append (view r).ready (x ∷ []) ∙ ap (λ (k : ℕ). k + 1) J.counted) in
       let same : x ≡ get_or r₀.clock i 0 = z ∙ ap (λ (s : Rows). get_or s.clock i 0) J.only in
       record {
         only = e.only ∙ ap (λ (s : Rows). put_readies r₁.readies (put_ready r₁.ready s)) J.only;

@@ -1,10 +1,10 @@
 -- The fields of a stream and what the event program prints for it: field by field, whatever comes behind a field that is all there.
 use Prim.Native.Nat.{ℕ, zero, suc, ◌≤◌, ◌<◌}
 use mathlib.Core.Path.{◌≡◌, refl, ap, ap₂, ◌∙◌}
-use mathlib.Core.List.{List, [], ◌∷◌, ◌++◌, append_nil}
+use mathlib.Core.List.{List, [], ◌∷◌, ◌++◌, append-nil}
 use native.Mathlib.Omega.{arith}
-use lib.ListN.{length, take, drop, length_append, length_drop}
-use lib.Seq.{take_append_le, drop_append_le}
+use lib.ListN.{length, take, drop, length-append, length-drop}
+use lib.Seq.{take-append-le, drop-append-le}
 use Rattle.rules.specs.Numbers.{small}
 use Rattle.rules.specs.Tables.{Tables}
 use Rattle.rules.specs.Dispatch.{status}
@@ -20,7 +20,7 @@ use Rattle.printing.specs.Printing.{prints_in, prints, fields_in, fields}
 
 -- a field that is cut off ends where it ends, where nothing comes behind it
 pub size_last : (a more : List ℕ) → more ≡ [] → field_size (a ++ more) ≡ field_size a
-size_last a more e = ap (λ (t : List ℕ). field_size (a ++ t)) e ∙ ap field_size (append_nil a)
+size_last a more e = ap (λ (t : List ℕ). field_size (a ++ t)) e ∙ ap field_size (append-nil a)
 
 -- ---- the bounds of `prints_in` and `fields_in` count no field away
 
@@ -32,7 +32,7 @@ abbrev pub past_first : List ℕ → List ℕ
 past_first l = drop (field_size l) l
 
 shorter : (b : ℕ) (l : List ℕ) (n : ℕ) → length (b ∷ l) ≤ suc n → length (past_first (b ∷ l)) ≤ n
-shorter b l n h = omega (arith, length_drop (field_size (b ∷ l)) (b ∷ l), size_some (b ∷ l) (omega arith))
+shorter b l n h = omega (arith, length-drop (field_size (b ∷ l)) (b ∷ l), size_some (b ∷ l) (omega arith))
 
 pub enough : (n m k : ℕ) (T : Tables) (l : List ℕ) → length l ≤ n → length l ≤ m → prints_in n k T l ≡ prints_in m k T l
 unfolding prints_in
@@ -86,17 +86,17 @@ fields_first (b ∷ l) h =
 -- the same of the bytes that are there, whatever comes behind them, if their first field ends where it ends with them
 module _ (a more : List ℕ) (same : field_size (a ++ more) ≡ field_size a) where
   pub take_first : take (field_size (a ++ more)) (a ++ more) ≡ take (field_size a) a
-  take_first = ap (λ (n : ℕ). take n (a ++ more)) same ∙ take_append_le (field_size a) a more (size_within a)
+  take_first = ap (λ (n : ℕ). take n (a ++ more)) same ∙ take-append-le (field_size a) a more (size_within a)
 
   pub drop_first : past_first (a ++ more) ≡ past_first a ++ more
-  drop_first = ap (λ (n : ℕ). drop n (a ++ more)) same ∙ drop_append_le (field_size a) a more (size_within a)
+  drop_first = ap (λ (n : ℕ). drop n (a ++ more)) same ∙ drop-append-le (field_size a) a more (size_within a)
 
   pub prints_field : (k : ℕ) (T : Tables) → 0 < length a
       → prints k T (a ++ more) ≡ line k (first_step T a).decision ++ prints (suc k) (first_step T a).tables (past_first a ++ more)
   prints_field k T h =
-      prints_first k T (a ++ more) (omega (arith, length_append a more))
+      prints_first k T (a ++ more) (omega (arith, length-append a more))
       ∙ ap₂ (λ (f t : List ℕ). line k (step small T f).decision ++ prints (suc k) (step small T f).tables t) take_first drop_first
 
   pub fields_field : 0 < length a → fields (a ++ more) ≡ take (field_size a) a ∷ fields (past_first a ++ more)
   fields_field h =
-      fields_first (a ++ more) (omega (arith, length_append a more)) ∙ ap₂ (λ (f t : List ℕ). f ∷ fields t) take_first drop_first
+      fields_first (a ++ more) (omega (arith, length-append a more)) ∙ ap₂ (λ (f t : List ℕ). f ∷ fields t) take_first drop_first

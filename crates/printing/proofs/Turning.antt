@@ -4,12 +4,12 @@ use mathlib.Core.Path.{◌≡◌, refl, sym, ap, ap₂, ◌∙◌}
 use mathlib.Core.Bool.{Bool, true, ◌&&◌, ◌||◌, not}
 use mathlib.Core.List.{List, [], ◌∷◌, ◌++◌, append_assoc}
 use mathlib.Core.Logic.{◌⊎◌, ⊎_elim}
-use native.Mathlib.Numerals.{add_one}
+use native.Mathlib.Numerals.{add-one}
 use native.Mathlib.Omega.{arith}
 use lib.Dec.{eqb, ltb}
-use lib.ListN.{length, take, drop, length_append, length_drop}
-use lib.Seq.{take_at, drop_at, drop_drop}
-use borrow.Author.Tests.{lt_ltb, eq_eqb}
+use lib.ListN.{length, take, drop, length-append, length-drop}
+use lib.Seq.{take_at, drop_at, drop-drop}
+use borrow.Author.Tests.{lt-ltb, eq-eqb}
 use borrow.Rule.Slice.PartMut.{same_len_mid}
 use Rattle.rules.specs.Numbers.{Limits, small}
 use Rattle.rules.specs.Tables.{Tables}
@@ -43,7 +43,7 @@ put_behind {a} {before} {after} {n} p =
 -- a lent buffer stays as long as it was, so what was put into it had room there
 put_within : {a before after : List ℕ} {n : ℕ} → Puts a before after n → length after ≡ length before → n ≤ length before
 put_within {a} {before} {after} {n} p e =
-    omega (arith, e, p.counts, ap length p.shows, length_append a (drop (length a) before), length_drop (length a) before)
+    omega (arith, e, p.counts, ap length p.shows, length-append a (drop (length a) before), length-drop (length a) before)
 
 -- ---- a turn so far
 
@@ -123,13 +123,13 @@ module _ {m : List ℕ} {k : ℕ} {input : List ℕ} {ended : Bool} {before afte
   ends_served h =
       ends
       (or_left (all_served input t || full before t) (cut input ended t)
-      (or_left (all_served input t) (full before t) (eq_eqb t.used (length input) (omega (arith, g.used)))))
+      (or_left (all_served input t) (full before t) (eq-eqb t.used (length input) (omega (arith, g.used)))))
 
   pub ends_full : length after - t.filled < 160 → Turns m k input ended before after t m₁
   ends_full h =
       ends
       (or_left (all_served input t || full before t) (cut input ended t)
-      (or_right (all_served input t) (full before t) (lt_ltb (length before) (t.filled + 160) (omega (arith, g.long)))))
+      (or_right (all_served input t) (full before t) (lt-ltb (length before) (t.filled + 160) (omega (arith, g.long)))))
 
   pub ends_cut : not ended ≡ true → not (whole (left input t)) ≡ true → Turns m k input ended before after t m₁
   ends_cut e w = ends (or_right (all_served input t || full before t) (cut input ended t) (e & w))
@@ -138,7 +138,7 @@ module _ {m : List ℕ} {k : ℕ} {input : List ℕ} {ended : Bool} {before afte
 
   module _ (inside : t.used < length input) (there : (whole (left input t) ≡ true) ⊎ (ended ≡ true)) where
     some : 0 < length (left input t)
-    some = omega (arith, length_drop t.used input)
+    some = omega (arith, length-drop t.used input)
 
     settled : (more : List ℕ) → (ended ≡ true → more ≡ []) → field_size (left input t ++ more) ≡ field_size (left input t)
     settled more h = ⊎_elim (λ w. size_whole (left input t) more w) (λ e. size_last (left input t) more (h e)) there
@@ -183,7 +183,7 @@ module _ {m : List ℕ} {k : ℕ} {input : List ℕ} {ended : Bool} {before afte
         stepped = ap₂ (λ (L : Limits) (b : List ℕ). (step L (tables m₁) b).tables) (sym own) bytes ∙ sym s.leaves
 
         past_it : past_first (left input t) ≡ drop end input
-        past_it = drop_drop (field_size (left input t)) t.used input ∙ ap (λ (j : ℕ). drop j input) (sym at_end)
+        past_it = drop-drop (field_size (left input t)) t.used input ∙ ap (λ (j : ℕ). drop j input) (sym at_end)
 
         split : (more : List ℕ) → (ended ≡ true → more ≡ [])
             → fields (input ++ more) ≡ (g.served ++ (event ∷ [])) ++ fields (drop end input ++ more)
@@ -200,7 +200,7 @@ module _ {m : List ℕ} {k : ℕ} {input : List ℕ} {ended : Bool} {before afte
             prints_field (left input t) more (settled more h) t.line (tables m₁) some
             ∙ (ap₂ (λ (x : Decision) (b : List ℕ). line t.line x ++ b) decided
             (ap₂ (λ (U : Tables) (b : List ℕ). prints (suc t.line) U (b ++ more)) stepped past_it)
-            ∙ ap (λ (j : ℕ). line t.line d ++ prints j (tables m₂) (drop end input ++ more)) (sym (add_one t.line)))
+            ∙ ap (λ (j : ℕ). line t.line d ++ prints j (tables m₂) (drop end input ++ more)) (sym (add-one t.line)))
 
         told : (more : List ℕ) → (ended ≡ true → more ≡ [])
             → prints k (tables m) (input ++ more)

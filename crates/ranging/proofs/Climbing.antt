@@ -4,11 +4,11 @@ use mathlib.Core.Path.{◌≡◌, refl, sym, ap, subst, ◌∙◌}
 use mathlib.Core.Logic.{◌⊎◌, inl, inr, ⊎_elim, ◌≢◌}
 use mathlib.Core.Bool.{Bool, true, false, ◌&&◌, not, false≢true}
 use mathlib.Core.List.{List, [], ◌∷◌}
-use native.Mathlib.Numerals.{add_one}
+use native.Mathlib.Numerals.{add-one}
 use native.Mathlib.Omega.{arith}
 use lib.Dec.{ltb}
 use lib.ListN.{length, get_or}
-use borrow.Author.Tests.{eq_eqb, lt_ltb, le_ltb, ltb_true, ltb_false}
+use borrow.Author.Tests.{eq-eqb, lt-ltb, le-ltb, ltb-true, ltb-false}
 use Rattle.rules.specs.Lists.{if◌then◌else◌, ◌==◌, any, count}
 use Rattle.rules.specs.Tables.{Tables, named, new_thread}
 use Rattle.rules.specs.TableRules.{has_parent, climbs, parents_right}
@@ -43,8 +43,8 @@ well_placed ts i name (ParentIs m) u =
   where
     go : name ≢ 0 → (b : Bool) → ltb (place (named m) ts) (length ts) ≡ b → Under ts (ParentIs m) (above ts i name (ParentIs m))
     go e true t = let k : place (named m) ts < length ts =
-        ltb_true _ _ t in record { parent = m; is = refl; lives = k; at = above_live ts i name (ParentIs m) m e refl k }
-    go e false t = absurd (u (above_gone ts i name (ParentIs m) m e refl (ltb_false _ _ t)))
+        ltb-true _ _ t in record { parent = m; is = refl; lives = k; at = above_live ts i name (ParentIs m) m e refl k }
+    go e false t = absurd (u (above_gone ts i name (ParentIs m) m e refl (ltb-false _ _ t)))
 
 -- how many of k steps are taken from i
 far : List ℕ → ℕ → ℕ → ℕ → ℕ
@@ -54,13 +54,13 @@ far up n (suc k) i = if ltb i n then suc (far up n k (next up n i)) else 0
 -- once above all one takes no more
 far_enough : (up : List ℕ) (n k i : ℕ) → n ≤ after up n k i → far up n (suc k) i ≡ far up n k i
 unfolding far after
-far_enough up n zero i h = rw (le_ltb i n h)
+far_enough up n zero i h = rw (le-ltb i n h)
 far_enough up n (suc k) i h = ap (λ (j : ℕ). if ltb i n then suc j else 0) (far_enough up n k (next up n i) h)
 
 far_less : (up : List ℕ) (n k i : ℕ) → i < n → n ≤ after up n k i → far up n k (next up n i) < far up n k i
 unfolding far
 far_less up n k i h w =
-    let e : far up n (suc k) i ≡ suc (far up n k (next up n i)) = rw (lt_ltb i n h) in
+    let e : far up n (suc k) i ≡ suc (far up n k (next up n i)) = rw (lt-ltb i n h) in
     omega (arith, far_enough up n k i w)
 
 -- the only one of a name stands where a search finds it
@@ -77,7 +77,7 @@ module _ (ts : List Thread) (once : (m : ℕ) → count (named m) ts ≤ 1) (up 
   step_from i d h = next_below up (length ts) i h ∙ U.so i d h
 
   own_place : (i : ℕ) (d : Thread) → i < length ts → place (named (get_or ts i d).name) ts ≡ i
-  own_place i d h = place_only (get_or ts i d).name ts i d (once _) h (eq_eqb (get_or ts i d).name (get_or ts i d).name refl)
+  own_place i d h = place_only (get_or ts i d).name ts i d (once _) h (eq-eqb (get_or ts i d).name (get_or ts i d).name refl)
 
   -- one from which going up comes above all does not stand above itself
   moves_on : (k i : ℕ) (d : Thread) → i < length ts → length ts ≤ after up (length ts) k i →
@@ -140,7 +140,7 @@ top_named : (t : Thread) → first t ≡ true → t.parent ≡ NoParent → t.na
 top_named t f e = ⊎_elim (λ w. w.0) (λ w. absurd (false≢true (rw (w.1, e) at f))) (same? t.name 0)
 
 child_named : (t : Thread) (m : ℕ) → first t ≡ true → t.parent ≡ ParentIs m → t.name ≢ 0
-child_named t m f e z = absurd (false≢true (rw (eq_eqb t.name 0 z, e) at f))
+child_named t m f e z = absurd (false≢true (rw (eq-eqb t.name 0 z, e) at f))
 
 module _ (ts : List Thread) (once : (m : ℕ) → count (named m) ts ≤ 1) (up : List ℕ) (U : Upward ts up) where
   -- a parent from which one climbs lives, and its own parent is a step nearer
@@ -152,10 +152,10 @@ module _ (ts : List Thread) (once : (m : ℕ) → count (named m) ts ≤ 1) (up 
       go : (b : Bool) → ltb (place (named m) ts) (length ts) ≡ b → (place (named m) ts < length ts)
           × (climbs k ts (get_or ts (place (named m) ts) d).parent ≡ true)
       go true t =
-          let h : place (named m) ts < length ts = ltb_true _ _ t in
+          let h : place (named m) ts < length ts = ltb-true _ _ t in
           (h, sym (any_one (named m) (λ u. climbs k ts u.parent) ts (place (named m) ts) d (once m) h (passes_at (named m) d ts h)) ∙ e)
       go false t =
-          absurd (false≢true (sym (any_neither (named m) (λ u. climbs k ts u.parent) ts (any_no (named m) ts (ltb_false _ _ t))) ∙ e))
+          absurd (false≢true (sym (any_neither (named m) (λ u. climbs k ts u.parent) ts (any_no (named m) ts (ltb-false _ _ t))) ∙ e))
 
   module _ (f : (i : ℕ) (d : Thread) → i < length ts → first (get_or ts i d) ≡ true) where
     from_top : (k i : ℕ) (d : Thread) → i < length ts → (get_or ts i d).parent ≡ NoParent → length ts ≤ after up (length ts) (suc k) i
@@ -206,7 +206,7 @@ decided T once up U n l false A = go ((subst (λ (j : ℕ). AllLead up j false) 
         absurd (omega (
           arith,
           w.2,
-          ap (λ (j : ℕ). after up (length T.threads) j w.0) (add_one (length T.threads)),
+          ap (λ (j : ℕ). after up (length T.threads) j w.0) (add-one (length T.threads)),
           leads_out T.threads once up U (λ i d h. and_left (first (get_or T.threads i d)) _ (each_at T e i d h)) (length T.threads)
               w.0 d w.1 (and_right (first (get_or T.threads w.0 d)) _ (each_at T e w.0 d w.1)),
         ))

@@ -4,11 +4,11 @@ use mathlib.Core.Path.{◌≡◌, refl, sym, ap, subst, ◌∙◌}
 use mathlib.Core.Logic.{◌⊎◌, ⊎_elim}
 use mathlib.Core.Bool.{Bool, true, false, true≢false, false≢true}
 use mathlib.Core.List.{List}
-use native.Mathlib.Numerals.{add_one}
+use native.Mathlib.Numerals.{add-one}
 use native.Mathlib.Omega.{arith}
 use lib.Dec.{ltb}
 use lib.ListN.{get_or}
-use borrow.Author.Tests.{lt_ltb, le_ltb, ltb_true, ltb_false}
+use borrow.Author.Tests.{lt-ltb, le-ltb, ltb-true, ltb-false}
 use Rattle.rules.specs.Lists.{if◌then◌else◌}
 use Rattle.ranging.specs.Upward.{after, Leads, AllLead}
 
@@ -18,10 +18,10 @@ module _ (up : List ℕ) (n : ℕ) where
   next i = if ltb i n then get_or up i 0 else i
 
   pub next_below : (i : ℕ) → i < n → next i ≡ get_or up i 0
-  next_below i h = rw (lt_ltb i n h)
+  next_below i h = rw (lt-ltb i n h)
 
   next_above : (i : ℕ) → n ≤ i → next i ≡ i
-  next_above i h = rw (le_ltb i n h)
+  next_above i h = rw (le-ltb i n h)
 
   pub after_one : (k i : ℕ) → after up n (suc k) i ≡ after up n k (next i)
   unfolding after
@@ -34,7 +34,7 @@ module _ (up : List ℕ) (n : ℕ) where
   after_last (suc k) i = after_last k (next i)
 
   after_more : (k i : ℕ) → after up n k i < n → after up n (k + 1) i ≡ get_or up (after up n k i) 0
-  after_more k i h = ap (λ (j : ℕ). after up n j i) (add_one k) ∙ (after_last k i ∙ next_below _ h)
+  after_more k i h = ap (λ (j : ℕ). after up n j i) (add-one k) ∙ (after_last k i ∙ next_below _ h)
 
   after_add : (j k i : ℕ) → after up n (j + k) i ≡ after up n k (after up n j i)
   unfolding after
@@ -107,9 +107,9 @@ module _ (up : List ℕ) (n : ℕ) where
     where
       go : (i : ℕ) (L : Led i) (s : ℕ) → (after up n s i < i) ⊎ (n ≤ after up n s i) → (j : ℕ) → j < i + 1 → (b : Bool) → ltb j i ≡ b →
           n ≤ after up n (L.steps + s) j
-      go i L s w j k true t = stays_above L.steps s j (L.so j (ltb_true j i t))
+      go i L s w j k true t = stays_above L.steps s j (L.so j (ltb-true j i t))
       go i L s w j k false t =
-          let e : i ≡ j = omega (arith, ltb_false j i t) in
+          let e : i ≡ j = omega (arith, ltb-false j i t) in
           let f : s + L.steps ≡ L.steps + s = omega arith in
           subst (λ (x : ℕ). n ≤ after up n (L.steps + s) x) e
           (subst (λ (x : ℕ). n ≤ after up n x i) f

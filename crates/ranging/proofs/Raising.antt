@@ -6,9 +6,9 @@ use mathlib.Core.Bool.{Bool, true, false}
 use mathlib.Core.List.{List, [], ◌∷◌}
 use native.Mathlib.Omega.{arith}
 use lib.Dec.{ltb, eqb}
-use lib.ListN.{length, take, get_or, set, length_set}
-use lib.Seq.{length_take_le, get_or_take, get_or_set_same, get_or_set_other}
-use borrow.Author.Tests.{eq_eqb, ne_eqb, eqb_true, eqb_false, lt_ltb, le_ltb, ltb_true, ltb_false}
+use lib.ListN.{length, take, get_or, set, length-set}
+use lib.Seq.{length-take-le, get_or-take, get_or-set_same, get_or-set_other}
+use borrow.Author.Tests.{eq-eqb, ne_eqb, eqb-true, eqb-false, lt-ltb, le-ltb, ltb-true, ltb-false}
 use Rattle.rules.specs.Tables.{named}
 use Rattle.laws.specs.Words.{Thread, Parent, NoParent, ParentIs}
 use Rattle.laws.proofs.Tests.{same?}
@@ -20,7 +20,7 @@ use Rattle.ranging.specs.Upward.{above, Upward}
 module _ (ts : List Thread) (i name : ℕ) (p : Parent) where
   pub above_top : name ≡ 0 → p ≡ NoParent → above ts i name p ≡ length ts
   unfolding above
-  above_top e f = rw (eq_eqb name 0 e, f)
+  above_top e f = rw (eq-eqb name 0 e, f)
 
   pub above_none : name ≢ 0 → p ≡ NoParent → above ts i name p ≡ i
   unfolding above
@@ -28,15 +28,15 @@ module _ (ts : List Thread) (i name : ℕ) (p : Parent) where
 
   pub above_zero : (m : ℕ) → name ≡ 0 → p ≡ ParentIs m → above ts i name p ≡ i
   unfolding above
-  above_zero m e f = rw (eq_eqb name 0 e, f)
+  above_zero m e f = rw (eq-eqb name 0 e, f)
 
   pub above_live : (m : ℕ) → name ≢ 0 → p ≡ ParentIs m → place (named m) ts < length ts → above ts i name p ≡ place (named m) ts
   unfolding above
-  above_live m e f h = rw (ne_eqb name 0 e, f, lt_ltb (place (named m) ts) (length ts) h)
+  above_live m e f h = rw (ne_eqb name 0 e, f, lt-ltb (place (named m) ts) (length ts) h)
 
   pub above_gone : (m : ℕ) → name ≢ 0 → p ≡ ParentIs m → length ts ≤ place (named m) ts → above ts i name p ≡ i
   unfolding above
-  above_gone m e f h = rw (ne_eqb name 0 e, f, le_ltb (place (named m) ts) (length ts) h)
+  above_gone m e f h = rw (ne_eqb name 0 e, f, le-ltb (place (named m) ts) (length ts) h)
 
 -- it is a place or above all
 above_within : (ts : List Thread) (i name : ℕ) (p : Parent) → i ≤ length ts → above ts i name p ≤ length ts
@@ -46,8 +46,8 @@ above_within ts i name (ParentIs m) h = ⊎_elim (λ e. omega (arith, above_zero
     (λ e. go e.0 (ltb (place (named m) ts) (length ts)) refl) (same? name 0)
   where
     go : name ≢ 0 → (b : Bool) → ltb (place (named m) ts) (length ts) ≡ b → above ts i name (ParentIs m) ≤ length ts
-    go e true t = let k : place (named m) ts < length ts = ltb_true _ _ t in omega (arith, above_live ts i name (ParentIs m) m e refl k)
-    go e false t = omega (arith, above_gone ts i name (ParentIs m) m e refl (ltb_false _ _ t))
+    go e true t = let k : place (named m) ts < length ts = ltb-true _ _ t in omega (arith, above_live ts i name (ParentIs m) m e refl k)
+    go e false t = omega (arith, above_gone ts i name (ParentIs m) m e refl (ltb-false _ _ t))
 
 -- ---- an entry for each thread, in turn
 
@@ -72,7 +72,7 @@ module _ (n : ℕ) (ts : List Thread) where
       record {
         whole = R.whole;
         within = omega arith;
-        long = omega (arith, R.long, length_set up i k);
+        long = omega (arith, R.long, length-set up i k);
         so = λ j f l. go up i k d R h e j f l (eqb j i) refl;
       }
     where
@@ -80,27 +80,27 @@ module _ (n : ℕ) (ts : List Thread) where
           (j : ℕ) (f : Thread) → j < i + 1 → (b : Bool) → eqb j i ≡ b →
           get_or (set up i k) j 0 ≡ above (take n ts) j (get_or ts j f).name (get_or ts j f).parent
       go up i k d R h e j f l true t =
-          let q : i ≡ j = sym (eqb_true j i t) in
+          let q : i ≡ j = sym (eqb-true j i t) in
           subst (λ (m : ℕ). get_or (set up i k) m 0 ≡ above (take n ts) m (get_or ts m f).name (get_or ts m f).parent) q
-          (get_or_set_same up i k 0 (omega (arith, R.long))
+          (get_or-set_same up i k 0 (omega (arith, R.long))
           ∙ (e ∙ ap (λ (x : Thread). above (take n ts) i x.name x.parent) (any_default ts i d f (omega (arith, R.whole)))))
       go up i k d R h e j f l false t =
-          let u : j ≢ i = eqb_false j i t in
-          get_or_set_other up i j k 0 u ∙ R.so j f (omega arith)
+          let u : j ≢ i = eqb-false j i t in
+          get_or-set_other up i j k 0 u ∙ R.so j f (omega arith)
 
   pub raise_low : (up : List ℕ) (i k : ℕ) (d : Thread) → Raised up i → i < n →
       k ≡ above (take n ts) i (get_or ts i d).name (get_or ts i d).parent → k ≤ n
   raise_low up i k d R h e = omega (
     arith,
-    length_take_le n ts R.whole,
+    length-take-le n ts R.whole,
     above_within (take n ts) i (get_or ts i d).name
-        (get_or ts i d).parent (omega (arith, length_take_le n ts R.whole)),
+        (get_or ts i d).parent (omega (arith, length-take-le n ts R.whole)),
   )
 
   pub raise_ends : (up : List ℕ) (i : ℕ) → Raised up i → n ≤ i → Upward (take n ts) up
   raise_ends up i R h =
       record {
         so = λ j d k.
-            let w : j < n = omega (arith, length_take_le n ts R.whole) in
-            R.so j d (omega arith) ∙ ap (λ (x : Thread). above (take n ts) j x.name x.parent) (sym (get_or_take n ts j d w));
+            let w : j < n = omega (arith, length-take-le n ts R.whole) in
+            R.so j d (omega arith) ∙ ap (λ (x : Thread). above (take n ts) j x.name x.parent) (sym (get_or-take n ts j d w));
       }

@@ -5,7 +5,7 @@ use mathlib.Core.Bool.{Bool, true}
 use mathlib.Core.List.{List, [], ◌∷◌, ◌++◌}
 use native.Mathlib.Omega.{arith}
 use lib.Dec.{ltb}
-use borrow.Author.Tests.{lt_ltb, eqb_false}
+use borrow.Author.Tests.{lt-ltb, eqb-false}
 use Rattle.rules.specs.Lists.{◌==◌, all, chain, each, from_on}
 use Rattle.rules.specs.Numbers.{devices}
 use Rattle.laws.specs.Words.{Held}
@@ -21,7 +21,7 @@ rise h k = ltb h.device k.device
 by_flag : (P : List Held → Type 0) (d f w : ℕ) → f ≤ 1 → P [] → P (record { device = d; word = w } ∷ []) → P (held_in d f w)
 unfolding held_in
 by_flag P d f w l none one =
-    by_if P (f == 0) (λ e. none) (λ n. by_if P (f == 1) (λ e. one) (λ o. absurd (small f l (eqb_false f 0 n) (eqb_false f 1 o))))
+    by_if P (f == 0) (λ e. none) (λ n. by_if P (f == 1) (λ e. one) (λ o. absurd (small f l (eqb-false f 0 n) (eqb-false f 1 o))))
   where
     small : (f : ℕ) → f ≤ 1 → (f ≡ 0 → ⊥) → (f ≡ 1 → ⊥) → ⊥
     small zero l a b = a refl
@@ -35,7 +35,7 @@ module _ (F W : ℕ → ℕ) where
   behind x a (suc n) h g =
       by_flag (λ (hs : List Held). chain rise (x ∷ (hs ++ helds F W (suc a) n)) ≡ true) a (F a) (W a) (g a (omega arith) (omega arith))
       (behind x (suc a) n (omega arith) (λ j p q. g j (omega arith) (omega arith)))
-      (lt_ltb x.device a h & behind (record { device = a; word = W a }) (suc a) n (omega arith)
+      (lt-ltb x.device a h & behind (record { device = a; word = W a }) (suc a) n (omega arith)
       (λ j p q. g j (omega arith) (omega arith)))
 
   rising : (a n : ℕ) → Gentle F W a n → chain rise (helds F W a n) ≡ true

@@ -8,7 +8,7 @@ use mathlib.Core.List.{List, Memᴰ}
 use native.Mathlib.Omega.{arith}
 use lib.Dec.{leb, ltb}
 use lib.ListN.{length, take, get_or, set, replicate}
-use borrow.Author.Tests.{eq_eqb, ne_eqb, le_leb, lt_leb}
+use borrow.Author.Tests.{eq-eqb, ne_eqb, le-leb, lt-leb}
 use Rattle.rules.specs.Lists.{◌==◌, one_if, all, any, count, chain, from_on}
 use Rattle.rules.specs.Numbers.{names, beat_ticks, devices, wrap}
 use Rattle.rules.specs.Words.{by_state}
@@ -83,7 +83,7 @@ module _ (n : ℕ) (ts : List Thread) (held : ℕ → Bool) (marks : List ℕ) w
     other d l u = omega (arith, more d l, ap one_if (ne_eqb d e u))
 
     same : e < devices → waiting ts (i + 1) e ≡ waiting ts i e + 1
-    same l = omega (arith, more e l, ap one_if (eq_eqb e e refl))
+    same l = omega (arith, more e l, ap one_if (eq-eqb e e refl))
 
     later : e < devices → waiting ts i e + 1 ≤ waiting ts n e
     later l = omega (arith, same l, count_within (waits_for e) ts (i + 1) n (omega arith))
@@ -157,11 +157,11 @@ module _ (T : Tables) where
   pub broken : (d : ℕ) → d < devices → 2 ≤ counted d → false ≡ devices_right T
   broken d h more =
       let two : 2 ≤ both d = omega (arith, held_any d) in
-      sym (one_fails (λ k. leb (both k) 1) (from_on 0 devices) d (from_on_mem 0 devices d (omega arith) h) (lt_leb (both d) 1 two))
+      sym (one_fails (λ k. leb (both k) 1) (from_on 0 devices) d (from_on_mem 0 devices d (omega arith) h) (lt-leb (both d) 1 two))
 
   -- Where each has one at most, and held devices rise, it holds.
   pub kept : orders_right T ≡ true → ((d : ℕ) → d < devices → counted d ≤ 1) → true ≡ devices_right T
-  kept order few = sym (all_of (λ d. leb (both d) 1) (from_on 0 devices) (λ d m. le_leb (both d) 1 (at d (mem_from_on 0 devices d m))))
+  kept order few = sym (all_of (λ d. leb (both d) 1) (from_on 0 devices) (λ d m. le-leb (both d) 1 (at d (mem_from_on 0 devices d m))))
     where
       rise : chain (λ h k. ltb h.device k.device) T.held ≡ true
       rise = and_right (chain (λ m n. leb m.to n.to) T.messages) _ order

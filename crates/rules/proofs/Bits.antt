@@ -1,15 +1,15 @@
 -- Trailing zeros and bits: the lowest set bit of a word, over the width, and the first pending one of a list of devices.
-use Prim.Native.Nat.{ℕ, zero, suc, ◌+◌, ◌-◌, ◌/◌, ◌%◌, ◌^◌, ◌≤◌, ◌<◌, zero_le}
+use Prim.Native.Nat.{ℕ, zero, suc, ◌+◌, ◌-◌, ◌/◌, ◌%◌, ◌^◌, ◌≤◌, ◌<◌, zero-le}
 use mathlib.Core.Path.{◌≡◌, refl, sym, ap, ◌∙◌}
 use mathlib.Core.Logic.{⊎_elim}
 use mathlib.Core.Bool.{Bool, true, false, ◌||◌, true≢false}
 use mathlib.Core.List.{List, [], ◌∷◌, ◌++◌}
-use native.Mathlib.Nat.{eq_or_lt_of_le, lt_of_lt_of_le, lt_of_not_le, div_eq_of_lt, div_one, le_div_iff_mul_le, one_mul}
-use native.Mathlib.Numerals.{add_one, one_add}
+use native.Mathlib.Nat.{eq-or-lt_of_le, lt_of_lt_of_le, lt_of_not-le, div-eq_of_lt, div-one, le-div_iff_mul-le, one-mul}
+use native.Mathlib.Numerals.{add-one, one-add}
 use native.Mathlib.Omega.{arith}
 use lib.Count.{count_trailing_zeros, under}
-use lib.Pow.{pow_pos, pow_mono, shr_lt, shr_shr}
-use borrow.Author.Tests.{eq_eqb}
+use lib.Pow.{pow_pos, pow_mono, shr_lt, shr-shr}
+use borrow.Author.Tests.{eq-eqb}
 use Rattle.rules.specs.Lists.{if◌then◌else◌, ◌==◌, any, from_on}
 use Rattle.rules.specs.Numbers.{devices, pending_bits}
 use Rattle.rules.specs.Words.{Picked}
@@ -21,14 +21,14 @@ clash t f = true≢false (sym t ∙ f)
 -- ---- bits of a word of any width
 
 shifted : (w j n : ℕ) → pending (w / 2 ^ j) n ≡ pending w (j + n)
-shifted w j n = ap (λ (x : ℕ). x % 2 == 1) (shr_shr w j n)
+shifted w j n = ap (λ (x : ℕ). x % 2 == 1) (shr-shr w j n)
 
 halved : (w n : ℕ) → pending (w / 2) n ≡ pending w (suc n)
-halved w n = shifted w 1 n ∙ ap (pending w) (one_add n)
+halved w n = shifted w 1 n ∙ ap (pending w) (one-add n)
 
 -- A word below 2 ^ k has no bit from k on.
 pub no_bit : (k w n : ℕ) → w < 2 ^ k → k ≤ n → pending w n ≡ false
-no_bit k w n h l = rw (div_eq_of_lt (lt_of_lt_of_le h (pow_mono l)))
+no_bit k w n h l = rw (div-eq_of_lt (lt_of_lt_of_le h (pow_mono l)))
 
 -- n is the lowest set bit of w
 pub record Lowest (w n : ℕ) : Type 0 where
@@ -39,28 +39,28 @@ doubled : (w t : ℕ) → w % 2 ≡ 0 → Lowest (w / 2) t → Lowest w (suc t)
 doubled w t e L = record { set = sym (halved w t) ∙ L.set; clear = clear }
   where
     clear : (m : ℕ) → m < suc t → pending w m ≡ false
-    clear zero h = rw (div_one, e)
+    clear zero h = rw (div-one, e)
     clear (suc m) h = sym (halved w m) ∙ L.clear m (omega arith)
 
 -- Trailing zeros are the place of the lowest set bit.
 pub trailing_lowest : (k w : ℕ) → zero < w → w < 2 ^ k → Lowest w (count_trailing_zeros k w)
 unfolding count_trailing_zeros
 trailing_lowest zero w p h = absurd (omega arith)
-trailing_lowest (suc k) w p h = go (w % 2) refl (λ q. trailing_lowest k (w / 2) q (shr_lt k 1 (rw add_one h)))
+trailing_lowest (suc k) w p h = go (w % 2) refl (λ q. trailing_lowest k (w / 2) q (shr_lt k 1 (rw add-one h)))
   where
     go : (d : ℕ) → w % 2 ≡ d → (zero < w / 2 → Lowest (w / 2) (count_trailing_zeros k (w / 2))) → Lowest w (under d (count_trailing_zeros k (w / 2)))
     go zero e rest = doubled w _ e (rest (omega arith))
-    go (suc d) e rest = record { set = eq_eqb (w / 1 % 2) 1 (omega arith); clear = λ m g. absurd (omega arith) }
+    go (suc d) e rest = record { set = eq-eqb (w / 1 % 2) 1 (omega arith); clear = λ m g. absurd (omega arith) }
 
 pub lowest_lt : (k w n : ℕ) → w < 2 ^ k → Lowest w n → n < k
-lowest_lt k w n h L = lt_of_not_le (λ (l : k ≤ n). absurd (clash L.set (no_bit k w n h l)))
+lowest_lt k w n h L = lt_of_not-le (λ (l : k ≤ n). absurd (clash L.set (no_bit k w n h l)))
 
 -- A word of 2 ^ k or more that has j + k bits has one of them at k or above.
 pub high_bit : (j k w : ℕ) → 2 ^ k ≤ w → w < 2 ^ (j + k) → (n : ℕ) × (k ≤ n) × (n < j + k) × (pending w n ≡ true)
 high_bit j k w l h =
     let v : ℕ = w / 2 ^ k in
     let b : v < 2 ^ j = shr_lt j k h in
-    let L = trailing_lowest j v ((le_div_iff_mul_le (pow_pos k)).1 (rw one_mul l)) b in
+    let L = trailing_lowest j v ((le-div_iff_mul-le (pow_pos k)).1 (rw one-mul l)) b in
     let t = lowest_lt j v (count_trailing_zeros j v) b L in
     (k + count_trailing_zeros j v, omega arith, omega arith, sym (shifted w k (count_trailing_zeros j v)) ∙ L.set)
 
@@ -78,7 +78,7 @@ pub any_at : (p : ℕ → Bool) (a n m : ℕ) → a ≤ m → m < a + n → p m 
 unfolding any from_on
 any_at p a zero m l h t = absurd (omega arith)
 any_at p a (suc n) m l h t =
-    ⊎_elim (λ (e : a ≡ m). rw (ap p e ∙ t)) (λ g. or_right (p a) _ (any_at p (suc a) n m g (omega arith) t)) (eq_or_lt_of_le l)
+    ⊎_elim (λ (e : a ≡ m). rw (ap p e ∙ t)) (λ g. or_right (p a) _ (any_at p (suc a) n m g (omega arith) t)) (eq-or-lt_of_le l)
 
 any_none : (p : ℕ → Bool) (a n : ℕ) → ((m : ℕ) → a ≤ m → m < a + n → p m ≡ false) → any p (from_on a n) ≡ false
 unfolding any from_on
@@ -91,7 +91,7 @@ first_at w a zero d l h L = absurd (omega arith)
 first_at w a (suc n) d l h L =
     ⊎_elim (λ (e : a ≡ d). rw (ap (pending w) e ∙ L.set) (ap taken e))
     (λ g. rw (L.clear a g) (first_at w (suc a) n d g (omega arith) L))
-    (eq_or_lt_of_le l)
+    (eq-or-lt_of_le l)
 
 -- what one list gives, or the next where it gives nothing
 abbrev pub or_else : Picked → Picked → Picked
@@ -114,7 +114,7 @@ first_of_three w ds es fs = first_both w ds (es ++ fs) ∙ ap (or_else (first_pe
 -- Trailing zeros are the first pending device in rising order.
 pub first_trailing : (w : ℕ) → zero < w → w < 2 ^ devices → first_pending w (from_on 0 devices) ≡ taken (count_trailing_zeros pending_bits w)
 first_trailing w p h = let L =
-    trailing_lowest pending_bits w p (omega arith) in first_at w 0 devices _ zero_le (lowest_lt devices w _ h L) L
+    trailing_lowest pending_bits w p (omega arith) in first_at w 0 devices _ zero-le (lowest_lt devices w _ h L) L
 
 pub first_zero : first_pending 0 (from_on 0 devices) ≡ no_pick
 first_zero = unfold first_pending from_on in refl

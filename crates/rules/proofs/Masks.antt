@@ -1,15 +1,15 @@
 -- The pick by masks: the word of each class is cut out of the pending word, and its trailing zeros are the device.
 -- Stated for any masks of the classes; those of src/pick.rt are shown to be such where it is proved, by computing.
-use Prim.Native.Nat.{ℕ, zero, suc, ◌+◌, ◌*◌, ◌%◌, ◌/◌, ◌^◌, ◌<◌, zero_le, min}
+use Prim.Native.Nat.{ℕ, zero, suc, ◌+◌, ◌*◌, ◌%◌, ◌/◌, ◌^◌, ◌<◌, zero-le, min}
 use mathlib.Core.Path.{◌≡◌, refl, sym, ap, ◌∙◌}
 use mathlib.Core.Logic.{⊎_elim}
 use mathlib.Core.Bool.{Bool, true, false, not, ◌&&◌, ◌||◌}
 use mathlib.Core.List.{List, [], ◌∷◌}
-use native.Mathlib.Nat.{eq_zero_or_pos, lt_of_le_of_lt}
+use native.Mathlib.Nat.{eq-zero-or-pos, lt_of_le_of_lt}
 use native.Mathlib.Omega.{arith}
 use lib.Bits.{bit_and, and_shr, and_step, and_le_l}
 use lib.Count.{count_trailing_zeros}
-use borrow.Author.Tests.{eq_eqb, ne_eqb}
+use borrow.Author.Tests.{eq-eqb, ne_eqb}
 use Rattle.rules.specs.Lists.{if◌then◌else◌, ◌==◌, any, keep, from_on}
 use Rattle.rules.specs.Numbers.{devices, pending_bits}
 use Rattle.rules.specs.Words.{Picked}
@@ -23,7 +23,7 @@ digit x zero zero h k = ne_eqb ((x * 2 + 0) % 2) 1 (λ e. omega (arith, e))
 digit x zero (suc zero) h k = ne_eqb ((x * 2 + 0) % 2) 1 (λ e. omega (arith, e))
 digit x zero (suc (suc b)) h k = absurd (omega arith)
 digit x (suc zero) zero h k = ne_eqb ((x * 2 + 0) % 2) 1 (λ e. omega (arith, e))
-digit x (suc zero) (suc zero) h k = eq_eqb ((x * 2 + 1) % 2) 1 (omega arith)
+digit x (suc zero) (suc zero) h k = eq-eqb ((x * 2 + 1) % 2) 1 (omega arith)
 digit x (suc zero) (suc (suc b)) h k = absurd (omega arith)
 digit x (suc (suc a)) b h k = absurd (omega arith)
 
@@ -74,7 +74,7 @@ module _ (w : ℕ) (h : w < 2 ^ devices) where
 
   -- A device that is pending is in no mask that leaves nothing of the word.
   not_in : (d m : ℕ) → pending w d ≡ true → bit_and w m ≡ zero → pending m d ≡ false
-  not_in d m t e = go (pending m d) (sym (masked w m d) ∙ ap (λ (x : ℕ). pending x d) e ∙ no_bit 0 0 d (omega arith) zero_le)
+  not_in d m t e = go (pending m d) (sym (masked w m d) ∙ ap (λ (x : ℕ). pending x d) e ∙ no_bit 0 0 d (omega arith) zero-le)
     where
       go : (b : Bool) → (b && pending w d) ≡ false → b ≡ false
       go true f = absurd (clash t f)
@@ -82,7 +82,7 @@ module _ (w : ℕ) (h : w < 2 ^ devices) where
 
   -- A word that is not zero has a device in one of three masks that leave none out: in the third, if not in the other two.
   third : (l t r : ℕ) → Whole l t r → zero < w → bit_and w l ≡ zero → bit_and w t ≡ zero → zero < bit_and w r
-  third l t r whole p e f = ⊎_elim (λ g. absurd (clash (out g) whole)) (λ q. q) (eq_zero_or_pos (bit_and w r))
+  third l t r whole p e f = ⊎_elim (λ g. absurd (clash (out g) whole)) (λ q. q) (eq-zero-or-pos (bit_and w r))
     where
       d : ℕ
       d = count_trailing_zeros pending_bits w
@@ -92,7 +92,7 @@ module _ (w : ℕ) (h : w < 2 ^ devices) where
 
       out : bit_and w r ≡ zero → any (λ x. not (pending l x || (pending t x || pending r x))) rising ≡ true
       out g =
-          any_at (λ x. not (pending l x || (pending t x || pending r x))) 0 devices d zero_le (lowest_lt devices w d h L)
+          any_at (λ x. not (pending l x || (pending t x || pending r x))) 0 devices d zero-le (lowest_lt devices w d h L)
           (rw (not_in d l L.set e, not_in d t L.set f, not_in d r L.set g))
 
   -- Where one of 0 to 31 is pending, the trailing zeros of those are the device;

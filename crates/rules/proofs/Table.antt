@@ -5,7 +5,7 @@ use mathlib.Core.Bool.{Bool, true, false, ◌&&◌}
 use mathlib.Core.List.{List, [], ◌∷◌}
 use native.Mathlib.Omega.{arith}
 use lib.Dec.{T}
-use lib.ListN.{length, get_or, replicate, get_or_replicate, length_replicate}
+use lib.ListN.{length, get_or, replicate, get_or-replicate, length-replicate}
 
 pub both : (a b : Bool) → T (a && b) → T a × T b
 both true b t = (tt, t)
@@ -27,5 +27,5 @@ module _ {A : Type 0} (same : A → A → Bool) (sound : (a b : A) → T (same a
   pub throughout : (first many : ℕ) (a : A) → T (says same rule first (replicate many a)) → (n : ℕ) → first ≤ n → n < first + many →
       a ≡ rule n
   throughout first many a t n l h =
-      sym (get_or_replicate many (n - first) a a (omega arith))
-      ∙ at first (replicate many a) a (n - first) t (simp length_replicate (omega arith)) ∙ ap rule (omega arith)
+      sym (get_or-replicate many (n - first) a a (omega arith))
+      ∙ at first (replicate many a) a (n - first) t (simp length-replicate (omega arith)) ∙ ap rule (omega arith)

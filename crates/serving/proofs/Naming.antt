@@ -7,7 +7,7 @@ use mathlib.Core.List.{List, [], ◌∷◌}
 use native.Mathlib.Omega.{arith}
 use lib.Dec.{ltb}
 use lib.ListN.{length, drop, get_or}
-use borrow.Author.Tests.{ne_eqb, ltb_true}
+use borrow.Author.Tests.{ne_eqb, ltb-true}
 use Rattle.rules.specs.Lists.{if◌then◌else◌}
 use Rattle.rules.specs.Numbers.{names}
 use Rattle.rules.specs.Requests.{free_name, next_name}
@@ -34,7 +34,7 @@ module _ (c : ℕ) where
           walked c (drop (if not b then 0 else suc (place not_below ts)) (t ∷ ts)) ≡ walked c (t ∷ ts)
       go false e later = refl
       go true e later = later ∙ ap (λ (b : Bool). walked (if b then (c + 1) % names else c) ts)
-          (sym (ne_eqb c t.name (λ f. omega (arith, ltb_true t.name c e))))
+          (sym (ne_eqb c t.name (λ f. omega (arith, ltb-true t.name c e))))
 
 -- ---- place by place
 

@@ -5,11 +5,11 @@ use mathlib.Core.Logic.{◌≢◌}
 use mathlib.Core.Bool.{Bool, true, false, ◌&&◌, false≢true}
 use mathlib.Core.List.{List, [], ◌∷◌}
 use native.Mathlib.Omega.{arith}
-use lib.ListN.{length, take, drop, get_or, length_drop}
-use lib.Seq.{take_all, take_add, drop_drop, get_or_drop, drop_cons, drop_length}
+use lib.ListN.{length, take, drop, get_or, length-drop}
+use lib.Seq.{take_all, take-add, drop-drop, get_or-drop, drop-cons, drop-length}
 use mir.Syntax.{w8}
 use mir.Val.{Fits}
-use borrow.Author.Tests.{eqb_true, eq_eqb, ne_eqb, lt_ltb}
+use borrow.Author.Tests.{eqb-true, eq-eqb, ne_eqb, lt-ltb}
 use Rattle.rules.specs.Lists.{if◌then◌else◌, ◌==◌, all, is_byte, number_from, number}
 use Rattle.rules.specs.Numbers.{wrap}
 use Rattle.rules.specs.Tags.{facts_in, tag_facts, rule_in, argument_rule, meets}
@@ -24,16 +24,16 @@ use Rattle.laws.proofs.Bytes.{first_four}
 all_bytes : (l : List ℕ) → ((i : ℕ) → Fits w8 (get_or l i 0)) → all is_byte l ≡ true
 unfolding all
 all_bytes [] h = refl
-all_bytes (b ∷ bs) h = lt_ltb b 256 (h 0).fits & all_bytes bs (λ i. h (suc i))
+all_bytes (b ∷ bs) h = lt-ltb b 256 (h 0).fits & all_bytes bs (λ i. h (suc i))
 
 -- eight bytes, four by four
 pub eight_at : (l : List ℕ) (at : ℕ) → at + 8 ≤ length l →
     number (take 4 (drop at l)) * wrap + number (take 4 (drop (at + 4) l)) ≡ number (take 8 (drop at l))
 unfolding number_from
 eight_at l at h =
-    let m : 4 ≤ length (drop at l) = simp length_drop (omega arith) in
-    let n : 4 ≤ length (drop 4 (drop at l)) = simp length_drop (omega arith) in
-    rw (← drop_drop 4 at l, take_add 4 4 (drop at l), first_four (drop at l), first_four (drop 4 (drop at l))) (omega arith)
+    let m : 4 ≤ length (drop at l) = simp length-drop (omega arith) in
+    let n : 4 ≤ length (drop 4 (drop at l)) = simp length-drop (omega arith) in
+    rw (← drop-drop 4 at l, take-add 4 4 (drop at l), first_four (drop at l), first_four (drop 4 (drop at l))) (omega arith)
 
 -- ---- what a field with a known tag means
 
@@ -47,7 +47,7 @@ last_tag tag k a b c d e =
     facts t = if t then record { known = true; length = 12; runner = false } else record { known = false; length = 0; runner = false }
 
     go : (t : Bool) → (tag == 21) ≡ t → (facts t).known ≡ true → tag ≡ 21
-    go true t h = eqb_true tag 21 t
+    go true t h = eqb-true tag 21 t
     go false t h = absurd (false≢true h)
 
 -- none of the services before the last
@@ -66,7 +66,7 @@ last_service s a m n1 n2 n3 n4 n5 n6 n7 n8 =
     ) at m)
   where
     go : (b : Bool) → (s == 9) ≡ b → meets (if b then ADevice else NoService) a ≡ true → s ≡ 9
-    go true t h = eqb_true s 9 t
+    go true t h = eqb-true s 9 t
     go false t h = absurd (false≢true h)
 
 module _ (tag : ℕ) (l : List ℕ) (sized : length l ≡ (tag_facts tag).length + 3) where
@@ -74,15 +74,15 @@ module _ (tag : ℕ) (l : List ℕ) (sized : length l ≡ (tag_facts tag).length
   size n e = rw e at sized
 
   last_four : (at : ℕ) → length l ≡ at + 4 → number (drop at l) ≡ number (take 4 (drop at l))
-  last_four at h = let m : length (drop at l) ≤ 4 = simp length_drop (omega arith) in rw (take_all 4 (drop at l))
+  last_four at h = let m : length (drop at l) ≤ 4 = simp length-drop (omega arith) in rw (take_all 4 (drop at l))
 
   pub means_send : tag ≡ 16 → meaning tag (drop 3 l) ≡ ByRunner (Send (get_or l 3 0) (number (take 4 (drop 4 l))))
   unfolding meaning tag_facts facts_in
-  means_send e = rw (e, get_or_drop, drop_drop, last_four 4 (size 16 e))
+  means_send e = rw (e, get_or-drop, drop-drop, last_four 4 (size 16 e))
 
   pub means_receive : tag ≡ 17 → meaning tag (drop 3 l) ≡ ByRunner (Receive (wanted (get_or l 3 0)))
   unfolding meaning
-  means_receive e = simp (e, get_or_drop)
+  means_receive e = simp (e, get_or-drop)
 
   pub means_request : tag ≡ 18 →
       meaning tag (drop 3 l) ≡ (if meets (argument_rule (get_or l 3 0)) (get_or l 4 0) then request (get_or l 3 0) (get_or l 4 0) else Malformed)
@@ -90,13 +90,13 @@ module _ (tag : ℕ) (l : List ℕ) (sized : length l ≡ (tag_facts tag).length
   means_request e =
       let s : length l ≡ 5 = size 18 e in
       let m : 4 < length l = omega arith in
-      let d : drop 5 l ≡ [] = rw s at (drop_length l) in
-      let n : number (drop 4 l) ≡ get_or l 4 0 = rw (drop_cons l 4 0, d) (omega arith) in
-      rw (e, get_or_drop, drop_drop, n)
+      let d : drop 5 l ≡ [] = rw s at (drop-length l) in
+      let n : number (drop 4 l) ≡ get_or l 4 0 = rw (drop-cons l 4 0, d) (omega arith) in
+      rw (e, get_or-drop, drop-drop, n)
 
   pub means_trap : tag ≡ 19 → meaning tag (drop 3 l) ≡ trap_of (get_or l 3 0) (number (take 4 (drop 4 l)))
   unfolding meaning tag_facts facts_in
-  means_trap e = rw (e, get_or_drop, drop_drop, last_four 4 (size 19 e))
+  means_trap e = rw (e, get_or-drop, drop-drop, last_four 4 (size 19 e))
 
   pub means_tick : tag ≡ 20 → meaning tag (drop 3 l) ≡ Tick
   unfolding meaning
@@ -104,7 +104,7 @@ module _ (tag : ℕ) (l : List ℕ) (sized : length l ≡ (tag_facts tag).length
 
   pub means_interrupt : tag ≡ 21 → meaning tag (drop 3 l) ≡ interrupt_of (pick (number (take 8 (drop 3 l)))) (number (take 4 (drop 11 l)))
   unfolding meaning tag_facts facts_in
-  means_interrupt e = rw (e, drop_drop, last_four 11 (size 21 e))
+  means_interrupt e = rw (e, drop-drop, last_four 11 (size 21 e))
 
 -- ---- which bytes are a field
 
@@ -158,10 +158,10 @@ module _ {l : List ℕ} {f : TagFacts} {n : ℕ} (h : Head l f n) where
 
   pub wrong_size : n ≡ f.length → length l ≢ n + 3 → decode l ≡ Malformed
   wrong_size r s =
-      let m : length (drop 3 l) ≢ n = λ e. s (omega (arith, length_drop 3 l)) in
-      told ∙ rw (eq_eqb n f.length r, ne_eqb (length (drop 3 l)) n m)
+      let m : length (drop 3 l) ≢ n = λ e. s (omega (arith, length-drop 3 l)) in
+      told ∙ rw (eq-eqb n f.length r, ne_eqb (length (drop 3 l)) n m)
 
   pub whole : n ≡ f.length → length l ≡ n + 3 → decode l ≡ meaning (get_or l 0 0) (drop 3 l)
   whole r s =
-      let m : length (drop 3 l) ≡ n = simp length_drop (omega arith) in
-      told ∙ rw (eq_eqb n f.length r, eq_eqb (length (drop 3 l)) n m)
+      let m : length (drop 3 l) ≡ n = simp length-drop (omega arith) in
+      told ∙ rw (eq-eqb n f.length r, eq-eqb (length (drop 3 l)) n m)

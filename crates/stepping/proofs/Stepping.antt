@@ -7,7 +7,7 @@ use mathlib.Core.List.{List, [], ◌∷◌}
 use native.Mathlib.Omega.{arith}
 use lib.Dec.{ltb}
 use lib.ListN.{length}
-use borrow.Author.Tests.{leb_false}
+use borrow.Author.Tests.{leb-false}
 use Rattle.rules.specs.Lists.{any, insert}
 use Rattle.rules.specs.Numbers.{Limits, devices, full_slice}
 use Rattle.rules.specs.Tables.{Tables, with_runner, with_threads, live, new_thread, runs, me, start}
@@ -60,10 +60,10 @@ module _ {L : Limits} {T : Tables} (R : Ruled L T) (n : ℕ) (c : Call) (f : fir
   unfolding call_rules
   message_room to w e d a =
       let free = (passed _ 4 _ (passed _ 8 _ (passed _ 3 _ (rw e at f)).1).1).0 in
-      omega (arith, leb_false L.blocks (blocks_used T) (rw (d, a) at free), messages_room L T R.fits, R.inv.few)
+      omega (arith, leb-false L.blocks (blocks_used T) (rw (d, a) at free), messages_room L T R.fits, R.inv.few)
 
   free_thread : no_thread_free L T ≡ false → length T.threads < L.threads
-  free_thread e = leb_false _ _ e
+  free_thread e = leb-false _ _ e
 
   pub brother_room : c ≡ CreateBrother → length T.threads < L.threads
   unfolding call_rules

@@ -1,6 +1,6 @@
 -- Messages: the blocks they use, one that joins its inbox, and one that is taken out.
 use Rattle.std.proofs.Common.{◌≡◌, ℕ, ◌+◌, ◌<◌, ◌≤◌, Bool, false, not, leb, List, ◌∷◌, ◌++◌, get_or, take, drop, sym, refl, ap, ◌∙◌, arith}
-use borrow.Author.Tests.{lt_leb}
+use borrow.Author.Tests.{lt-leb}
 use Rattle.rules.specs.Lists.{Pulled, missing, pulled, insert, pull}
 use Rattle.rules.specs.Tables.{with_messages}
 use Rattle.rules.specs.Waking.{is_ordinary, blocks_used, queue}
@@ -19,7 +19,7 @@ use Rattle.store.proofs.Searched.{messages_length}
 -- with fewer messages than blocks one is free
 pub block_free : (m : List ℕ) → Shaped m → (rows_of m).letters < (rows_of m).limits.blocks → false ≡ no_block_free (limits m) (tables m)
 unfolding limits
-block_free m s h = sym (lt_leb (rows_of m).limits.blocks (blocks_used (tables m))
+block_free m s h = sym (lt-leb (rows_of m).limits.blocks (blocks_used (tables m))
     (omega (arith, messages_length m s, count_length (λ x. is_ordinary x.kind) (tables m).messages)))
 
 module _ (m : List ℕ) (H : Holding m) where

@@ -1,6 +1,6 @@
 -- What the store's users know of a memory that is Shaped, and of a search by name.
 use Rattle.std.proofs.Common.{◌≡◌, ℕ, ◌<◌, ◌≤◌, Bool, true, false, not, ◌||◌, ltb, ◌≢◌, List, [], ◌∷◌, length, get_or, sym, refl, ◌∙◌, arith, ltb-false, eq-eqb, ne_eqb}
-use borrow.Author.Tests.{not_true, not_false}
+use borrow.Author.Tests.{not-true, not-false}
 use Rattle.rules.specs.Lists.{if◌then◌else◌, ◌==◌, any}
 use Rattle.rules.specs.Numbers.{names, nobody}
 use Rattle.rules.specs.Tables.{named}
@@ -17,7 +17,7 @@ names_left m s = s.roomy.low
 -- who stands at the place of a name has no lower one
 pub not_lower : (name : ℕ) (ts : List Thread) (d : Thread) → place (λ t. not (ltb t.name name)) ts < length ts →
     name ≤ (get_or ts (place (λ t. not (ltb t.name name)) ts) d).name
-not_lower name ts d h = ltb-false _ name (not_true _ (passes_at (λ t. not (ltb t.name name)) d ts h))
+not_lower name ts d h = ltb-false _ name (not-true _ (passes_at (λ t. not (ltb t.name name)) d ts h))
 
 -- names are below 254, so that 255 says that nobody passes
 pub nobody_passes : (p : Thread → Bool) (ts : List Thread) → ((n : ℕ) → any (named n) ts ≡ true → n < names) →
@@ -36,7 +36,7 @@ nobody_passes p (t ∷ ts) low = go (nobody_passes p ts (λ n h. low n (or_right
 module _ (p : Thread → Bool) (ts : List Thread) (low : (n : ℕ) → any (named n) ts ≡ true → n < names) (n : ℕ) (e : n ≡ name_where p ts)
   where
     pub nobody_found : n ≡ nobody → any p ts ≡ false
-    nobody_found z = not_true (any p ts) (sym (nobody_passes p ts low) ∙ eq-eqb _ _ (sym e ∙ z))
+    nobody_found z = not-true (any p ts) (sym (nobody_passes p ts low) ∙ eq-eqb _ _ (sym e ∙ z))
 
     pub somebody_found : n ≢ nobody → any p ts ≡ true
-    somebody_found z = not_false (any p ts) (sym (nobody_passes p ts low) ∙ ne_eqb _ _ (λ i. z (e ∙ i)))
+    somebody_found z = not-false (any p ts) (sym (nobody_passes p ts low) ∙ ne_eqb _ _ (λ i. z (e ∙ i)))

@@ -1,6 +1,6 @@
 -- What a memory stands for after a row of it was written.
 use Rattle.std.proofs.Common.{◌≡◌, ℕ, ◌≤◌, Bool, true, false, ltb, List, [], map, take, sym, refl, ap, ◌∙◌, arith}
-use borrow.Author.Tests.{eqb_false}
+use borrow.Author.Tests.{eqb-false}
 use Rattle.rules.specs.Lists.{if◌then◌else◌, any, keep, count, insert}
 use Rattle.rules.specs.Tables.{Tables, with_last, with_runner, with_time, with_threads, with_ready, with_clock, with_messages, with_held}
 use Rattle.rules.specs.Tables.{named}
@@ -147,5 +147,5 @@ module _ (ts : List Thread) (r : Rising ts) where
   pub rising_insert : (t : Thread) → any (named t.name) ts ≡ false → Rising (insert (λ u. ltb u.name t.name) t ts)
   rising_insert t e =
       up_insert (λ u. u.name) t ts
-      (λ u m h. eqb_false t.name u.name (not_any (named t.name) ts u e m) (sym h))
+      (λ u m h. eqb-false t.name u.name (not_any (named t.name) ts u e m) (sym h))
       r

@@ -3,13 +3,13 @@
 use Prim.Native.Nat.{ℕ, suc, ◌+◌, ◌*◌, ◌≤◌, ◌<◌}
 use mathlib.Core.Path.{◌≡◌, refl, sym, ap, ◌∙◌}
 use mathlib.Core.Bool.{Bool, true, false, ◌&&◌, not, false≢true}
-use mathlib.Core.List.{List, [], ◌∷◌, ◌++◌, append_nil}
+use mathlib.Core.List.{List, [], ◌∷◌, ◌++◌, append-nil}
 use mathlib.Core.Logic.{⊎_elim}
 use native.Mathlib.Omega.{arith}
 use lib.Dec.{eqb}
-use lib.ListN.{length, take, drop, get_or, length_append, drop_of_length_le}
-use lib.Seq.{length_take_le}
-use borrow.Author.Tests.{ltb_true, leb_false, eqb_true, not_true}
+use lib.ListN.{length, take, drop, get_or, length-append, drop_of_length-le}
+use lib.Seq.{length-take-le}
+use borrow.Author.Tests.{ltb-true, leb-false, eqb-true, not-true}
 use Rattle.rules.specs.Tables.{Tables}
 use Rattle.rules.specs.Dispatch.{status}
 use Rattle.rules.specs.declared.Decision.{Decision}
@@ -35,16 +35,16 @@ module _ {m : List ℕ} {k : ℕ} {w : List ℕ} {ended : Bool} {before after : 
   by_stop : (P : Type 0) → (drop t.used w ≡ [] → P) → (length before < t.filled + 160 → P)
       → ((not ended && not (whole (drop t.used w))) ≡ true → P) → P
   by_stop P served full cut =
-      ⊎_elim (λ x. ⊎_elim (λ a. served (all a)) (λ f. full (ltb_true _ _ f)) (or_cases _ _ x)) cut (or_cases _ _ p.stops)
+      ⊎_elim (λ x. ⊎_elim (λ a. served (all a)) (λ f. full (ltb-true _ _ f)) (or_cases _ _ x)) cut (or_cases _ _ p.stops)
     where
       all : eqb t.used (length w) ≡ true → drop t.used w ≡ []
-      all a = drop_of_length_le w {i = t.used} (omega (arith, eqb_true t.used (length w) a))
+      all a = drop_of_length-le w {i = t.used} (omega (arith, eqb-true t.used (length w) a))
 
 -- a turn that had room for a line, and put none, is at a field that is not all there
 pub stops_cut : {m : List ℕ} {k : ℕ} {w before after : List ℕ} {t : Turned} {m' : List ℕ} → Turns m k w false before after t m'
     → 160 ≤ length before → t.filled ≡ 0 → whole (drop t.used w) ≡ false
 stops_cut {w = w} {t = t} p room e =
-    by_stop p (whole (drop t.used w) ≡ false) none_whole (λ f. absurd (omega arith)) (not_true (whole (drop t.used w)))
+    by_stop p (whole (drop t.used w) ≡ false) none_whole (λ f. absurd (omega arith)) (not-true (whole (drop t.used w)))
 
 -- a field that is not all there takes all the bytes
 cut_size : (w : List ℕ) → whole w ≡ false → field_size w ≡ length w
@@ -52,7 +52,7 @@ unfolding field_size whole
 cut_size [] c = refl
 cut_size (a ∷ []) c = refl
 cut_size (a ∷ b ∷ []) c = refl
-cut_size (a ∷ b ∷ d ∷ l) c = omega (arith, leb_false (b * 256 + d) (length l) c)
+cut_size (a ∷ b ∷ d ∷ l) c = omega (arith, leb-false (b * 256 + d) (length l) c)
 
 -- and is no longer than 65,537 bytes
 pub cut_few : (w : List ℕ) → whole w ≡ false → ((i : ℕ) → i < length w → get_or w i 0 < 256) → length w ≤ 65537
@@ -60,7 +60,7 @@ unfolding whole
 cut_few [] c b = omega arith
 cut_few (a ∷ []) c b = omega arith
 cut_few (a ∷ h ∷ []) c b = omega arith
-cut_few (a ∷ h ∷ d ∷ l) c b = omega (arith, leb_false (h * 256 + d) (length l) c, b 1 (omega arith), b 2 (omega arith))
+cut_few (a ∷ h ∷ d ∷ l) c b = omega (arith, leb-false (h * 256 + d) (length l) c, b 1 (omega arith), b 2 (omega arith))
 
 last_few : (s : Status) → length (last_line s) ≤ 14
 unfolding last_line
@@ -78,13 +78,13 @@ prints_few k T [] c = omega (arith, ap length (prints_none k T), last_few (statu
 prints_few k T (b ∷ l) c =
     let w = b ∷ l in
     let s = first_step T w in
-    let all : past_first w ≡ [] = drop_of_length_le w {i = field_size w} (omega (arith, cut_size w c)) in
+    let all : past_first w ≡ [] = drop_of_length-le w {i = field_size w} (omega (arith, cut_size w c)) in
     let rest : prints (suc k) s.tables (past_first w) ≡ last_line (status s.tables) =
     ap (λ (x : List ℕ). prints (suc k) s.tables x) all ∙ prints_none (suc k) s.tables in
     omega (
       arith,
       ap length (prints_first k T w (omega arith)),
-      length_append (line k s.decision) (prints (suc k) s.tables (past_first w)),
+      length-append (line k s.decision) (prints (suc k) s.tables (past_first w)),
       line_short k s.decision,
       ap length rest,
       last_few (status s.tables),
@@ -102,7 +102,7 @@ last_served {m} {k} {w} {before} {after} {t} {m'} p c room same =
         omega (
           arith,
           prints_few k (tables m) w c,
-          ap length (ap (λ (l : List ℕ). prints k (tables m) l) (sym (append_nil w)) ∙ says),
-          length_append (take t.filled after) (prints t.line (tables m') (drop t.used w ++ [])),
-          length_take_le t.filled after (omega (arith, p.filled, same)),
+          ap length (ap (λ (l : List ℕ). prints k (tables m) l) (sym (append-nil w)) ∙ says),
+          length-append (take t.filled after) (prints t.line (tables m') (drop t.used w ++ [])),
+          length-take-le t.filled after (omega (arith, p.filled, same)),
         )

@@ -4,11 +4,11 @@ use Prim.Native.Nat.{ℕ, zero, suc, ◌+◌, ◌-◌, ◌≤◌, ◌<◌, min}
 use mathlib.Core.Path.{◌≡◌, refl, sym, ap, ◌∙◌, subst}
 use mathlib.Core.Bool.{Bool, false}
 use mathlib.Core.List.{List}
-use native.Mathlib.Nat.{min_le_right}
+use native.Mathlib.Nat.{min-le_right}
 use native.Mathlib.Omega.{arith}
 use lib.IntN.{ℤ, pos, negsuc}
-use lib.ListN.{length, take, drop, length_drop}
-use lib.Seq.{length_take_le}
+use lib.ListN.{length, take, drop, length-drop}
+use lib.Seq.{length-take-le}
 use Rattle.io.specs.Counts.{clamp_len}
 use Rattle.printing.specs.Input.{waiting, Refilled}
 use Rattle.printing.specs.declared.Span.{Span}
@@ -32,7 +32,7 @@ module _ {m : List ℕ} {r : Run} {last : Bool} {input before after m' : List �
     (p : Right m r (length input) (length before)) (s : Serves m r last input before after m' v) where
   -- so many bytes wait
   waits : length (waiting (window r) input) ≡ r.held - r.at
-  waits = length_take_le (r.held - r.at) (drop r.at input) (omega (arith, length_drop r.at input, p.within))
+  waits = length-take-le (r.held - r.at) (drop r.at input) (omega (arith, length-drop r.at input, p.within))
 
   pub serves_right : Right m' v (length input) (length before)
   serves_right =
@@ -48,7 +48,7 @@ module _ {m : List ℕ} {r : Run} {last : Bool} {input before after m' : List �
 -- ---- a read
 
 clamped_low : (z : ℤ) (n : ℕ) → clamp_len z n ≤ n
-clamped_low (pos k) n = min_le_right k n
+clamped_low (pos k) n = min-le_right k n
 clamped_low (negsuc k) n = omega arith
 
 module _ {w v : Span} {before after : List ℕ} (f : Refilled w before v after) where

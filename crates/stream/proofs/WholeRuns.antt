@@ -4,11 +4,11 @@
 use Prim.Native.Nat.{ℕ, zero, suc, ◌+◌, ◌-◌, ◌≤◌, ◌<◌}
 use mathlib.Core.Path.{◌≡◌, refl, sym, ap, ap₂, ◌∙◌}
 use mathlib.Core.Bool.{true, false, false≢true}
-use mathlib.Core.List.{List, [], ◌∷◌, ◌++◌, append_assoc, append_nil}
+use mathlib.Core.List.{List, [], ◌∷◌, ◌++◌, append_assoc, append-nil}
 use native.Mathlib.Omega.{arith}
 use lib.IntN.{ℤ, pos, negsuc}
-use lib.ListN.{length, take, drop, get_or, length_drop}
-use lib.Seq.{take_nil, drop_drop, take_add, length_take_le, get_or_take, get_or_drop}
+use lib.ListN.{length, take, drop, get_or, length-drop}
+use lib.Seq.{take-nil, drop-drop, take-add, length-take-le, get_or-take, get_or-drop}
 use Rattle.rules.specs.Numbers.{small}
 use Rattle.rules.specs.Tables.{Tables, start}
 use Rattle.rules.specs.Dispatch.{status}
@@ -34,14 +34,14 @@ use Rattle.stream.proofs.Lasting.{stops_cut, cut_few, last_served}
 drop_take : (n k : ℕ) (l : List ℕ) → drop n (take k l) ≡ take (k - n) (drop n l)
 drop_take zero k l = let e : k ≡ k - 0 = omega arith in ap (λ (j : ℕ). take j l) e
 drop_take (suc n) zero l = let e : 0 ≡ 0 - suc n = omega arith in ap (λ (j : ℕ). take j (drop (suc n) l)) e
-drop_take (suc n) (suc k) [] = sym (take_nil (suc k - suc n))
+drop_take (suc n) (suc k) [] = sym (take-nil (suc k - suc n))
 drop_take (suc n) (suc k) (x ∷ l) = let e : k - n ≡ suc k - suc n = omega arith in drop_take n k l ∙ ap (λ (j : ℕ). take j (drop n l)) e
 
 turn_leaves : (r : Run) (t : Turned) (input : List ℕ) → drop t.used (waiting (window r) input) ≡ waiting (window (after_turn r t)) input
 turn_leaves r t input =
     let e : r.held - r.at - t.used ≡ r.held - (r.at + t.used) = omega arith in
     drop_take t.used (r.held - r.at) (drop r.at input)
-    ∙ ap₂ (λ (j : ℕ) (l : List ℕ). take j l) e (drop_drop t.used r.at input)
+    ∙ ap₂ (λ (j : ℕ) (l : List ℕ). take j l) e (drop-drop t.used r.at input)
 
 module _ {r : Run} {before after : List ℕ} {v : Run} (q : Reads r before after v) where
   at_front : v.at ≡ 0
@@ -55,7 +55,7 @@ module _ {r : Run} {before after : List ℕ} {v : Run} (q : Reads r before after
       let left = r.held - r.at in
       let e : v.held - v.at ≡ left + (v.held - left) = omega (arith, at_front, held) in
       ap₂ (λ (j i : ℕ). take j (drop i after)) e at_front
-      ∙ (take_add left (v.held - left) after ∙ ap (λ (l : List ℕ). l ++ behind r v after) q.refills.front)
+      ∙ (take-add left (v.held - left) after ∙ ap (λ (l : List ℕ). l ++ behind r v after) q.refills.front)
 
 -- a read that tells the end has put nothing there
 none_at_end : (got : ℤ) (room : ℕ) → is_end got ≡ true → clamp_len got room ≡ 0
@@ -71,7 +71,7 @@ module _ {r : Run} {before after : List ℕ} {v : Run} (q : Reads r before after
       sym (ap (λ (x : Run). x.ended) q.leaves ∙ ap (λ (s : Span). s.ended) q.refills.told) ∙ e in
       let none : v.held - left ≡ 0 = omega (arith, held q, none_at_end q.refills.got (length before - left) told) in
       read_adds q
-      ∙ (ap (λ (j : ℕ). waiting (window r) before ++ take j (drop left after)) none ∙ append_nil (waiting (window r) before))
+      ∙ (ap (λ (j : ℕ). waiting (window r) before ++ take j (drop left after)) none ∙ append-nil (waiting (window r) before))
 
 -- ---- a round
 
@@ -106,7 +106,7 @@ module _ {m : List ℕ} {r : Run} {input out m' input' out' : List ℕ} {v : Run
       go zero e = read_adds (ρ.reads e)
       go (suc n) e =
           let w = ρ.writes (omega (arith, e)) in
-          ap₂ (λ (x : Run) (l : List ℕ). waiting (window x) l) w.0 w.1 ∙ sym (append_nil _)
+          ap₂ (λ (x : Run) (l : List ℕ). waiting (window x) l) w.0 w.1 ∙ sym (append-nil _)
 
   module _ (coming : List ℕ) where
     joined : drop ρ.serves.turn.used (waiting (window r) input) ++ (piece ρ ++ coming) ≡ waiting (window v) input' ++ coming
@@ -155,8 +155,8 @@ module _ {m : List ℕ} {r : Run} {input out m' input' out' : List ℕ} {v : Run
 
       size : length w ≡ ρ.served.held - ρ.served.at
       size =
-          length_take_le (ρ.served.held - ρ.served.at) (drop ρ.served.at input)
-          (omega (arith, length_drop ρ.served.at input, (serves_right right ρ.serves).within))
+          length-take-le (ρ.served.held - ρ.served.at) (drop ρ.served.at input)
+          (omega (arith, length-drop ρ.served.at input, (serves_right right ρ.serves).within))
 
       cut : whole w ≡ false
       cut = ap whole (left_is ρ) ∙ stops_cut ρ.serves.turns room (sym (ap (λ (x : Run). x.filled) ρ.serves.leaves) ∙ e)
@@ -164,8 +164,8 @@ module _ {m : List ℕ} {r : Run} {input out m' input' out' : List ℕ} {v : Run
       below : (i : ℕ) → i < length w → get_or w i 0 < 256
       below i h =
           let same : get_or w i 0 ≡ get_or input (ρ.served.at + i) 0 =
-          get_or_take (ρ.served.held - ρ.served.at) (drop ρ.served.at input) i 0 (omega (arith, size))
-          ∙ get_or_drop ρ.served.at input i 0 in
+          get_or-take (ρ.served.held - ρ.served.at) (drop ρ.served.at input) i 0 (omega (arith, size))
+          ∙ get_or-drop ρ.served.at input i 0 in
           omega (arith, same, bytes (ρ.served.at + i))
 
 -- ---- the loop
@@ -177,7 +177,7 @@ Cut r input = r.ended ≡ true → whole (waiting (window r) input) ≡ false
 module _ {m : List ℕ} {r : Run} {input out m' out' : List ℕ} {v : Run} (s : Serves m r true input out out' m' v) (end : r.ended ≡ true)
     (cut : Cut r input) (room : 322 ≤ length out) (same : length out' ≡ length out) where
   all : drop s.turn.used (waiting (window r) input) ++ [] ≡ []
-  all = append_nil _ ∙ last_served s.turns (cut end) room same
+  all = append-nil _ ∙ last_served s.turns (cut end) room same
 
   last_prints : prints r.line (tables m) (waiting (window r) input ++ []) ≡ take v.filled out' ++ last_line (status (tables m'))
   last_prints =
@@ -189,7 +189,7 @@ module _ {m : List ℕ} {r : Run} {input out m' out' : List ℕ} {v : Run} (s : 
   last_runs : run small (tables m) (fields (waiting (window r) input ++ [])) ≡ tables m'
   unfolding fields_in
   last_runs =
-      ap (run small (tables m)) (s.turns.first [] (λ e. refl) ∙ (ap (λ (l : List ℕ). s.turns.served ++ fields l) all ∙ append_nil _))
+      ap (run small (tables m)) (s.turns.first [] (λ e. refl) ∙ (ap (λ (l : List ℕ). s.turns.served ++ fields l) all ∙ append-nil _))
       ∙ sym s.turns.leaves
 
 loop_prints : {m : List ℕ} {r : Run} {input coming written end : List ℕ} → Cut r input → Loop m r input coming written end

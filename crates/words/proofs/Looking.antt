@@ -5,7 +5,7 @@ use mathlib.Core.Bool.{Bool, true, false, not}
 use mathlib.Core.List.{List}
 use native.Mathlib.Omega.{arith}
 use lib.Dec.{ltb}
-use borrow.Author.Tests.{eqb_true, ne_eqb, lt_ltb}
+use borrow.Author.Tests.{eqb-true, ne_eqb, lt-ltb}
 use Rattle.rules.specs.Lists.{if◌then◌else◌, ◌==◌}
 use Rattle.rules.specs.Words.{by_manager}
 use Rattle.rules.specs.Tables.{manager}
@@ -24,12 +24,12 @@ module _ (f : State → Bool) (b : Bool) where
       (s ≡ 4 → f (Device (byte d)) ≡ b) → (s ≡ 5 → f (trapped_in d) ≡ b) → f (state_in s d) ≡ b
   unfolding state_in
   said s d wrong running ready receiving clock device trapped =
-      either (s == 0) _ _ (λ e. either (d == 0) _ _ (λ z. running (eqb_true s 0 e)) wrong)
-      (either (s == 1) _ _ (λ e. either (d == 0) _ _ (λ z. ready (eqb_true s 1 e)) wrong)
-      (either (s == 2) _ _ (λ e. receiving (eqb_true s 2 e))
-      (either (s == 3) _ _ (λ e. either (d == 0) _ _ (λ z. clock (eqb_true s 3 e)) wrong)
-      (either (s == 4) _ _ (λ e. device (eqb_true s 4 e))
-      (either (s == 5) _ _ (λ e. trapped (eqb_true s 5 e)) wrong)))))
+      either (s == 0) _ _ (λ e. either (d == 0) _ _ (λ z. running (eqb-true s 0 e)) wrong)
+      (either (s == 1) _ _ (λ e. either (d == 0) _ _ (λ z. ready (eqb-true s 1 e)) wrong)
+      (either (s == 2) _ _ (λ e. receiving (eqb-true s 2 e))
+      (either (s == 3) _ _ (λ e. either (d == 0) _ _ (λ z. clock (eqb-true s 3 e)) wrong)
+      (either (s == 4) _ _ (λ e. device (eqb-true s 4 e))
+      (either (s == 5) _ _ (λ e. trapped (eqb-true s 5 e)) wrong)))))
 
   -- each kind of trap, or the wrong state
   pub kinds : (d : ℕ) → f wrong_state ≡ b → f (Trapped Program) ≡ b → f (Trapped Tlb) ≡ b → f (Trapped SysBp) ≡ b → f (trapped_in d) ≡ b
@@ -68,7 +68,7 @@ no_trap (suc zero) = refl
 no_trap (suc (suc zero)) = refl
 no_trap (suc (suc (suc d))) =
     let k = suc (suc (suc d)) in
-    rw (lt_ltb 2 k (omega arith), ne_eqb k 0 (λ e. omega arith), ne_eqb k 1 (λ e. omega arith), ne_eqb k 2 (λ e. omega arith)) refl
+    rw (lt-ltb 2 k (omega arith), ne_eqb k 0 (λ e. omega arith), ne_eqb k 1 (λ e. omega arith), ne_eqb k 2 (λ e. omega arith)) refl
 
 pub others_wake : (s d : ℕ) → (s ≡ 0 → ⊥) → (s ≡ 1 → ⊥) → (s ≡ 2 → ⊥) → (s ≡ 5 → ⊥) → wakes_from_outside (state_in s d) ≡ true
 unfolding wakes_from_outside on_clock

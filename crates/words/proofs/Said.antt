@@ -3,10 +3,10 @@ use Prim.Native.Nat.{ℕ, ◌+◌, ◌-◌, ◌<◌}
 use mathlib.Core.Path.{◌≡◌, refl, sym, ap, ◌∙◌}
 use mathlib.Core.List.{List, [], ◌∷◌}
 use native.Mathlib.Omega.{arith}
-use lib.ListN.{length, set, drop_of_length_le}
+use lib.ListN.{length, set, drop_of_length-le}
 use Rattle.rules.specs.Tables.{in_state}
-use lib.Seq.{sets, sets_eq}
-use borrow.Author.Tests.{lt_ltb, le_ltb, ne_eqb}
+use lib.Seq.{sets, sets-eq}
+use borrow.Author.Tests.{lt-ltb, le-ltb, ne_eqb}
 use Rattle.laws.specs.Words.{Wanted, Only, State, Answer, Manager, Set, Parent, ParentIs, Thread, MessageKind, Ordinary, Notice, Message}
 use Rattle.laws.specs.Words.{Runner, Runs}
 use Rattle.words.specs.Saying.{word, byte, parent_in, manager_in, wanted_in, state_in, answer_in, sender_in, kind_in, thread_in}
@@ -16,7 +16,7 @@ use Rattle.words.specs.Saying.{message_in, runner_in}
 
 module _ (n : ℕ) (low : n < 256) where
   pub byte_same : byte n ≡ n
-  byte_same = rw (lt_ltb n 256 low)
+  byte_same = rw (lt-ltb n 256 low)
 
   pub parent_said : (p : Parent) → p ≡ ParentIs n → parent_in n ≡ p
   parent_said p e = rw (ne_eqb n 256 (λ k. omega arith), byte_same) (sym e)
@@ -28,15 +28,15 @@ module _ (n : ℕ) (low : n < 256) where
   manager_said m e = rw (ne_eqb n 256 (λ k. omega arith), ne_eqb n 257 (λ k. omega arith), byte_same) (sym e)
 
   pub ordinary_said : (k : MessageKind) → k ≡ Ordinary → (sender_in n ≡ n) × (kind_in n ≡ k)
-  ordinary_said k e = rw (lt_ltb n 256 low) (refl, sym e)
+  ordinary_said k e = rw (lt-ltb n 256 low) (refl, sym e)
 
   pub notice_said : (k : MessageKind) → k ≡ Notice → (sender_in (n + 256) ≡ n) × (kind_in (n + 256) ≡ k)
   notice_said k e = let back : n + 256 - 256 ≡ n = omega arith in
-      rw (le_ltb (n + 256) 256 (omega arith), back) (byte_same, sym e)
+      rw (le-ltb (n + 256) 256 (omega arith), back) (byte_same, sym e)
 
   pub runs_said : (s : ℕ) → s < 256 → (r : Runner) → r ≡ Runs n s → runner_in n s ≡ r
   unfolding runner_in
-  runs_said s short r e = rw (ne_eqb n 256 (λ k. omega arith), byte_same, lt_ltb s 256 short) (sym e)
+  runs_said s short r e = rw (ne_eqb n 256 (λ k. omega arith), byte_same, lt-ltb s 256 short) (sym e)
 
 -- ---- a record's words after its stores
 
@@ -44,7 +44,7 @@ pub message_said : (w : List ℕ) (m : Message) (k : ℕ) → length w ≡ 3 →
     message_in (sets w 0 (m.to ∷ k ∷ m.word ∷ [])) ≡ m
 unfolding message_in
 message_said w m k l to from kind =
-    ap message_in (sets_eq (m.to ∷ k ∷ m.word ∷ []) w 0 (omega arith))
+    ap message_in (sets-eq (m.to ∷ k ∷ m.word ∷ []) w 0 (omega arith))
     ∙ (λ i. record { to = byte_same m.to to i; from = from i; kind = kind i; word = m.word })
 
 pub thread_said : (w : List ℕ) (t : Thread) (p s d g₀ g₁ g₂ k n a : ℕ) → length w ≡ 11 → t.name < 256 → parent_in p ≡ t.parent →
@@ -54,7 +54,7 @@ pub thread_said : (w : List ℕ) (t : Thread) (p s d g₀ g₁ g₂ k n a : ℕ)
     thread_in (sets w 0 (t.name ∷ p ∷ s ∷ d ∷ g₀ ∷ g₁ ∷ g₂ ∷ t.ticks ∷ k ∷ n ∷ a ∷ [])) ≡ t
 unfolding thread_in
 thread_said w t p s d g₀ g₁ g₂ k n a l name parent state program tlb sysbp answer =
-    ap thread_in (sets_eq (t.name ∷ p ∷ s ∷ d ∷ g₀ ∷ g₁ ∷ g₂ ∷ t.ticks ∷ k ∷ n ∷ a ∷ []) w 0 (omega arith))
+    ap thread_in (sets-eq (t.name ∷ p ∷ s ∷ d ∷ g₀ ∷ g₁ ∷ g₂ ∷ t.ticks ∷ k ∷ n ∷ a ∷ []) w 0 (omega arith))
     ∙ (λ i. record {
       name = byte_same t.name name i;
       parent = parent i;
@@ -100,4 +100,4 @@ four_said (a ∷ b ∷ c ∷ d ∷ e ∷ w) l = absurd (omega arith)
 
 pub four_put : (w : List ℕ) (a b c d : ℕ) → length w ≡ 4 → sets w 0 (a ∷ b ∷ c ∷ d ∷ []) ≡ a ∷ b ∷ c ∷ d ∷ []
 four_put w a b c d l =
-    sets_eq (a ∷ b ∷ c ∷ d ∷ []) w 0 (omega arith) ∙ ap (λ (z : List ℕ). a ∷ b ∷ c ∷ d ∷ z) (drop_of_length_le w {i = 4} (omega arith))
+    sets-eq (a ∷ b ∷ c ∷ d ∷ []) w 0 (omega arith) ∙ ap (λ (z : List ℕ). a ∷ b ∷ c ∷ d ∷ z) (drop_of_length-le w {i = 4} (omega arith))

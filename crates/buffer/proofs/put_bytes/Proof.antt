@@ -2,10 +2,10 @@
 use Prim.Native.Nat.{ℕ, ◌+◌, ◌-◌, ◌≤◌}
 use mathlib.Core.Path.{◌≡◌, refl, sym, ap, ◌∙◌}
 use mathlib.Core.List.{List, [], ◌∷◌, ◌++◌}
-use native.Mathlib.Numerals.{add_one}
+use native.Mathlib.Numerals.{add-one}
 use native.Mathlib.Omega.{arith}
-use lib.ListN.{length, get_or, take, length_set}
-use lib.Seq.{take_suc, take_all}
+use lib.ListN.{length, get_or, take, length-set}
+use lib.Seq.{take-suc, take_all}
 use Rattle.buffer.specs.Puts.{Puts}
 use Rattle.buffer.proofs.Putting.{puts_none, one_more, said, counted}
 use Rattle.buffer.proofs.put_bytes.Statement.{statement}
@@ -39,9 +39,9 @@ loop-again c =
     let text : List ℕ = a.text.now in
     let i : ℕ = l.i in
     let more : take i text ++ (get_or text i 0 ∷ []) ≡ take (i + 1) text =
-    sym (take_suc text i 0 (omega arith)) ∙ ap (λ (j : ℕ). take j text) (sym (add_one i)) in (
+    sym (take-suc text i 0 (omega arith)) ∙ ap (λ (j : ℕ). take j text) (sym (add-one i)) in (
       omega arith,
-      simp length_set l.invariant.1,
+      simp length-set l.invariant.1,
       said (one_more l.invariant.2 (get_or text i 0) (omega arith)) more,
     )
 

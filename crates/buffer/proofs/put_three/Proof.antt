@@ -1,6 +1,6 @@
 -- `put_three` meets its contract: its bytes are written one by one.
 use native.Mathlib.Omega.{arith}
-use lib.ListN.{length_set}
+use lib.ListN.{length-set}
 use borrow.Author.Rules.{rules}
 use Rattle.buffer.proofs.Putting.{puts_three}
 use Rattle.buffer.proofs.put_three.Statement.{statement}
@@ -10,7 +10,7 @@ slice-write-out : tie.Need-slice-write-out
 slice-write-out c = search rules
 
 slice-write-out-2 : tie.Need-slice-write-out-2
-slice-write-out-2 c = simp length_set (omega arith)
+slice-write-out-2 c = simp length-set (omega arith)
 
 slice-write-out-3 : tie.Need-slice-write-out-3
 slice-write-out-3 c = search rules

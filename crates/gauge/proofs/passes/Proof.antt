@@ -3,7 +3,7 @@ use Prim.Native.Nat.{◌≤◌, ◌-◌}
 use mathlib.Core.Path.{◌≡◌, refl, ap, ◌∙◌}
 use mathlib.Core.Logic.{⊎_elim}
 use native.Mathlib.Omega.{arith}
-use lib.ListN.{length, length_set}
+use lib.ListN.{length, length-set}
 use borrow.Author.Rules.{rules}
 use Rattle.gauge.proofs.passes.Statement.{statement}
 use Rattle.gauge.proofs.passes.Tie as tie
@@ -35,7 +35,7 @@ loop-less c = omega arith
 loop-again : tie.Need-loop-preserved invariant-loop decreases-loop
 loop-again c =
     let l = c.before.before.before.before.before.loop in
-    let long = ⊎_elim (λ w. ap length w.1 ∙ (length_set l.m 6 l.i ∙ l.invariant.0)) (λ w. ap length w.1 ∙ l.invariant.0)
+    let long = ⊎_elim (λ w. ap length w.1 ∙ (length-set l.m 6 l.i ∙ l.invariant.0)) (λ w. ap length w.1 ∙ l.invariant.0)
     c.before.before.before.if1.branch in
     (long, ⊎_elim (λ w. omega arith) (λ w. omega arith) c.if2.branch, omega arith)
 

@@ -3,7 +3,7 @@ use Prim.Native.Nat.{◌≤◌}
 use mathlib.Core.Path.{◌≡◌, sym, ◌∙◌}
 use native.Mathlib.Omega.{arith}
 use lib.ListN.{length}
-use lib.Seq.{length_take_le}
+use lib.Seq.{length-take-le}
 use borrow.Author.Rules.{rules}
 use Rattle.buffer.proofs.Putting.{place_within}
 use Rattle.stream.proofs.Placed.{refilled_opens, refilled_within}
@@ -73,7 +73,7 @@ array-share-prefix-input c = omega (arith, c.before.before.before.loop.invariant
 
 slice-aggregate-load-in-2 : tie.Need-slice-aggregate-load-in-2 invariant-loop decreases-loop
 slice-aggregate-load-in-2 c = sym
-    (length_take_le c.before.before.before.before.loop.w.held c.before.before.before.before.loop.input
+    (length-take-le c.before.before.before.before.loop.w.held c.before.before.before.before.loop.input
     c.before.before.before.before.loop.invariant.2)
 
 load-in-requires : tie.Need-load-in-requires invariant-loop decreases-loop

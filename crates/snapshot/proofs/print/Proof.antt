@@ -1,12 +1,12 @@
 -- `print` meets its contract: the part that is written has n bytes.
 use mathlib.Core.Path.{sym}
-use lib.Seq.{length_take_le}
+use lib.Seq.{length-take-le}
 use borrow.Author.Rules.{rules}
 use Rattle.snapshot.proofs.print.Statement.{statement}
 use Rattle.snapshot.proofs.print.Tie as tie
 
 slice-aggregate-write-all : tie.Need-slice-aggregate-write-all
-slice-aggregate-write-all c = sym (length_take_le c.before.before.args.n c.before.before.args.out.now c.before.before.requires)
+slice-aggregate-write-all c = sym (length-take-le c.before.before.args.n c.before.before.args.out.now c.before.before.requires)
 
 write-all-requires : tie.Need-write-all-requires
 write-all-requires c κs = search rules

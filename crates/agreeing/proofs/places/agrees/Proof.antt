@@ -1,6 +1,6 @@
 -- `places::agrees` meets its contract: at each exit the code's tests are put in for the rule's.
 use borrow.Author.Rules.{rules}
-use borrow.Author.Tests.{eq_eqb, ne_eqb}
+use borrow.Author.Tests.{eq-eqb, ne_eqb}
 use Rattle.agreeing.proofs.places.agrees.Statement.{statement}
 use Rattle.agreeing.proofs.places.agrees.Tie as tie
 
@@ -37,7 +37,7 @@ returns-2 c = rw (
   ← c.before.before.before.before.before.before.one_if.ensures,
   ← c.before.before.before.before.before.is-runner.ensures,
   ← c.before.before.before.before.one-if2.ensures,
-  eq_eqb _ _ c.before.before.before.if1.false,
+  eq-eqb _ _ c.before.before.before.if1.false,
   ← c.before.before.is_ready.ensures,
   ← c.before.one-if3.ensures,
   ne_eqb _ _ c.if2.true,
@@ -55,10 +55,10 @@ returns-3 c = rw (
   ← c.before.before.before.before.before.before.before.before.one_if.ensures,
   ← c.before.before.before.before.before.before.before.is-runner.ensures,
   ← c.before.before.before.before.before.before.one-if2.ensures,
-  eq_eqb _ _ c.before.before.before.before.before.if1.false,
+  eq-eqb _ _ c.before.before.before.before.before.if1.false,
   ← c.before.before.before.before.is_ready.ensures,
   ← c.before.before.before.one-if3.ensures,
-  eq_eqb _ _ c.before.before.if2.false,
+  eq-eqb _ _ c.before.before.if2.false,
   ← c.before.on_clock.ensures,
   ← c.one-if4.ensures,
 )

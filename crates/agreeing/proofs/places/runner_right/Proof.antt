@@ -2,7 +2,7 @@
 use Prim.Native.Nat.{ℕ}
 use mathlib.Core.Path.{sym, ap, ◌∙◌}
 use borrow.Author.Rules.{rules}
-use borrow.Author.Tests.{le_leb, lt_leb}
+use borrow.Author.Tests.{le-leb, lt-leb}
 use Rattle.rules.specs.Lists.{◌==◌}
 use Rattle.memory.proofs.Sizes.{ready_count}
 use Rattle.store.specs.Store.{Shaped, tables}
@@ -24,7 +24,7 @@ enum-known-r c = search rules
 
 returns : tie.Need-returns
 unfolding tables
-returns c = rw (← c.before.before.before.before.runner.ensures, c.before.before.r.given.1, lt_leb _ _ c.if1.true)
+returns c = rw (← c.before.before.before.before.runner.ensures, c.before.before.r.given.1, lt-leb _ _ c.if1.true)
 
 returns-2 : tie.Need-returns-2
 unfolding tables Shaped
@@ -34,7 +34,7 @@ returns-2 c = rw (← c.before.before.before.runner.ensures, c.before.enum_told.
 
 returns-3 : tie.Need-returns-3
 unfolding tables
-returns-3 c = rw (← c.before.before.before.before.runner.ensures, c.before.before.r.given.1, le_leb _ _ c.if1.false)
+returns-3 c = rw (← c.before.before.before.before.runner.ensures, c.before.before.r.given.1, le-leb _ _ c.if1.false)
 
 pub runner-right-spec : {M : Type 1} → statement M
 runner-right-spec =

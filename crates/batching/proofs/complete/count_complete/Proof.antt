@@ -3,7 +3,7 @@
 use Prim.Native.Nat.{◌-◌}
 use mathlib.Core.Path.{sym, ◌∙◌}
 use lib.ListN.{length}
-use borrow.Author.Tests.{not_true, not_false}
+use borrow.Author.Tests.{not-true, not-false}
 use native.Mathlib.Omega.{arith}
 use Rattle.fields.proofs.Sizes.{Inside, inside}
 use Rattle.batching.proofs.FieldCount.{Counted, none_counted, one_more, all_counted, at_the_end}
@@ -30,7 +30,7 @@ cut-at-requires c κs = tt
 returns : tie.Need-returns invariant-loop decreases-loop
 returns c =
     let at_cut = c.before.before in
-    all_counted at_cut.before.before.loop.invariant (sym (found at_cut).all_there ∙ not_true _ c.if1.true)
+    all_counted at_cut.before.before.loop.invariant (sym (found at_cut).all_there ∙ not-true _ c.if1.true)
 
 add-count : tie.Need-overflow-add-count invariant-loop decreases-loop
 add-count c =
@@ -44,7 +44,7 @@ loop-again : tie.Need-loop-preserved invariant-loop decreases-loop
 loop-again c =
     let at_cut = c.before.before in
     let f = found at_cut in
-    one_more at_cut.before.before.loop.invariant (sym f.all_there ∙ not_false _ c.if1.false) f.ends
+    one_more at_cut.before.before.loop.invariant (sym f.all_there ∙ not-false _ c.if1.false) f.ends
 
 returns-2 : tie.Need-returns-2 invariant-loop decreases-loop
 returns-2 c = at_the_end c.before.loop.invariant c.loop-test.false

@@ -1,5 +1,5 @@
 -- `shown::sender_number` meets its contract, test by test.
-use borrow.Author.Tests.{eq_eqb, ne_eqb}
+use borrow.Author.Tests.{eq-eqb, ne_eqb}
 use borrow.Author.Rules.{rules}
 use Rattle.dumping.specs.Shown.{sender_number}
 use Rattle.dumping.proofs.shown.sender_number.Statement.{statement}
@@ -7,14 +7,14 @@ use Rattle.dumping.proofs.shown.sender_number.Tie as tie
 
 returns : tie.Need-returns
 unfolding sender_number
-returns c = rw (eq_eqb _ _ c.if1.true)
+returns c = rw (eq-eqb _ _ c.if1.true)
 
 byte-requires : tie.Need-byte-requires
 byte-requires c κs = search rules
 
 returns-2 : tie.Need-returns-2
 unfolding sender_number
-returns-2 c = rw (ne_eqb _ _ c.before.if1.false, eq_eqb _ _ c.if2.true)
+returns-2 c = rw (ne_eqb _ _ c.before.if1.false, eq-eqb _ _ c.if2.true)
 
 returns-3 : tie.Need-returns-3
 unfolding sender_number

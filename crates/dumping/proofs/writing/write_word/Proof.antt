@@ -3,7 +3,7 @@ use Prim.Native.Nat.{◌≤◌}
 use mathlib.Core.Path.{◌≡◌, refl, sym, ◌∙◌}
 use mathlib.Core.Bool.{true}
 use lib.ListN.{length}
-use borrow.Author.Tests.{not_true, not_false}
+use borrow.Author.Tests.{not-true, not-false}
 use Rattle.rules.specs.Lists.{any}
 use Rattle.rules.specs.Interrupt.{held_for}
 use Rattle.store.specs.Store.{tables}
@@ -17,7 +17,7 @@ use Rattle.dumping.proofs.writing.write_word.Tie as tie
 -- a word is held, so there is room for its field
 held-now : (w : tie.Else1) → any (held_for w.before.before.before.before.args.d)
     (tables w.before.before.before.before.args.m.now).held ≡ true
-held-now w = sym w.before.is_held.ensures ∙ not_false _ w.if1.false
+held-now w = sym w.before.is_held.ensures ∙ not-false _ w.if1.false
 
 fits_word : (w : tie.Else1) → 8 ≤ length w.before.before.before.before.args.out.now
 fits_word w = omega (
@@ -31,7 +31,7 @@ is-held-requires : tie.Need-is-held-requires
 is-held-requires c κs = (c.before.before.requires.0, c.before.before.requires.1)
 
 returns : tie.Need-returns
-returns c = no_word _ _ (sym c.before.is_held.ensures ∙ not_true _ c.if1.true) _
+returns c = no_word _ _ (sym c.before.is_held.ensures ∙ not-true _ c.if1.true) _
 
 held-word-requires : tie.Need-held-word-requires
 held-word-requires c κs = (c.before.before.before.before.requires.0, c.before.before.before.before.requires.1)

@@ -1,6 +1,6 @@
 -- `lengths::wrong_length` meets its contract: what the table says of the tag.
-use lib.ListN.{length_drop}
-use borrow.Author.Tests.{not_true, not_false}
+use lib.ListN.{length-drop}
+use borrow.Author.Tests.{not-true, not-false}
 use borrow.Author.Rules.{rules}
 use Rattle.rules.specs.Faults.{wrong_length as wrong_length_of}
 use Rattle.faults.proofs.lengths.wrong_length.Statement.{statement}
@@ -14,7 +14,7 @@ dump-facts-requires c κs = search rules
 
 returns : tie.Need-returns
 unfolding wrong_length_of
-returns c = rw (← c.before.before.dump_facts.ensures, not_true c.before.before.dump_facts.result.sized c.if1.true)
+returns c = rw (← c.before.before.dump_facts.ensures, not-true c.before.before.dump_facts.result.sized c.if1.true)
 
 sub-result : tie.Need-overflow-sub-result
 sub-result c = search rules
@@ -26,9 +26,9 @@ returns-2 : tie.Need-returns-2
 unfolding wrong_length_of
 returns-2 c = rw (
   ← c.before.before.before.dump_facts.ensures,
-  not_false c.before.before.before.dump_facts.result.sized
+  not-false c.before.before.before.dump_facts.result.sized
       c.before.if1.false,
-  length_drop 3 c.before.before.before.before.before.before.args.field.now,
+  length-drop 3 c.before.before.before.before.before.before.args.field.now,
   c.wide.ensures.0,
 )
 

@@ -1,7 +1,7 @@
 -- `names::all_live` meets its contract: those before i live.
 use Prim.Native.Nat.{◌-◌}
 use mathlib.Core.Path.{sym, ◌∙◌}
-use borrow.Author.Tests.{not_true, not_false}
+use borrow.Author.Tests.{not-true, not-false}
 use borrow.Author.Rules.{rules}
 use Rattle.faults.specs.Names.{lives_in}
 use Rattle.faults.proofs.Alls.{Passed, none_passed, one_more, one_fails, all_passed}
@@ -25,7 +25,7 @@ lives-requires c κs = search rules
 
 returns : tie.Need-returns invariant-loop decreases-loop
 returns c = one_fails _ _ _ c.before.before.before.before.loop.invariant c.before.before.before.loop-test.true
-    (sym c.before.lives.ensures ∙ not_true _ c.if1.true)
+    (sym c.before.lives.ensures ∙ not-true _ c.if1.true)
 
 add-i : tie.Need-overflow-add-i invariant-loop decreases-loop
 add-i c = search rules
@@ -35,7 +35,7 @@ loop-less c = search rules
 
 loop-again : tie.Need-loop-preserved invariant-loop decreases-loop
 loop-again c = one_more _ _ _ c.before.before.before.before.loop.invariant c.before.before.before.loop-test.true
-    (sym c.before.lives.ensures ∙ not_false _ c.if1.false)
+    (sym c.before.lives.ensures ∙ not-false _ c.if1.false)
 
 returns-2 : tie.Need-returns-2 invariant-loop decreases-loop
 returns-2 c = all_passed _ _ _ c.before.loop.invariant c.loop-test.false

@@ -3,7 +3,7 @@ use Prim.Native.Nat.{◌-◌}
 use mathlib.Core.Path.{sym, ◌∙◌}
 use native.Mathlib.Omega.{arith}
 use lib.ListN.{length}
-use borrow.Author.Tests.{not_true, not_false}
+use borrow.Author.Tests.{not-true, not-false}
 use borrow.Author.Rules.{rules}
 use Rattle.fields.proofs.Sizes.{Inside, inside}
 use Rattle.faults.proofs.Walking.{tag_there}
@@ -30,7 +30,7 @@ cut-at-requires c κs = search rules
 
 returns : tie.Need-returns invariant-loop decreases-loop
 returns c =
-    mark_cut _ c.before.before.before.before.loop.invariant (sym (found c.before.before).all_there ∙ not_true _ c.if1.true)
+    mark_cut _ c.before.before.before.before.loop.invariant (sym (found c.before.before).all_there ∙ not-true _ c.if1.true)
 
 shared-slice-read-if2 : tie.Need-shared-slice-read-if2 invariant-loop decreases-loop
 shared-slice-read-if2 c = omega (arith, c.before.before.before.before.loop-test.true)
@@ -45,7 +45,7 @@ add_wide c = omega (
 shared-slice-read-wide : tie.Need-shared-slice-read-wide invariant-loop decreases-loop
 shared-slice-read-wide c =
     let f = found c.before.before.before.before.before in
-    let w = sym f.all_there ∙ not_false _ c.before.before.before.if1.false in
+    let w = sym f.all_there ∙ not-false _ c.before.before.before.if1.false in
     omega (
       arith,
       thread_long _ c.before.before.before.before.before.before.before.loop.invariant _ w f.ends
@@ -67,7 +67,7 @@ loop-less c =
 loop-again : tie.Need-loop-preserved invariant-loop decreases-loop
 loop-again c =
     let f = found c.before.before.before.before.before.before in
-    let w = sym f.all_there ∙ not_false _ c.before.before.before.before.if1.false in
+    let w = sym f.all_there ∙ not-false _ c.before.before.before.before.if1.false in
     let o = tag_there _ _ _ w f.ends ∙ c.before.before.if2.true in
     mark_next _ c.before.before.before.before.before.before.before.before.loop.invariant _ w f.ends o _ (c.wide.ensures.0
     ∙ sym (name_there _ c.before.before.before.before.before.before.before.before.loop.invariant _ w f.ends o))
@@ -79,7 +79,7 @@ loop-less-2 c = let f = found c.before.before.before.before in omega (arith, f.b
 loop-again-2 : tie.Need-loop-preserved-2 invariant-loop decreases-loop
 loop-again-2 c =
     let f = found c.before.before.before.before in
-    let w = sym f.all_there ∙ not_false _ c.before.before.if1.false in
+    let w = sym f.all_there ∙ not-false _ c.before.before.if1.false in
     mark_skips _ c.before.before.before.before.before.before.loop.invariant _ w f.ends
     (λ k. c.if2.false (sym (tag_there _ _ _ w f.ends) ∙ k))
 

@@ -1,6 +1,6 @@
 -- `names::thread_lives` meets its contract: parent, wanted name, entries, and the entry that is waited for.
 use mathlib.Core.Path.{sym, ◌∙◌}
-use borrow.Author.Tests.{not_true, not_false}
+use borrow.Author.Tests.{not-true, not-false}
 use borrow.Author.Rules.{rules}
 use Rattle.rules.specs.Load.{thread_from}
 use Rattle.rules.specs.Faults.{thread_lives as thread_lives_of}
@@ -18,7 +18,7 @@ parent-lives-requires c κs = search rules
 
 returns : tie.Need-returns
 unfolding thread_lives_of thread_from
-returns c = rw (← c.before.before.parent_from.ensures, sym c.before.parent_lives.ensures ∙ not_true _ c.if1.true)
+returns c = rw (← c.before.before.parent_from.ensures, sym c.before.parent_lives.ensures ∙ not-true _ c.if1.true)
 
 shared-slice-read-state-from : tie.Need-shared-slice-read-state-from
 shared-slice-read-state-from c = search rules
@@ -37,9 +37,9 @@ unfolding thread_lives_of thread_from
 returns-2 c = rw (
   ← c.before.before.before.before.before.before.before.parent_from.ensures,
   sym c.before.before.before.before.before.before.parent_lives.ensures
-      ∙ not_false _ c.before.before.before.before.before.if1.false,
+      ∙ not-false _ c.before.before.before.before.before.if1.false,
   ← c.before.before.state_from.ensures,
-  sym c.before.wanted_lives.ensures ∙ not_true _ c.if2.true,
+  sym c.before.wanted_lives.ensures ∙ not-true _ c.if2.true,
 )
 
 shared-slice-read-manager-from : tie.Need-shared-slice-read-manager-from
@@ -69,15 +69,15 @@ returns-3 c =
     rw (
       ← c.before.before.before.before.before.before.before.before.before.before.before.before.before.before.before.parent_from.ensures,
       sym c.before.before.before.before.before.before.before.before.before.before.before.before.before.before.parent_lives.ensures
-          ∙ not_false _
+          ∙ not-false _
           c.before.before.before.before.before.before.before.before.before.before.before.before.before.if1.false,
       ← c.before.before.before.before.before.before.before.before.before.before.state_from.ensures,
       sym c.before.before.before.before.before.before.before.before.before.wanted_lives.ensures
-          ∙ not_false _ c.before.before.before.before.before.before.before.before.if2.false,
+          ∙ not-false _ c.before.before.before.before.before.before.before.before.if2.false,
       ← c.before.before.before.before.before.before.manager_from.ensures,
       ← c.before.before.before.before.manager-from2.ensures,
       ← c.before.before.manager-from3.ensures,
-      sym c.before.entries_live.ensures ∙ not_true _ c.if3.true,
+      sym c.before.entries_live.ensures ∙ not-true _ c.if3.true,
     )
 
 manager-set-requires : tie.Need-manager-set-requires
@@ -88,15 +88,15 @@ unfolding thread_lives_of thread_from
 returns-4 c =
     rw (
       ← c.before.before.before.before.before.before.before.before.before.before.before.before.before.before.before.before.parent_from.ensures,
-      sym c.before.before.before.before.before.before.before.before.before.before.before.before.before.before.before.parent_lives.ensures ∙ not_false _
+      sym c.before.before.before.before.before.before.before.before.before.before.before.before.before.before.before.parent_lives.ensures ∙ not-false _
           c.before.before.before.before.before.before.before.before.before.before.before.before.before.before.if1.false,
       ← c.before.before.before.before.before.before.before.before.before.before.before.state_from.ensures,
       sym c.before.before.before.before.before.before.before.before.before.before.wanted_lives.ensures
-          ∙ not_false _ c.before.before.before.before.before.before.before.before.before.if2.false,
+          ∙ not-false _ c.before.before.before.before.before.before.before.before.before.if2.false,
       ← c.before.before.before.before.before.before.before.manager_from.ensures,
       ← c.before.before.before.before.before.manager-from2.ensures,
       ← c.before.before.before.manager-from3.ensures,
-      sym c.before.before.entries_live.ensures ∙ not_false _ c.before.if3.false,
+      sym c.before.before.entries_live.ensures ∙ not-false _ c.before.if3.false,
     ) c.manager_set.ensures
 
 pub thread-lives-spec : {M : Type 1} → statement M

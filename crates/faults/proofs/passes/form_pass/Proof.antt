@@ -4,7 +4,7 @@ use mathlib.Core.List.{List}
 use mathlib.Core.Path.{sym, ap, ◌∙◌, subst}
 use native.Mathlib.Omega.{arith}
 use lib.ListN.{length}
-use borrow.Author.Tests.{not_true, not_false}
+use borrow.Author.Tests.{not-true, not-false}
 use borrow.Author.Rules.{rules}
 use Rattle.rules.specs.Load.{as_field}
 use Rattle.fields.proofs.Sizes.{Inside, inside}
@@ -38,7 +38,7 @@ cut-at-requires c κs = search rules
 
 returns : tie.Need-returns invariant-loop decreases-loop
 returns c = form_cut _ _ c.before.before.before.before.loop.invariant c.before.before.before.loop-test.true
-    (sym (found c.before.before).all_there ∙ not_true _ c.if1.true)
+    (sym (found c.before.before).all_there ∙ not-true _ c.if1.true)
 
 sub-form-faulty : tie.Need-overflow-sub-form-faulty invariant-loop decreases-loop
 sub-form-faulty c = let f = found c.before.before in omega (arith, f.behind)
@@ -52,7 +52,7 @@ part-form-faulty-end c = let f = found c.before.before in omega (arith, f.behind
 form-faulty-requires : tie.Need-form-faulty-requires invariant-loop decreases-loop
 form-faulty-requires c κs =
     let f = found c.before.before.before in
-    let w = sym f.all_there ∙ not_false _ c.before.if1.false in
+    let w = sym f.all_there ∙ not-false _ c.before.if1.false in
     let bytes = c.before.before.before.before.before.before.before.before.args.bytes.now in
     let at = c.before.before.before.before.before.loop.at in
     omega (
@@ -66,7 +66,7 @@ form-faulty-requires c κs =
 returns-2 : tie.Need-returns-2 invariant-loop decreases-loop
 returns-2 c =
     let f = found c.before.before.before.before.before in
-    let w = sym f.all_there ∙ not_false _ c.before.before.before.if1.false in
+    let w = sym f.all_there ∙ not-false _ c.before.before.before.if1.false in
     let cut = cut_out c.before.before.before.before.before.before.before.before.before.before.args.bytes.now
     c.before.before.before.before.before.before.before.loop.at _ w f.ends in
     let here =
@@ -89,7 +89,7 @@ loop-less c =
 loop-again : tie.Need-loop-preserved invariant-loop decreases-loop
 loop-again c =
     let f = found c.before.before.before.before.before.before.before in
-    let w = sym f.all_there ∙ not_false _ c.before.before.before.before.before.if1.false in
+    let w = sym f.all_there ∙ not-false _ c.before.before.before.before.before.if1.false in
     let bytes = c.before.before.before.before.before.before.before.before.before.before.before.before.args.bytes.now in
     let at = c.before.before.before.before.before.before.before.before.before.loop.at in
     let b = c.before.before.before.before.before.before.before.before.before.loop.b in

@@ -4,7 +4,7 @@ use mathlib.Core.List.{List}
 use mathlib.Core.Path.{sym, ap, ◌∙◌}
 use native.Mathlib.Omega.{arith}
 use lib.ListN.{length}
-use borrow.Author.Tests.{not_true, not_false}
+use borrow.Author.Tests.{not-true, not-false}
 use borrow.Author.Rules.{rules}
 use Rattle.rules.specs.Load.{as_field}
 use Rattle.fields.proofs.Sizes.{Inside, inside}
@@ -34,7 +34,7 @@ cut-at-requires c κs = search rules
 
 returns : tie.Need-returns invariant-loop decreases-loop
 returns c =
-    value_cut _ _ _ c.before.before.before.before.loop.invariant (sym (found c.before.before).all_there ∙ not_true _ c.if1.true)
+    value_cut _ _ _ c.before.before.before.before.loop.invariant (sym (found c.before.before).all_there ∙ not-true _ c.if1.true)
 
 sub-value-faulty : tie.Need-overflow-sub-value-faulty invariant-loop decreases-loop
 sub-value-faulty c = let f = found c.before.before in omega (arith, f.behind)
@@ -48,7 +48,7 @@ part-value-faulty-end c = let f = found c.before.before in omega (arith, f.behin
 value-faulty-requires : tie.Need-value-faulty-requires invariant-loop decreases-loop
 value-faulty-requires c κs =
     let f = found c.before.before.before in
-    let w = sym f.all_there ∙ not_false _ c.before.if1.false in
+    let w = sym f.all_there ∙ not-false _ c.before.if1.false in
     let bytes = c.before.before.before.before.before.before.before.args.bytes.now in
     let at = c.before.before.before.before.before.loop.at in
     omega (
@@ -62,7 +62,7 @@ value-faulty-requires c κs =
 returns-2 : tie.Need-returns-2 invariant-loop decreases-loop
 returns-2 c =
     let f = found c.before.before.before.before.before in
-    let w = sym f.all_there ∙ not_false _ c.before.before.before.if1.false in
+    let w = sym f.all_there ∙ not-false _ c.before.before.before.if1.false in
     let cut = cut_out c.before.before.before.before.before.before.before.before.before.args.bytes.now
     c.before.before.before.before.before.before.before.loop.at _ w f.ends in
     let here = ap (λ (l : List ℕ). value_fault c.before.before.before.before.before.before.before.before.before.args.number
@@ -76,7 +76,7 @@ loop-less c = let f = found c.before.before.before.before.before in omega (arith
 loop-again : tie.Need-loop-preserved invariant-loop decreases-loop
 loop-again c =
     let f = found c.before.before.before.before.before in
-    let w = sym f.all_there ∙ not_false _ c.before.before.before.if1.false in
+    let w = sym f.all_there ∙ not-false _ c.before.before.before.if1.false in
     let cut = cut_out c.before.before.before.before.before.before.before.before.before.args.bytes.now
     c.before.before.before.before.before.before.before.loop.at _ w f.ends in
     let here = ap (λ (l : List ℕ). value_fault c.before.before.before.before.before.before.before.before.before.args.number

@@ -1,7 +1,7 @@
 -- `ranges::answer_fits` meets its contract: what is written for what it stands for.
 use mathlib.Core.Path.{sym, ◌∙◌}
 use native.Mathlib.Omega.{arith}
-use borrow.Author.Tests.{eq_eqb, ne_eqb}
+use borrow.Author.Tests.{eq-eqb, ne_eqb}
 use borrow.Author.Rules.{rules}
 use Rattle.rules.specs.Faults.{answer_fits as answer_fits_of}
 use Rattle.faults.proofs.ranges.answer_fits.Statement.{statement}
@@ -24,7 +24,7 @@ returns-2 : tie.Need-returns-2
 unfolding answer_fits_of
 returns-2 c = rw (
   ← c.before.before.before.before.answer_from.ensures,
-  eq_eqb _ _ (c.before.before.if1.left
+  eq-eqb _ _ (c.before.before.if1.left
       ∙ c.before.before.before.kind-code.ensures),
   ne_eqb _ _ (λ e. c.if2.taken (e ∙ sym c.before.sender-code.ensures)),
 )
@@ -36,8 +36,8 @@ returns-3 : tie.Need-returns-3
 unfolding answer_fits_of
 returns-3 c = rw (
   ← c.before.before.before.before.before.before.answer_from.ensures,
-  eq_eqb _ _ (c.before.before.before.before.if1.left ∙ c.before.before.before.before.before.kind-code.ensures),
-  eq_eqb _ _ (c.before.before.if2.left ∙ c.before.before.before.sender-code.ensures),
+  eq-eqb _ _ (c.before.before.before.before.if1.left ∙ c.before.before.before.before.before.kind-code.ensures),
+  eq-eqb _ _ (c.before.before.if2.left ∙ c.before.before.before.sender-code.ensures),
   ne_eqb _ _ (λ e. c.if3.taken (e ∙ sym c.before.word-code.ensures)),
 )
 
@@ -48,9 +48,9 @@ returns-4 : tie.Need-returns-4
 unfolding answer_fits_of
 returns-4 c = rw (
   ← c.before.before.before.before.before.before.before.answer_from.ensures,
-  eq_eqb _ _ (c.before.before.before.before.before.if1.left ∙ c.before.before.before.before.before.before.kind-code.ensures),
-  eq_eqb _ _ (c.before.before.before.if2.left ∙ c.before.before.before.before.sender-code.ensures),
-  eq_eqb _ _ (c.before.if3.left ∙ c.before.before.word-code.ensures),
+  eq-eqb _ _ (c.before.before.before.before.before.if1.left ∙ c.before.before.before.before.before.before.kind-code.ensures),
+  eq-eqb _ _ (c.before.before.before.if2.left ∙ c.before.before.before.before.sender-code.ensures),
+  eq-eqb _ _ (c.before.if3.left ∙ c.before.before.word-code.ensures),
 ) (c.answer_right.ensures (omega (arith, c.before.if3.left, c.before.before.word-code.ensures)))
 
 pub answer-fits-spec : {M : Type 1} → statement M

@@ -1,6 +1,6 @@
 -- `ranges::answer_right` meets its contract: each arm is the rule's own case; a word is below 2^32.
 use mathlib.Core.Path.{sym, ◌∙◌}
-use borrow.Author.Tests.{lt_ltb}
+use borrow.Author.Tests.{lt-ltb}
 use borrow.Author.Rules.{rules}
 use Rattle.faults.proofs.Fits.{and_true, result_right}
 use Rattle.rules.specs.Numbers.{wrap}
@@ -39,11 +39,11 @@ returns c = λ h. rw c.enum_told.given.1
 returns-2 : tie.Need-returns-2
 unfolding answer_in_range
 returns-2 c =
-    λ h. rw (c.before.before.a.given.1, lt_ltb _ wrap c.before.known-told.given.1.0.1) (c.is_name.ensures ∙ sym (and_true _))
+    λ h. rw (c.before.before.a.given.1, lt-ltb _ wrap c.before.known-told.given.1.0.1) (c.is_name.ensures ∙ sym (and_true _))
 
 returns-3 : tie.Need-returns-3
 unfolding answer_in_range
-returns-3 c = λ h. rw (c.before.before.a2.given.1, lt_ltb _ wrap c.before.known-told2.given.1.0.1) (c.is-name2.ensures
+returns-3 c = λ h. rw (c.before.before.a2.given.1, lt-ltb _ wrap c.before.known-told2.given.1.0.1) (c.is-name2.ensures
     ∙ sym (and_true _))
 
 returns-4 : tie.Need-returns-4

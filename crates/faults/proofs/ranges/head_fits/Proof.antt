@@ -1,6 +1,6 @@
 -- `ranges::head_fits` meets its contract: a test for each exit.
 use mathlib.Core.Path.{sym, ◌∙◌}
-use borrow.Author.Tests.{not_true, not_false}
+use borrow.Author.Tests.{not-true, not-false}
 use borrow.Author.Rules.{rules}
 use Rattle.rules.specs.Faults.{head_fits as head_fits_of}
 use Rattle.faults.proofs.ranges.head_fits.Statement.{statement}
@@ -14,7 +14,7 @@ status-fits-requires c κs = search rules
 
 returns : tie.Need-returns
 unfolding head_fits_of
-returns c = rw (sym c.before.status_fits.ensures ∙ not_true _ c.if1.taken)
+returns c = rw (sym c.before.status_fits.ensures ∙ not-true _ c.if1.taken)
 
 shared-slice-read-is-name : tie.Need-shared-slice-read-is-name
 shared-slice-read-is-name c = search rules
@@ -26,8 +26,8 @@ returns-2 : tie.Need-returns-2
 unfolding head_fits_of
 returns-2 c = rw (
   sym c.before.before.before.before.status_fits.ensures
-      ∙ not_false _ c.before.before.before.if1.left,
-  sym c.before.is_name.ensures ∙ not_true _ c.if2.taken,
+      ∙ not-false _ c.before.before.before.if1.left,
+  sym c.before.is_name.ensures ∙ not-true _ c.if2.taken,
 )
 
 shared-slice-read-runner-fits : tie.Need-shared-slice-read-runner-fits
@@ -43,9 +43,9 @@ returns-3 : tie.Need-returns-3
 unfolding head_fits_of
 returns-3 c = rw (
   sym c.before.before.before.before.before.before.before.before.status_fits.ensures
-      ∙ not_false _ c.before.before.before.before.before.before.before.if1.left,
-  sym c.before.before.before.before.before.is_name.ensures ∙ not_false _ c.before.before.before.before.if2.left,
-  sym c.before.runner_fits.ensures ∙ not_true _ c.if3.taken,
+      ∙ not-false _ c.before.before.before.before.before.before.before.if1.left,
+  sym c.before.before.before.before.before.is_name.ensures ∙ not-false _ c.before.before.before.before.if2.left,
+  sym c.before.runner_fits.ensures ∙ not-true _ c.if3.taken,
 )
 
 shared-slice-read-result : tie.Need-shared-slice-read-result
@@ -55,10 +55,10 @@ returns-4 : tie.Need-returns-4
 unfolding head_fits_of
 returns-4 c = rw (
   sym c.before.before.before.before.before.before.before.before.before.status_fits.ensures
-      ∙ not_false _ c.before.before.before.before.before.before.before.before.if1.left,
+      ∙ not-false _ c.before.before.before.before.before.before.before.before.if1.left,
   sym c.before.before.before.before.before.before.is_name.ensures
-      ∙ not_false _ c.before.before.before.before.before.if2.left,
-  sym c.before.before.runner_fits.ensures ∙ not_false _ c.before.if3.left,
+      ∙ not-false _ c.before.before.before.before.before.if2.left,
+  sym c.before.before.runner_fits.ensures ∙ not-false _ c.before.if3.left,
 )
 
 pub head-fits-spec : {M : Type 1} → statement M

@@ -1,7 +1,7 @@
 -- `ranges::names_fit` meets its contract: those before i are names.
 use Prim.Native.Nat.{◌-◌}
 use mathlib.Core.Path.{sym, ◌∙◌}
-use borrow.Author.Tests.{not_true, not_false}
+use borrow.Author.Tests.{not-true, not-false}
 use borrow.Author.Rules.{rules}
 use Rattle.rules.specs.Faults.{is_name}
 use Rattle.faults.proofs.Alls.{Passed, none_passed, one_more, one_fails, all_passed}
@@ -25,7 +25,7 @@ is-name-requires c κs = search rules
 
 returns : tie.Need-returns invariant-loop decreases-loop
 returns c = one_fails is_name _ _ c.before.before.before.before.loop.invariant c.before.before.before.loop-test.true
-    (sym c.before.is_name.ensures ∙ not_true _ c.if1.true)
+    (sym c.before.is_name.ensures ∙ not-true _ c.if1.true)
 
 add-i : tie.Need-overflow-add-i invariant-loop decreases-loop
 add-i c = search rules
@@ -35,7 +35,7 @@ loop-less c = search rules
 
 loop-again : tie.Need-loop-preserved invariant-loop decreases-loop
 loop-again c = one_more is_name _ _ c.before.before.before.before.loop.invariant c.before.before.before.loop-test.true
-    (sym c.before.is_name.ensures ∙ not_false _ c.if1.false)
+    (sym c.before.is_name.ensures ∙ not-false _ c.if1.false)
 
 returns-2 : tie.Need-returns-2 invariant-loop decreases-loop
 returns-2 c = all_passed is_name _ _ c.before.loop.invariant c.loop-test.false

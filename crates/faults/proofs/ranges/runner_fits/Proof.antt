@@ -1,6 +1,6 @@
 -- `ranges::runner_fits` meets its contract: what is written for what it stands for.
 use mathlib.Core.Path.{sym, ◌∙◌}
-use borrow.Author.Tests.{eq_eqb, ne_eqb}
+use borrow.Author.Tests.{eq-eqb, ne_eqb}
 use borrow.Author.Rules.{rules}
 use Rattle.rules.specs.Faults.{runner_fits as runner_fits_of}
 use Rattle.faults.proofs.ranges.runner_fits.Statement.{statement}
@@ -23,7 +23,7 @@ returns-2 : tie.Need-returns-2
 unfolding runner_fits_of
 returns-2 c = rw (
   ← c.before.before.before.runner_from.ensures,
-  eq_eqb _ _ (c.before.if1.left
+  eq-eqb _ _ (c.before.if1.left
       ∙ c.before.before.slice_code.ensures),
 ) c.runner_right.ensures
 

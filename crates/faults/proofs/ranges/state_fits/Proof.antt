@@ -1,6 +1,6 @@
 -- `ranges::state_fits` meets its contract: what is written for what it stands for.
 use mathlib.Core.Path.{sym, ◌∙◌}
-use borrow.Author.Tests.{eq_eqb, ne_eqb}
+use borrow.Author.Tests.{eq-eqb, ne_eqb}
 use borrow.Author.Rules.{rules}
 use Rattle.rules.specs.Faults.{state_fits as state_fits_of}
 use Rattle.faults.proofs.ranges.state_fits.Statement.{statement}
@@ -23,7 +23,7 @@ returns-2 : tie.Need-returns-2
 unfolding state_fits_of
 returns-2 c = rw (
   ← c.before.before.before.before.state_from.ensures,
-  eq_eqb _ _ (c.before.before.if1.left
+  eq-eqb _ _ (c.before.before.if1.left
       ∙ c.before.before.before.state-code.ensures),
   ne_eqb _ _ (λ e. c.if2.taken (e ∙ sym c.before.detail-code.ensures)),
 )
@@ -35,9 +35,9 @@ returns-3 : tie.Need-returns-3
 unfolding state_fits_of
 returns-3 c = rw (
   ← c.before.before.before.before.before.state_from.ensures,
-  eq_eqb _ _ (c.before.before.before.if1.left
+  eq-eqb _ _ (c.before.before.before.if1.left
       ∙ c.before.before.before.before.state-code.ensures),
-  eq_eqb _ _ (c.before.if2.left ∙ c.before.before.detail-code.ensures),
+  eq-eqb _ _ (c.before.if2.left ∙ c.before.before.detail-code.ensures),
 ) c.state_right.ensures
 
 pub state-fits-spec : {M : Type 1} → statement M

@@ -1,6 +1,6 @@
 -- `ranges::thread_fits` meets its contract: a test for each exit.
 use mathlib.Core.Path.{sym, ◌∙◌}
-use borrow.Author.Tests.{not_true, not_false}
+use borrow.Author.Tests.{not-true, not-false}
 use borrow.Author.Rules.{rules}
 use Rattle.rules.specs.Faults.{is_name, thread_fits as thread_fits_of}
 use Rattle.faults.proofs.ranges.thread_fits.Statement.{statement}
@@ -14,7 +14,7 @@ is-name-requires c κs = search rules
 
 returns : tie.Need-returns
 unfolding thread_fits_of
-returns c = rw (sym c.before.is_name.ensures ∙ not_true _ c.if1.taken)
+returns c = rw (sym c.before.is_name.ensures ∙ not-true _ c.if1.taken)
 
 shared-slice-read-parent-from : tie.Need-shared-slice-read-parent-from
 shared-slice-read-parent-from c = search rules
@@ -29,9 +29,9 @@ returns-2 : tie.Need-returns-2
 unfolding thread_fits_of
 returns-2 c = rw (
   sym c.before.before.before.before.before.is_name.ensures
-      ∙ not_false _ c.before.before.before.before.if1.left,
+      ∙ not-false _ c.before.before.before.before.if1.left,
   ← c.before.before.parent_from.ensures,
-  sym c.before.parent_right.ensures ∙ not_true _ c.if2.taken,
+  sym c.before.parent_right.ensures ∙ not-true _ c.if2.taken,
 )
 
 shared-slice-read-state-fits : tie.Need-shared-slice-read-state-fits
@@ -47,10 +47,10 @@ returns-3 : tie.Need-returns-3
 unfolding thread_fits_of
 returns-3 c = rw (
   sym c.before.before.before.before.before.before.before.before.before.is_name.ensures
-      ∙ not_false _ c.before.before.before.before.before.before.before.before.if1.left,
+      ∙ not-false _ c.before.before.before.before.before.before.before.before.if1.left,
   ← c.before.before.before.before.before.before.parent_from.ensures,
-  sym c.before.before.before.before.before.parent_right.ensures ∙ not_false _ c.before.before.before.before.if2.left,
-  sym c.before.state_fits.ensures ∙ not_true _ c.if3.taken,
+  sym c.before.before.before.before.before.parent_right.ensures ∙ not-false _ c.before.before.before.before.if2.left,
+  sym c.before.state_fits.ensures ∙ not-true _ c.if3.taken,
 )
 
 shared-slice-read-answer-fits : tie.Need-shared-slice-read-answer-fits
@@ -70,11 +70,11 @@ unfolding thread_fits_of
 returns-4 c =
     rw (
       sym c.before.before.before.before.before.before.before.before.before.before.before.before.before.is_name.ensures
-          ∙ not_false _ c.before.before.before.before.before.before.before.before.before.before.before.before.if1.left,
+          ∙ not-false _ c.before.before.before.before.before.before.before.before.before.before.before.before.if1.left,
       ← c.before.before.before.before.before.before.before.before.before.before.parent_from.ensures,
       sym c.before.before.before.before.before.before.before.before.before.parent_right.ensures
-          ∙ not_false _ c.before.before.before.before.before.before.before.before.if2.left,
-      sym c.before.before.before.before.before.state_fits.ensures ∙ not_false _ c.before.before.before.before.if3.left,
+          ∙ not-false _ c.before.before.before.before.before.before.before.before.if2.left,
+      sym c.before.before.before.before.before.state_fits.ensures ∙ not-false _ c.before.before.before.before.if3.left,
       ← c.before.word_at.ensures,
     ) c.answer_fits.ensures
 

@@ -3,20 +3,20 @@ use Prim.Native.Nat.{ℕ, ◌+◌, ◌-◌, ◌≤◌}
 use mathlib.Core.Path.{◌≡◌, sym, ap, ◌∙◌}
 use mathlib.Core.List.{List}
 use native.Mathlib.Omega.{arith}
-use lib.ListN.{length, take, drop, length_drop, drop_of_length_le}
-use lib.Seq.{take_all, drop_length}
+use lib.ListN.{length, take, drop, length-drop, drop_of_length-le}
+use lib.Seq.{take_all, drop-length}
 use borrow.Author.Rules.{rules}
 use Rattle.fields.proofs.cuts.rest_at.Statement.{statement}
 use Rattle.fields.proofs.cuts.rest_at.Tie as tie
 
 to_the_end : (s : List ℕ) (n : ℕ) → take (length s - n) (drop n s) ≡ drop n s
-to_the_end s n = take_all (length s - n) (drop n s) (omega (arith, length_drop n s))
+to_the_end s n = take_all (length s - n) (drop n s) (omega (arith, length-drop n s))
 
 -- where a part begins that goes from n to the end
 from : (p : ℕ × ℕ) (s : List ℕ) (n : ℕ) → n ≤ length s →
     ◌≡◌ {A = ℕ × ℕ} (p.0, n + p.1) (p.0, (length s - length (take (length s - n) (drop n s))) + p.1)
 from p s n h = let e : n ≡ length s - length (take (length s - n) (drop n s)) =
-    omega (arith, ap length (to_the_end s n), length_drop n s) in ap (λ (k : ℕ). (p.0, k + p.1)) e
+    omega (arith, ap length (to_the_end s n), length-drop n s) in ap (λ (k : ℕ). (p.0, k + p.1)) e
 
 sub-result : tie.Need-overflow-sub-result
 sub-result c = search rules
@@ -31,7 +31,7 @@ returns : tie.Need-returns
 returns c =
     let s = c.before.before.args.input.now in
     record {
-      bytes = to_the_end s (length s) ∙ (drop_length s ∙ sym (drop_of_length_le s c.before.if1.true));
+      bytes = to_the_end s (length s) ∙ (drop-length s ∙ sym (drop_of_length-le s c.before.if1.true));
       ends_there = from c.before.before.args.input.ptr s (length s) (omega arith);
     }
 

@@ -1,6 +1,6 @@
 -- `check::check_in` meets its contract: the check's answer as a refusal.
 use mathlib.Core.Path.{sym, ◌∙◌}
-use borrow.Author.Tests.{not_true, not_false}
+use borrow.Author.Tests.{not-true, not-false}
 use borrow.Author.Rules.{rules}
 use Rattle.lending.specs.Lent.{check_of}
 use Rattle.lending.proofs.check.check_in.Statement.{statement}
@@ -11,11 +11,11 @@ check-requires c κs = search rules
 
 returns : tie.Need-returns
 unfolding check_of
-returns c = rw (sym c.before.check.ensures ∙ not_true _ c.if1.true)
+returns c = rw (sym c.before.check.ensures ∙ not-true _ c.if1.true)
 
 returns-2 : tie.Need-returns-2
 unfolding check_of
-returns-2 c = rw (sym c.before.check.ensures ∙ not_false _ c.if1.false)
+returns-2 c = rw (sym c.before.check.ensures ∙ not-false _ c.if1.false)
 
 pub check-in-spec : {M : Type 1} → statement M
 check-in-spec = tie.close (tie.spec check-requires returns returns-2)

@@ -2,7 +2,7 @@
 use mathlib.Core.Path.{◌≡◌, sym, ◌∙◌}
 use mathlib.Core.Bool.{true}
 use native.Mathlib.Omega.{arith}
-use borrow.Author.Tests.{not_true, not_false}
+use borrow.Author.Tests.{not-true, not-false}
 use borrow.Author.Rules.{rules}
 use Rattle.loading.proofs.Exits.{writable}
 use Rattle.lending.specs.Lent.{valid}
@@ -12,7 +12,7 @@ use Rattle.lending.proofs.dump.dump_in.Tie as tie
 
 -- the check is passed
 passed : (w : tie.Else1) → valid w.before.before.before.before.args.m.now ≡ true
-passed w = sym w.before.check.ensures ∙ not_false _ w.if1.false
+passed w = sym w.before.check.ensures ∙ not-false _ w.if1.false
 
 check-requires : tie.Need-check-requires
 check-requires c κs = search rules
@@ -21,7 +21,7 @@ refused-requires : tie.Need-refused-requires
 refused-requires c κs = search rules
 
 returns : tie.Need-returns
-returns c = eleven _ _ _ (sym c.before.before.check.ensures ∙ not_true _ c.before.if1.true) c.refused.ensures
+returns c = eleven _ _ _ (sym c.before.before.check.ensures ∙ not-true _ c.before.if1.true) c.refused.ensures
 
 dump-length-requires : tie.Need-dump-length-requires
 dump-length-requires c κs = (writable _ (passed c)).0

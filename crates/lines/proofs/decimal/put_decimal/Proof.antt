@@ -1,7 +1,7 @@
 -- `lines::decimal::put_decimal` meets its contract: the digits are put from the last to the first.
 use native.Mathlib.Omega.{arith}
 use borrow.Author.Rules.{rules}
-use lib.ListN.{length_set}
+use lib.ListN.{length-set}
 use Rattle.lines.proofs.Numerals.{Putting, putting_first, putting_next, putting_all, puts_digit}
 use Rattle.lines.proofs.decimal.put_decimal.Statement.{statement}
 use Rattle.lines.proofs.decimal.put_decimal.Tie as tie
@@ -22,7 +22,7 @@ slice-write-out : tie.Need-slice-write-out invariant-loop decreases-loop
 slice-write-out c = omega arith
 
 same_length : tie.Need-same-length invariant-loop decreases-loop
-same_length c = simp length_set
+same_length c = simp length-set
 
 returns : tie.Need-returns invariant-loop decreases-loop
 returns c = puts_digit _ _ c.if1.true (omega arith)

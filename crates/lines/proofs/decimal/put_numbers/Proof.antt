@@ -1,7 +1,7 @@
 -- `lines::decimal::put_numbers` meets its contract. After i turns the first i numbers stand at the front.
 use Prim.Native.Nat.{◌-◌}
 use native.Mathlib.Omega.{arith}
-use lib.ListN.{length, length_set}
+use lib.ListN.{length, length-set}
 use Rattle.buffer.proofs.Putting.{room, stays_long}
 use Rattle.lines.proofs.NumberLines.{Row, row_first, row_next, row_ends, row_none, line_few}
 use Rattle.lines.proofs.decimal.put_numbers.Statement.{statement}
@@ -17,7 +17,7 @@ slice-write-out : tie.Need-slice-write-out invariant-loop decreases-loop
 slice-write-out c = omega arith
 
 same_length : tie.Need-same-length invariant-loop decreases-loop
-same_length c = simp length_set
+same_length c = simp length-set
 
 returns : tie.Need-returns invariant-loop decreases-loop
 returns c = row_none _ _ c.if1.true (omega arith)

@@ -2,7 +2,7 @@
 use Prim.Native.Nat.{ℕ, ◌≤◌}
 use mathlib.Core.List.{List, [], ◌∷◌}
 use native.Mathlib.Omega.{arith}
-use lib.ListN.{length, set, length_set}
+use lib.ListN.{length, set, length-set}
 use Rattle.buffer.specs.Puts.{Puts}
 use Rattle.buffer.proofs.Putting.{puts_none, one_more, behind, room, stays_long}
 use borrow.Author.Rules.{rules}
@@ -18,10 +18,10 @@ slice-write-out : tie.Need-slice-write-out
 slice-write-out c = search rules
 
 sub-put-decimal : tie.Need-overflow-sub-put-decimal
-sub-put-decimal c = simp length_set (omega arith)
+sub-put-decimal c = simp length-set (omega arith)
 
 part-put-decimal-start : tie.Need-slice-bounds-put-decimal-start
-part-put-decimal-start c = simp length_set (omega arith)
+part-put-decimal-start c = simp length-set (omega arith)
 
 part-put-decimal-end : tie.Need-slice-bounds-put-decimal-end
 part-put-decimal-end c = search rules

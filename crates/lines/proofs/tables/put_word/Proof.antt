@@ -2,7 +2,7 @@
 use Prim.Native.Nat.{ℕ}
 use mathlib.Core.Path.{sym, ap, ◌∙◌}
 use mathlib.Core.List.{[], ◌∷◌}
-use borrow.Author.Tests.{not_true, not_false}
+use borrow.Author.Tests.{not-true, not-false}
 use Rattle.buffer.proofs.Putting.{puts_none, said}
 use Rattle.lines.specs.Text.{numbers_line}
 use Rattle.lines.proofs.Entries.{no_word, one_word}
@@ -14,7 +14,7 @@ is-held-requires : tie.Need-is-held-requires
 is-held-requires c κs = (c.before.before.requires.0, c.before.before.requires.1)
 
 returns : tie.Need-returns
-returns c = said (puts_none _) (sym (no_word _ _ (sym c.before.is_held.ensures ∙ not_true _ c.if1.true)))
+returns c = said (puts_none _) (sym (no_word _ _ (sym c.before.is_held.ensures ∙ not-true _ c.if1.true)))
 
 held-word-requires : tie.Need-held-word-requires
 held-word-requires c κs = (c.before.before.before.before.requires.0, c.before.before.before.before.requires.1)
@@ -40,7 +40,7 @@ returns-2 c =
     let entry = at-is-held.before.before.before in
     said at-put-numbers.put-numbers.ensures
     (ap (λ (w : ℕ). numbers_line (6 ∷ entry.args.d ∷ w ∷ [])) at-held-word.held_word.ensures
-    ∙ sym (one_word _ _ (sym at-is-held.is_held.ensures ∙ not_false _ at-if1.if1.false)))
+    ∙ sym (one_word _ _ (sym at-is-held.is_held.ensures ∙ not-false _ at-if1.if1.false)))
 
 pub put-word-spec : {M : Type 1} → statement M
 put-word-spec =

@@ -1,6 +1,6 @@
 -- `opening::opens` meets its contract: `opened` and `unopened` say what it tests.
 use mathlib.Core.Path.{sym, ◌∙◌}
-use borrow.Author.Tests.{eq_eqb, ne_eqb}
+use borrow.Author.Tests.{eq-eqb, ne_eqb}
 use Rattle.loading.proofs.Cutting.{opened, unopened}
 use borrow.Author.Rules.{rules}
 use Rattle.loading.proofs.opening.opens.Statement.{statement}
@@ -41,7 +41,7 @@ returns-3 c =
     let s = c.before.before in
     sym (opened _ _ _ s.before.before.before.before.before.before.if1.false
     ∙ rw (
-      eq_eqb _ _ s.before.before.before.before.if2.false,
+      eq-eqb _ _ s.before.before.before.before.if2.false,
       ← s.before.before.wide.ensures.0,
       ← s.wide2.ensures.0,
       ne_eqb _ _ (λ e. c.if3.true (e ∙ sym c.before.wide3.ensures.0)),
@@ -55,10 +55,10 @@ returns-4 c =
     let s = c.before.before in
     sym (opened _ _ _ s.before.before.before.before.before.before.if1.false
     ∙ rw (
-      eq_eqb _ _ s.before.before.before.before.if2.false,
+      eq-eqb _ _ s.before.before.before.before.if2.false,
       ← s.before.before.wide.ensures.0,
       ← s.wide2.ensures.0,
-      eq_eqb _ _ (c.if3.false ∙ c.before.wide3.ensures.0),
+      eq-eqb _ _ (c.if3.false ∙ c.before.wide3.ensures.0),
     ))
 
 pub opens-spec : {M : Type 1} → statement M

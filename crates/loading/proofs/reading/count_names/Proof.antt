@@ -1,7 +1,7 @@
 -- `reading::count_names` meets its contract: a law of Cutting for each exit.
 use Prim.Native.Nat.{◌+◌}
 use lib.ListN.{get_or}
-use borrow.Author.Tests.{not_true, not_false}
+use borrow.Author.Tests.{not-true, not-false}
 use Rattle.loading.proofs.Cutting.{seen, names_short, names_many, names_shut, names_open}
 use borrow.Author.Rules.{rules}
 use Rattle.loading.proofs.reading.count_names.Statement.{statement}
@@ -40,7 +40,7 @@ returns-3 c = names_shut _ _ _
     (get_or c.before.before.before.before.before.before.before.args.bytes.now
     (c.before.before.before.before.before.before.before.args.from + 2) 0)
     c.before.before.before.before.before.before.before.args.bytes.now
-    c.before.before.before.before.before.before.before.args.from c.before.opens.ensures (not_true _ c.if3.true))
+    c.before.before.before.before.before.before.before.args.from c.before.opens.ensures (not-true _ c.if3.true))
 
 cast-result : tie.Need-overflow-cast-result
 cast-result c = search rules
@@ -51,7 +51,7 @@ returns-4 c = names_open _ _ _
     (get_or c.before.before.before.before.before.before.before.args.bytes.now
     (c.before.before.before.before.before.before.before.args.from + 2) 0)
     c.before.before.before.before.before.before.before.args.bytes.now
-    c.before.before.before.before.before.before.before.args.from c.before.opens.ensures (not_false _ c.if3.false))
+    c.before.before.before.before.before.before.before.args.from c.before.opens.ensures (not-false _ c.if3.false))
 
 pub count-names-spec : {M : Type 1} → statement M
 count-names-spec = tie.close (tie.spec sub-if1 returns add-size shared-slice-read-size returns-2 sub-opens part-opens-start part-opens-end

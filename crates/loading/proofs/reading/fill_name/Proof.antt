@@ -1,12 +1,12 @@
 -- `reading::fill_name` meets its contract: the queue of its tag.
-use borrow.Author.Tests.{eq_eqb, ne_eqb}
+use borrow.Author.Tests.{eq-eqb, ne_eqb}
 use Rattle.loading.proofs.reading.fill_name.Statement.{statement}
 use Rattle.loading.proofs.reading.fill_name.Tie as tie
 
 fill-ready-requires : tie.Need-fill-ready-requires
 fill-ready-requires c κs = (
   c.before.before.before.requires.0,
-  rw (eq_eqb c.before.before.before.args.tag 3 c.before.if1.true)
+  rw (eq-eqb c.before.before.before.args.tag 3 c.before.if1.true)
       at c.before.before.before.requires.1,
 )
 
@@ -14,7 +14,7 @@ same_length : tie.Need-same-length
 same_length c = c.before.m.given
 
 returns : tie.Need-returns
-returns c = rw (eq_eqb c.before.before.before.before.before.before.args.tag 3 c.before.before.before.before.if1.true)
+returns c = rw (eq-eqb c.before.before.before.before.before.before.args.tag 3 c.before.before.before.before.if1.true)
     c.before.before.fill-ready.ensures
 
 fill-clock-requires : tie.Need-fill-clock-requires

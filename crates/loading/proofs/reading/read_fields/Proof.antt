@@ -1,6 +1,6 @@
 -- `reading::read_fields` meets its contract: no head, or a head in a cleared memory and the rest behind it.
 use mathlib.Core.Path.{sym, ◌∙◌}
-use borrow.Author.Tests.{not_true, not_false}
+use borrow.Author.Tests.{not-true, not-false}
 use Rattle.loading.proofs.Cutting.{opens_room}
 use Rattle.loading.proofs.Finding.{not_headed, head_empty, all_found}
 use native.Mathlib.Omega.{arith}
@@ -12,7 +12,7 @@ opens-requires : tie.Need-opens-requires
 opens-requires c κs = search rules
 
 returns : tie.Need-returns
-returns c = not_headed _ _ (sym c.before.opens.ensures ∙ not_true _ c.if1.true)
+returns c = not_headed _ _ (sym c.before.opens.ensures ∙ not-true _ c.if1.true)
 
 cast-clear : tie.Need-overflow-cast-clear
 cast-clear c = search rules
@@ -30,7 +30,7 @@ read-head-requires c κs = (
     arith,
     (opens_room 1 9 c.before.before.before.before.before.before.before.before.before.args.bytes.now
         (sym c.before.before.before.before.before.before.opens.ensures
-        ∙ not_false _ c.before.before.before.before.before.if1.false)).1,
+        ∙ not-false _ c.before.before.before.before.before.if1.false)).1,
   ),
 )
 
@@ -48,7 +48,7 @@ read-rest-requires c κs = (
     (opens_room 1 9
         c.before.before.before.before.before.before.before.before.before.before.before.before.before.args.bytes.now
         (sym c.before.before.before.before.before.before.before.before.before.before.opens.ensures
-        ∙ not_false _ c.before.before.before.before.before.before.before.before.before.if1.false)).1,
+        ∙ not-false _ c.before.before.before.before.before.before.before.before.before.if1.false)).1,
   ),
 )
 

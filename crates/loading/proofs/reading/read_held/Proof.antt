@@ -3,7 +3,7 @@ use Prim.Native.Nat.{◌-◌}
 use mathlib.Core.Path.{◌≡◌, refl}
 use mathlib.Core.Bool.{true}
 use lib.ListN.{drop}
-use borrow.Author.Tests.{not_true, not_false}
+use borrow.Author.Tests.{not-true, not-false}
 use Rattle.rules.specs.Lists.{all}
 use Rattle.loading.specs.Reading.{opens}
 use Rattle.loading.proofs.Cutting.{seen, field_within}
@@ -25,7 +25,7 @@ more : (w : tie.Else1 invariant-loop decreases-loop) →
     opens 6 5 (drop w.before.before.before.before.loop.at
     w.before.before.before.before.before.before.before.args.bytes.now) ≡ true
 more w = seen 6 5 w.before.before.before.before.before.before.before.args.bytes.now
-    w.before.before.before.before.loop.at w.before.opens.ensures (not_false _ w.if1.false)
+    w.before.before.before.before.loop.at w.before.opens.ensures (not-false _ w.if1.false)
 
 loop-holds : tie.Need-loop-init invariant-loop decreases-loop
 unfolding all
@@ -50,7 +50,7 @@ same_length c = c.before.before.before.before.loop.invariant.long
 returns : tie.Need-returns invariant-loop decreases-loop
 returns c = rowing_ends held_kind _ _ _ _ _ _ c.before.before.before.before.loop.invariant
     (seen 6 5 c.before.before.before.before.before.before.before.args.bytes.now c.before.before.before.before.loop.at
-    c.before.opens.ensures (not_true _ c.if1.true))
+    c.before.opens.ensures (not-true _ c.if1.true))
 
 add_start : tie.Need-overflow-add-start invariant-loop decreases-loop
 add_start c = search rules

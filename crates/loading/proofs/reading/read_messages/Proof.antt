@@ -3,7 +3,7 @@ use Prim.Native.Nat.{◌-◌}
 use mathlib.Core.Path.{◌≡◌, refl, ap}
 use mathlib.Core.Bool.{true}
 use lib.ListN.{length, drop}
-use borrow.Author.Tests.{not_true, not_false}
+use borrow.Author.Tests.{not-true, not-false}
 use Rattle.store.specs.Store.{tables}
 use Rattle.loading.specs.Reading.{opens}
 use Rattle.loading.proofs.Cutting.{seen, field_within}
@@ -25,7 +25,7 @@ more : (w : tie.Else1 invariant-loop decreases-loop) →
     opens 5 7 (drop w.before.before.before.before.loop.at
     w.before.before.before.before.before.before.before.args.bytes.now) ≡ true
 more w = seen 5 7 w.before.before.before.before.before.before.before.args.bytes.now
-    w.before.before.before.before.loop.at w.before.opens.ensures (not_false _ w.if1.false)
+    w.before.before.before.before.loop.at w.before.opens.ensures (not-false _ w.if1.false)
 
 loop-holds : tie.Need-loop-init invariant-loop decreases-loop
 loop-holds c = rowing_starts message_kind _ _ _ c.before.before.requires.0 c.before.before.requires.1 c.before.before.requires.2
@@ -49,7 +49,7 @@ same_length c = c.before.before.before.before.loop.invariant.long
 returns : tie.Need-returns invariant-loop decreases-loop
 returns c = rowing_ends message_kind _ _ _ _ _ _ c.before.before.before.before.loop.invariant
     (seen 5 7 c.before.before.before.before.before.before.before.args.bytes.now c.before.before.before.before.loop.at
-    c.before.opens.ensures (not_true _ c.if1.true))
+    c.before.opens.ensures (not-true _ c.if1.true))
 
 add_start : tie.Need-overflow-add-start invariant-loop decreases-loop
 add_start c = search rules

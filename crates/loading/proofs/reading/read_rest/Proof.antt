@@ -1,6 +1,6 @@
 -- `reading::read_rest` meets its contract: the stages together, and a law of Finding for each exit.
 use mathlib.Core.Path.{ap, ◌∙◌}
-use borrow.Author.Tests.{not_true}
+use borrow.Author.Tests.{not-true}
 use Rattle.rules.specs.Tables.{Tables}
 use Rattle.loading.proofs.Filling.{still_small}
 use Rattle.loading.proofs.Finding.{stages, no_ready, no_clock, rest_found}
@@ -84,7 +84,7 @@ returns c =
     c.before.before.before.before.before.before.before.before.before.before.before.before.before.before.before.before.read_names.ensures
     c.before.before.before.before.before.before.before.before.before.before.before.before.read-names2.ensures
     c.before.before.before.before.before.before.before.before.read-messages.ensures
-    c.before.before.before.before.read_held.ensures) (not_true _ c.if1.true)
+    c.before.before.before.before.read_held.ensures) (not-true _ c.if1.true)
 
 same-length-2 : tie.Need-same-length-2
 same-length-2 c = c.before.before.before.before.before.m5.given
@@ -100,7 +100,7 @@ returns-2 c =
     c.before.before.before.before.before.before.before.before.before.before.before.before.before.before.before.before.before.before.before.before.before.before.read-threads.ensures
     c.before.before.before.before.before.before.before.before.before.before.before.before.before.before.before.before.before.before.read_names.ensures
     c.before.before.before.before.before.before.before.before.before.before.before.before.before.before.read-names2.ensures c.before.before.before.before.before.before.before.before.before.before.read-messages.ensures
-    c.before.before.before.before.before.before.read_held.ensures) (not_true _ c.if2.true)
+    c.before.before.before.before.before.before.read_held.ensures) (not-true _ c.if2.true)
 
 same-length-3 : tie.Need-same-length-3
 same-length-3 c = c.before.before.before.before.before.m5.given

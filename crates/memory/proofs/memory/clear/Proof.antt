@@ -2,7 +2,7 @@
 use mathlib.Core.Path.{ap, ◌∙◌}
 use mathlib.Core.List.{[]}
 use native.Mathlib.Omega.{arith}
-use lib.ListN.{length_set}
+use lib.ListN.{length-set}
 use borrow.Author.Rules.{rules}
 use Rattle.memory.specs.Rows.{put_held}
 use Rattle.memory.proofs.Fields.{still_roomy}
@@ -14,28 +14,28 @@ slice-write-m : tie.Need-slice-write-m
 slice-write-m c = search rules
 
 slice-write-m-2 : tie.Need-slice-write-m-2
-slice-write-m-2 c = simp length_set (omega arith)
+slice-write-m-2 c = simp length-set (omega arith)
 
 slice-write-m-3 : tie.Need-slice-write-m-3
-slice-write-m-3 c = simp length_set (omega arith)
+slice-write-m-3 c = simp length-set (omega arith)
 
 slice-write-m-4 : tie.Need-slice-write-m-4
-slice-write-m-4 c = simp length_set (omega arith)
+slice-write-m-4 c = simp length-set (omega arith)
 
 slice-write-m-5 : tie.Need-slice-write-m-5
-slice-write-m-5 c = simp length_set (omega arith)
+slice-write-m-5 c = simp length-set (omega arith)
 
 slice-write-m-6 : tie.Need-slice-write-m-6
-slice-write-m-6 c = simp length_set (omega arith)
+slice-write-m-6 c = simp length-set (omega arith)
 
 slice-write-m-7 : tie.Need-slice-write-m-7
-slice-write-m-7 c = simp length_set (omega arith)
+slice-write-m-7 c = simp length-set (omega arith)
 
 slice-write-m-8 : tie.Need-slice-write-m-8
-slice-write-m-8 c = simp length_set (omega arith)
+slice-write-m-8 c = simp length-set (omega arith)
 
 slice-write-m-9 : tie.Need-slice-write-m-9
-slice-write-m-9 c = simp length_set (omega arith)
+slice-write-m-9 c = simp length-set (omega arith)
 
 set-runner-requires : tie.Need-set-runner-requires
 set-runner-requires c κs = let s = c.before.before in

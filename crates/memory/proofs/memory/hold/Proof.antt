@@ -1,6 +1,6 @@
 -- `memory::memory::hold` meets its contract.
 use native.Mathlib.Omega.{arith}
-use lib.ListN.{length_set}
+use lib.ListN.{length-set}
 use borrow.Author.Rules.{rules}
 use Rattle.memory.specs.Memory.{rows_of}
 use Rattle.memory.proofs.Helds.{hold_put}
@@ -28,7 +28,7 @@ mul-m-2 c = search rules
 
 slice-write-m-2 : tie.Need-slice-write-m-2
 unfolding rows_of
-slice-write-m-2 c = simp length_set (omega arith)
+slice-write-m-2 c = simp length-set (omega arith)
 
 same_length : tie.Need-same-length
 same_length c = search rules

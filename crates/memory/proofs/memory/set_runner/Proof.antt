@@ -1,6 +1,6 @@
 -- `memory::memory::set_runner` meets its contract.
 use native.Mathlib.Omega.{arith}
-use lib.ListN.{length_set}
+use lib.ListN.{length-set}
 use borrow.Author.Rules.{rules}
 use Rattle.memory.specs.Memory.{rows_of}
 use Rattle.memory.proofs.Changes.{runner_put}
@@ -16,7 +16,7 @@ slice-write-m c = omega arith
 
 slice-write-m-2 : tie.Need-slice-write-m-2
 unfolding rows_of
-slice-write-m-2 c = simp length_set (omega arith)
+slice-write-m-2 c = simp length-set (omega arith)
 
 same_length : tie.Need-same-length
 same_length c = search rules

@@ -1,7 +1,7 @@
 -- `memory::memory::thread_words` meets its contract.
 use mathlib.Core.Path.{sym, ap, ◌∙◌}
 use native.Mathlib.Omega.{arith}
-use lib.ListN.{length_take, length_drop}
+use lib.ListN.{length-take, length-drop}
 use borrow.Author.Rules.{rules}
 use Rattle.words.specs.Saying.{thread_in}
 use Rattle.memory.specs.Memory.{rows_of, thread_of}
@@ -35,7 +35,7 @@ part-result-end c = omega arith
 returns : tie.Need-returns
 unfolding rows_of
 returns c = let s = c.before in (
-  simp (length_take, length_drop) (omega arith),
+  simp (length-take, length-drop) (omega arith),
   ap thread_in (lent_is s.args.m.now (thread_place s.args.i) 11)
       ∙ sym (row_at (thread_of s.args.m.now) _ s.args.i _ s.requires.1),
 )

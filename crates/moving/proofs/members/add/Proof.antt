@@ -8,7 +8,7 @@ use Rattle.memory.specs.Memory.{rows_of}
 use Rattle.memory.specs.Rows.{Roomy, put_ends, put_ended, members}
 use Rattle.moving.proofs.Steps.{by}
 use Rattle.memory.proofs.Sizes.{ended_long}
-use lib.Seq.{length_take_le}
+use lib.Seq.{length-take-le}
 use Rattle.moving.proofs.Loops.{wrote}
 use Rattle.moving.proofs.Marking.{marks_of}
 use Rattle.moving.proofs.members.add.Statement.{statement}
@@ -66,7 +66,7 @@ returns c = let e = c.before.before.set-ends.ensures
           ))) (c.before.before.before.before.before.before.before.before.mark.ensures
           (members (rows_of
           c.before.before.before.before.before.before.before.before.before.before.before.before.before.args.m.now))
-          (length_take_le
+          (length-take-le
           (rows_of c.before.before.before.before.before.before.before.before.before.before.before.before.before.args.m.now
           ).ends (rows_of
           c.before.before.before.before.before.before.before.before.before.before.before.before.before.args.m.now).ended

@@ -5,7 +5,7 @@ use lib.ListN.{take}
 use borrow.Author.Rules.{rules}
 use Rattle.rules.specs.Lists.{has as has_in}
 use Rattle.memory.specs.Memory.{rows_of}
-use lib.Seq.{take_take}
+use lib.Seq.{take-take}
 use native.Mathlib.Omega.{arith}
 use Rattle.memory.specs.Rows.{members}
 use Rattle.moving.proofs.members.is_member.Statement.{statement}
@@ -21,7 +21,7 @@ returns : tie.Need-returns
 returns c = c.has.ensures (members (rows_of c.before.before.before.args.m.now)) c.before.before.before.requires.2
     ∙ (ap (λ (k : ℕ). has_in c.before.before.before.args.name (take k (members (rows_of c.before.before.before.args.m.now))))
     c.before.ends.ensures ∙ ap (has_in c.before.before.before.args.name)
-    (take_take (rows_of c.before.before.before.args.m.now).ends (rows_of c.before.before.before.args.m.now).ends
+    (take-take (rows_of c.before.before.before.args.m.now).ends (rows_of c.before.before.before.args.m.now).ends
     (rows_of c.before.before.before.args.m.now).ended (omega arith)))
 
 pub is-member-spec : {M : Type 1} → statement M

@@ -3,7 +3,7 @@ use mathlib.Core.Path.{sym, ◌∙◌}
 use borrow.Author.Rules.{rules}
 use Rattle.moving.proofs.Sets.{is_gone, lose_none}
 use native.Mathlib.Omega.{arith}
-use lib.Seq.{take_take}
+use lib.Seq.{take-take}
 use Rattle.memory.specs.Memory.{rows_of}
 use Rattle.memory.specs.Rows.{members}
 use Rattle.moving.proofs.members.lose.Statement.{statement}
@@ -35,7 +35,7 @@ returns c =
     (sym (rw (
       c.before.before.before.before.before.before.before.before.ends.ensures,
       c.before.before.before.before.before.before.manager-at.ensures,
-      take_take (rows_of c.before.before.before.before.before.before.before.before.before.before.before.args.m.now).ends
+      take-take (rows_of c.before.before.before.before.before.before.before.before.before.before.before.args.m.now).ends
           (rows_of c.before.before.before.before.before.before.before.before.before.before.before.args.m.now).ends
           (rows_of c.before.before.before.before.before.before.before.before.before.before.before.args.m.now).ended
           (omega arith),
@@ -53,7 +53,7 @@ returns-2 c =
     (sym (rw (
       c.before.before.before.before.ends.ensures,
       c.before.before.manager-at.ensures,
-      take_take (rows_of c.before.before.before.before.before.before.before.args.m.now).ends
+      take-take (rows_of c.before.before.before.before.before.before.before.args.m.now).ends
           (rows_of c.before.before.before.before.before.before.before.args.m.now).ends
           (rows_of c.before.before.before.before.before.before.before.args.m.now).ended (omega arith),
     ) at (c.before.is-managed.ensures (members (rows_of c.before.before.before.before.before.before.before.args.m.now))

@@ -1,5 +1,5 @@
 -- `moving::messages::is_wanted` meets its contract. By cases, whether it is in the inbox.
-use borrow.Author.Tests.{eq_eqb, ne_eqb}
+use borrow.Author.Tests.{eq-eqb, ne_eqb}
 use borrow.Author.Rules.{rules}
 use Rattle.moving.proofs.messages.is_wanted.Statement.{statement}
 use Rattle.moving.proofs.messages.is_wanted.Tie as tie
@@ -17,7 +17,7 @@ returns : tie.Need-returns
 returns c = rw (
   ← c.before.sender-at.ensures,
   ← c.before.before.before.receiver-at.ensures,
-  eq_eqb _ _ c.before.before.if1.true,
+  eq-eqb _ _ c.before.before.if1.true,
 ) c.matches.ensures
 
 returns-2 : tie.Need-returns-2

@@ -3,7 +3,7 @@ use Prim.Native.Nat.{◌-◌}
 use mathlib.Core.Bool.{not}
 use native.Mathlib.Omega.{arith}
 use lib.Dec.{leb}
-use borrow.Author.Tests.{le_leb, lt_leb}
+use borrow.Author.Tests.{le-leb, lt-leb}
 use borrow.Author.Rules.{rules}
 use Rattle.laws.specs.Words.{Message}
 use Rattle.memory.specs.Rows.{no_message}
@@ -35,7 +35,7 @@ receiver-at-requires c κs = (
 returns : tie.Need-returns invariant-loop decreases-loop
 returns c = rw (← c.before.before.before.before.letters.ensures)
     (seek_finds _ _ _ _ no_message c.before.before.before.loop.invariant c.before.before.loop-test.true
-    (rw (← c.before.receiver-at.ensures, lt_leb _ _ c.if1.true)))
+    (rw (← c.before.receiver-at.ensures, lt-leb _ _ c.if1.true)))
 
 add-i : tie.Need-overflow-add-i invariant-loop decreases-loop
 add-i c = omega arith
@@ -45,7 +45,7 @@ loop-less c = omega arith
 
 loop-again : tie.Need-loop-preserved invariant-loop decreases-loop
 loop-again c = seek_next _ _ _ _ no_message c.before.before.before.loop.invariant c.before.before.loop-test.true
-    (rw (← c.before.receiver-at.ensures, le_leb _ _ c.if1.false))
+    (rw (← c.before.receiver-at.ensures, le-leb _ _ c.if1.false))
 
 returns-2 : tie.Need-returns-2 invariant-loop decreases-loop
 returns-2 c = rw (← c.before.before.letters.ensures) (seek_ends _ _ _ _ c.before.loop.invariant c.loop-test.false)

@@ -1,6 +1,6 @@
 -- `moving::threads::find` meets its contract. One thread at most has the name, so the one at the hint is the first.
 use native.Mathlib.Omega.{arith}
-use borrow.Author.Tests.{eq_eqb}
+use borrow.Author.Tests.{eq-eqb}
 use borrow.Author.Rules.{rules}
 use Rattle.rules.specs.Tables.{named}
 use Rattle.memory.specs.Rows.{no_thread}
@@ -19,7 +19,7 @@ returns : tie.Need-returns
 returns c = let here = c.before.is_at.ensures c.if1.true in
     hint_place (named c.before.before.before.before.args.name) _ _ _ no_thread
     (omega (arith, threads_long c.before.before.before.before.args.m.now, c.before.before.before.before.requires.1)) here.0
-    (eq_eqb _ _ here.1) c.before.before.before.before.requires.2
+    (eq-eqb _ _ here.1) c.before.before.before.before.requires.2
 
 walk-requires : tie.Need-walk-requires
 walk-requires c κs = search rules

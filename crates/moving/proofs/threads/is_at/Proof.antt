@@ -2,7 +2,7 @@
 use mathlib.Core.Path.{◌∙◌}
 use mathlib.Core.Bool.{false≢true}
 use native.Mathlib.Omega.{arith}
-use borrow.Author.Tests.{eqb_true}
+use borrow.Author.Tests.{eqb-true}
 use borrow.Author.Rules.{rules}
 use Rattle.moving.proofs.threads.is_at.Statement.{statement}
 use Rattle.moving.proofs.threads.is_at.Tie as tie
@@ -14,7 +14,7 @@ name-at-requires : tie.Need-name-at-requires
 name-at-requires c κs = search rules
 
 returns : tie.Need-returns
-returns c = λ e. (omega (arith, c.before.if1.true, c.before.before.count.ensures), eqb_true _ _ e ∙ c.name_at.ensures)
+returns c = λ e. (omega (arith, c.before.if1.true, c.before.before.count.ensures), eqb-true _ _ e ∙ c.name_at.ensures)
 
 returns-2 : tie.Need-returns-2
 returns-2 c = λ e. absurd (false≢true e)

@@ -2,7 +2,7 @@
 use Prim.Native.Nat.{◌-◌}
 use mathlib.Core.Path.{sym, ◌∙◌}
 use native.Mathlib.Omega.{arith}
-use borrow.Author.Tests.{eq_eqb, ne_eqb}
+use borrow.Author.Tests.{eq-eqb, ne_eqb}
 use borrow.Author.Rules.{rules}
 use Rattle.rules.specs.Tables.{named}
 use Rattle.memory.specs.Rows.{no_thread}
@@ -34,7 +34,7 @@ name-at-requires c κs = (
 returns : tie.Need-returns invariant-loop decreases-loop
 returns c = rw (← c.before.before.before.before.count.ensures)
     (seek_finds _ _ _ _ no_thread c.before.before.before.loop.invariant c.before.before.loop-test.true
-    (eq_eqb _ _ (c.if1.true ∙ c.before.name_at.ensures)))
+    (eq-eqb _ _ (c.if1.true ∙ c.before.name_at.ensures)))
 
 add-i : tie.Need-overflow-add-i invariant-loop decreases-loop
 add-i c = omega arith

@@ -5,7 +5,7 @@ use mathlib.Core.Path.{sym, ap, ◌∙◌}
 use mathlib.Core.Bool.{not}
 use mathlib.Core.Logic.{inl, inr, ⊎_elim}
 use lib.ListN.{length}
-use borrow.Author.Tests.{not_false}
+use borrow.Author.Tests.{not-false}
 use Rattle.fields.proofs.Sizes.{Inside, inside}
 use Rattle.buffer.proofs.Putting.{room}
 use Rattle.printing.proofs.Turning.{Going, going_starts, going_on, line_fits, ends_cut, ends_full, ends_served}
@@ -120,7 +120,7 @@ loop-again c =
     let at-loop = at-loop-test.before in
     let f = found at-field-at in
     going_on at-loop.loop.invariant at-loop-test.loop-test.true
-    (⊎_elim (λ w. inr (not_false _ w.1.left)) (λ w. inl (sym f.all_there ∙ not_false _ w.left)) at-if1.if1.branch)
+    (⊎_elim (λ w. inr (not-false _ w.1.left)) (λ w. inl (sym f.all_there ∙ not-false _ w.left)) at-if1.if1.branch)
     f.ends f.within at-step.step.ensures at-m.m.given at-put-line.put-line.ensures at-put-line.put-line.auto.0
 
 same-length-5 : tie.Need-same-length-5 invariant-loop decreases-loop

@@ -2,7 +2,7 @@
 use Prim.Native.Nat.{ℕ, ◌-◌}
 use mathlib.Core.Path.{ap₂, ◌∙◌}
 use native.Mathlib.Omega.{arith}
-use lib.ListN.{length_replicate}
+use lib.ListN.{length-replicate}
 use borrow.Author.Rules.{rules}
 use Rattle.laws.specs.Words.{Parent}
 use Rattle.memory.specs.Rows.{view, no_thread}
@@ -27,7 +27,7 @@ loop-holds : tie.Need-loop-init invariant-loop decreases-loop
 loop-holds c = raise_starts _ _ _ (threads_whole c.before.before.args.m.now c.before.before.requires.0)
     (omega (
       arith,
-      length_replicate {A = ℕ} 256 0,
+      length-replicate {A = ℕ} 256 0,
       counted c.before.before.args.m.now c.before.before.requires.0,
       few c.before.before.args.m.now c.before.before.requires.0,
     ))

@@ -2,7 +2,7 @@
 use Prim.Native.Nat.{◌+◌, ◌*◌}
 use mathlib.Core.Path.{sym, ◌∙◌}
 use native.Mathlib.Omega.{arith}
-use borrow.Author.Tests.{not_true, not_false}
+use borrow.Author.Tests.{not-true, not-false}
 use borrow.Author.Rules.{rules}
 use Rattle.stepping.proofs.Fields.{too_short, unknown, Head, wrong_length, wrong_size, whole}
 use Rattle.stepping.proofs.decode.decode.Statement.{statement}
@@ -17,7 +17,7 @@ head w =
       bytes = t.before.before.before.shared-slice-known.given;
       long = t.before.before.if1.false;
       says = t.tag_facts.ensures;
-      known = not_false _ w.before.before.before.before.if2.false;
+      known = not-false _ w.before.before.before.before.if2.false;
       gives = rw (w.before.before.wide.ensures.0, w.wide2.ensures.0);
     }
 
@@ -34,7 +34,7 @@ returns-2 : tie.Need-returns-2
 returns-2 c =
     let t = c.before.before in
     sym (unknown t.before.before.before.before.args.s.now t.before.before.before.shared-slice-known.given
-    t.before.before.if1.false t.tag_facts.result t.tag_facts.ensures (not_true _ c.if2.true))
+    t.before.before.if1.false t.tag_facts.result t.tag_facts.ensures (not-true _ c.if2.true))
 
 shared-slice-read-wide : tie.Need-shared-slice-read-wide
 shared-slice-read-wide c = search rules

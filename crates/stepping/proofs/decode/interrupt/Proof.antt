@@ -1,5 +1,5 @@
 -- `decode::interrupt` meets its contract: by the refusal of the pick.
-use borrow.Author.Tests.{eq_eqb, ne_eqb}
+use borrow.Author.Tests.{eq-eqb, ne_eqb}
 use borrow.Author.Rules.{rules}
 use Rattle.rules.specs.Events.{interrupt_of}
 use Rattle.stepping.proofs.decode.interrupt.Statement.{statement}
@@ -10,7 +10,7 @@ pick-requires c κs = search rules
 
 returns : tie.Need-returns
 unfolding interrupt_of
-returns c = rw (← c.before.before.pick.ensures, eq_eqb c.before.before.pick.result.refusal 0 c.if1.true)
+returns c = rw (← c.before.before.pick.ensures, eq-eqb c.before.before.pick.result.refusal 0 c.if1.true)
 
 returns-2 : tie.Need-returns-2
 unfolding interrupt_of

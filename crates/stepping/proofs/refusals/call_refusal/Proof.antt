@@ -1,6 +1,6 @@
 -- `refusals::call_refusal` meets its contract, call by call: the first of its rules that holds.
 use mathlib.Core.Path.{sym, ◌∙◌}
-use borrow.Author.Tests.{eq_eqb, ne_eqb}
+use borrow.Author.Tests.{eq-eqb, ne_eqb}
 use Rattle.rules.specs.Refusals.{first_of, call_rules}
 use borrow.Author.Rules.{rules}
 use Rattle.stepping.proofs.refusals.call_refusal.Statement.{statement}
@@ -23,7 +23,7 @@ enum_told c = search rules
 
 returns : tie.Need-returns
 unfolding first_of call_rules
-returns c = rw (c.before.enum_told.given.1, eq_eqb _ _ c.if2.true)
+returns c = rw (c.before.enum_told.given.1, eq-eqb _ _ c.if2.true)
 
 threads-full-requires : tie.Need-threads-full-requires
 threads-full-requires c κs = c.before.before.before.before.requires.holding.shaped

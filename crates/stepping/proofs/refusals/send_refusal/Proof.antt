@@ -1,7 +1,7 @@
 -- `refusals::send_refusal` meets its contract: the first of its three rules that holds.
 use mathlib.Core.Path.{◌≡◌, sym, ap, ◌∙◌}
 use mathlib.Core.Bool.{true}
-use borrow.Author.Tests.{not_true, not_false, lt_ltb, le_ltb}
+use borrow.Author.Tests.{not-true, not-false, lt-ltb, le-ltb}
 use Rattle.rules.specs.Lists.{any}
 use Rattle.rules.specs.Tables.{live}
 use Rattle.rules.specs.Waking.{accepts}
@@ -14,7 +14,7 @@ use Rattle.stepping.proofs.refusals.send_refusal.Statement.{statement}
 use Rattle.stepping.proofs.refusals.send_refusal.Tie as tie
 
 lives : (c : tie.Else1) → let a = c.before.before.before.args in live a.to (tables a.m.now) ≡ true
-lives c = sym c.before.is_live.ensures ∙ not_false _ c.if1.false
+lives c = sym c.before.is_live.ensures ∙ not-false _ c.if1.false
 
 waited-for : (c : tie.After-is-awaited) → let a = c.before.before.before.before.before.before.before.args in
     any (accepts (message a.to a.me a.word)) (tables a.m.now).threads ≡ c.is-awaited.result
@@ -27,7 +27,7 @@ is-live-requires c κs = c.before.requires
 
 returns : tie.Need-returns
 unfolding first_of call_rules
-returns c = rw (sym c.before.is_live.ensures ∙ not_true _ c.if1.true)
+returns c = rw (sym c.before.is_live.ensures ∙ not-true _ c.if1.true)
 
 decides-requires : tie.Need-decides-requires
 decides-requires c κs = c.before.before.before.requires
@@ -35,12 +35,12 @@ decides-requires c κs = c.before.before.before.requires
 returns-2 : tie.Need-returns-2
 unfolding first_of call_rules
 returns-2 c =
-    rw (lives c.before.before.before, sym c.before.before.decides.ensures ∙ c.before.if2.true, lt_ltb _ _ c.if3.true)
+    rw (lives c.before.before.before, sym c.before.before.decides.ensures ∙ c.before.if2.true, lt-ltb _ _ c.if3.true)
 
 returns-3 : tie.Need-returns-3
 unfolding first_of call_rules
 returns-3 c =
-    rw (lives c.before.before.before, sym c.before.before.decides.ensures ∙ c.before.if2.true, le_ltb _ _ c.if3.false)
+    rw (lives c.before.before.before, sym c.before.before.decides.ensures ∙ c.before.if2.true, le-ltb _ _ c.if3.false)
 
 message-requires : tie.Need-message-requires
 message-requires c κs = search rules

@@ -1,6 +1,6 @@
 -- `looks::receives` answers as the rule, by the words.
 use mathlib.Core.Path.{sym}
-use borrow.Author.Tests.{eq_eqb, ne_eqb}
+use borrow.Author.Tests.{eq-eqb, ne_eqb}
 use Rattle.rules.specs.States.{receives}
 use Rattle.words.specs.Saying.{state_in}
 use Rattle.words.proofs.Looking.{no_receiver}
@@ -16,7 +16,7 @@ byte-requires c κs = search rules
 
 returns-2 : tie.Need-returns-2
 unfolding receives state_in
-returns-2 c = rw (c.before.if1.false, eq_eqb _ _ c.if2.true)
+returns-2 c = rw (c.before.if1.false, eq-eqb _ _ c.if2.true)
 
 returns-3 : tie.Need-returns-3
 unfolding receives state_in

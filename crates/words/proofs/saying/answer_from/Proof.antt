@@ -1,5 +1,5 @@
 -- `answer_from` reads an answer as it is said, kind by kind.
-use borrow.Author.Tests.{eq_eqb, ne_eqb}
+use borrow.Author.Tests.{eq-eqb, ne_eqb}
 use Rattle.words.specs.Saying.{answer_in}
 use mathlib.Core.Logic.{⊎_elim}
 use borrow.Author.Rules.{rules}
@@ -23,7 +23,7 @@ returns-2 : tie.Need-returns-2
 unfolding answer_in
 returns-2 c = rw c.before.match.keys1
     (⊎_elim
-    (λ z. rw (eq_eqb _ _ z.0.taken, z.1.left))
+    (λ z. rw (eq-eqb _ _ z.0.taken, z.1.left))
     (λ z. rw (ne_eqb _ _ z.left))
     c.if1.branch)
 

@@ -1,5 +1,5 @@
 -- `runner_from` reads the runner as it is said.
-use borrow.Author.Tests.{eq_eqb, ne_eqb}
+use borrow.Author.Tests.{eq-eqb, ne_eqb}
 use Rattle.words.specs.Saying.{runner_in}
 use mathlib.Core.Logic.{⊎_elim}
 use borrow.Author.Rules.{rules}
@@ -19,7 +19,7 @@ returns c = rw (c.before.if1.true, c.if2.true)
 returns-2 : tie.Need-returns-2
 unfolding runner_in
 returns-2 c = ⊎_elim
-    (λ z. rw (eq_eqb _ _ z.0.taken, z.1.left, c.before.byte.ensures, c.byte2.ensures))
+    (λ z. rw (eq-eqb _ _ z.0.taken, z.1.left, c.before.byte.ensures, c.byte2.ensures))
     (λ z. rw (ne_eqb _ _ z.left, c.before.byte.ensures, c.byte2.ensures))
     c.before.before.if1.branch
 

@@ -1,5 +1,5 @@
 -- `sender_from` reads a sender as it is said, for both kinds.
-use borrow.Author.Tests.{lt_ltb, le_ltb}
+use borrow.Author.Tests.{lt-ltb, le-ltb}
 use borrow.Author.Rules.{rules}
 use Rattle.words.proofs.saying.sender_from.Statement.{statement}
 use Rattle.words.proofs.saying.sender_from.Tie as tie
@@ -11,10 +11,10 @@ byte-requires : tie.Need-byte-requires
 byte-requires c κs = search rules
 
 returns : tie.Need-returns
-returns c = rw (lt_ltb _ 256 c.if1.true)
+returns c = rw (lt-ltb _ 256 c.if1.true)
 
 returns-2 : tie.Need-returns-2
-returns-2 c = rw (le_ltb _ 256 c.before.if1.false) c.byte.ensures
+returns-2 c = rw (le-ltb _ 256 c.before.if1.false) c.byte.ensures
 
 pub sender-from-spec : {M : Type 1} → statement M
 sender-from-spec = tie.close (tie.spec cast-result byte-requires returns returns-2)

@@ -1,5 +1,5 @@
 -- `turn_thread` writes the words of the state and of the answer, and leaves the others.
-use lib.ListN.{length_set}
+use lib.ListN.{length-set}
 use Rattle.words.proofs.Said.{turned_said}
 use native.Mathlib.Omega.{arith}
 use borrow.Author.Rules.{rules}
@@ -25,7 +25,7 @@ slice-write-w-4 : tie.Need-slice-write-w-4
 slice-write-w-4 c = search rules
 
 slice-write-w-5 : tie.Need-slice-write-w-5
-slice-write-w-5 c = simp length_set (omega arith)
+slice-write-w-5 c = simp length-set (omega arith)
 
 same_length : tie.Need-same-length
 same_length c = search rules

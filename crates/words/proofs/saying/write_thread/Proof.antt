@@ -1,5 +1,5 @@
 -- `write_thread` writes eleven words that say the thread.
-use lib.ListN.{length_set}
+use lib.ListN.{length-set}
 use Rattle.words.proofs.Said.{thread_said}
 use native.Mathlib.Omega.{arith}
 use borrow.Author.Rules.{rules}
@@ -34,34 +34,34 @@ manager-word-requires : tie.Need-manager-word-requires
 manager-word-requires c κs = search rules
 
 slice-write-w-5 : tie.Need-slice-write-w-5
-slice-write-w-5 c = simp length_set (omega arith)
+slice-write-w-5 c = simp length-set (omega arith)
 
 manager-word-requires-2 : tie.Need-manager-word-requires-2
 manager-word-requires-2 c κs = search rules
 
 slice-write-w-6 : tie.Need-slice-write-w-6
-slice-write-w-6 c = simp length_set (omega arith)
+slice-write-w-6 c = simp length-set (omega arith)
 
 manager-word-requires-3 : tie.Need-manager-word-requires-3
 manager-word-requires-3 c κs = search rules
 
 slice-write-w-7 : tie.Need-slice-write-w-7
-slice-write-w-7 c = simp length_set (omega arith)
+slice-write-w-7 c = simp length-set (omega arith)
 
 slice-write-w-8 : tie.Need-slice-write-w-8
-slice-write-w-8 c = simp length_set (omega arith)
+slice-write-w-8 c = simp length-set (omega arith)
 
 slice-write-w-9 : tie.Need-slice-write-w-9
-slice-write-w-9 c = simp length_set (omega arith)
+slice-write-w-9 c = simp length-set (omega arith)
 
 slice-write-w-10 : tie.Need-slice-write-w-10
-slice-write-w-10 c = simp length_set (omega arith)
+slice-write-w-10 c = simp length-set (omega arith)
 
 slice-write-w-11 : tie.Need-slice-write-w-11
-slice-write-w-11 c = simp length_set (omega arith)
+slice-write-w-11 c = simp length-set (omega arith)
 
 same_length : tie.Need-same-length
-same_length c = simp length_set
+same_length c = simp length-set
 
 returns : tie.Need-returns
 returns c = thread_said c.before.before.before.before.before.before.before.before.before.args.w.now
