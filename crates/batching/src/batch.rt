@@ -17,7 +17,7 @@ use rules::{Decision, codes, numbers};
 use stepping::step;
 
 // How a batch was taken: the refusal, and how many bytes are read.
-#[derive(Drop)]
+#[derive(Clone, Copy)]
 struct Taken {
     refusal: u8,
     used: usize,

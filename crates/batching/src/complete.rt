@@ -4,7 +4,7 @@ ghost use Rattle.batching.specs.Batching.{AllCounted};
 use fields::cuts;
 
 // How many there are, and where the last one ends.
-#[derive(Drop)]
+#[derive(Clone, Copy)]
 pub struct Complete {
     pub count: usize,
     pub end: usize,

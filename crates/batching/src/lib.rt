@@ -1,11 +1,13 @@
 // A batch of events in one call, on lent tables (document 02, CR 2).
+#![tactic(auto)]
+
 pub mod batch;
 pub mod complete;
 
 use lending::Tables;
 
 // What a batch by value leaves: `used` bytes of the events are read.
-#[derive(Drop)]
+#[derive(Clone, Copy)]
 pub struct Batched {
     pub tables: Tables,
     pub used: usize,

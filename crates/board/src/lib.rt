@@ -1,5 +1,7 @@
 // The nucleus for a board, whose C code lends the tables. An entry takes the value behind the reference, calls a function by value and
 // stores what that gives. The contract speaks of the words that stand behind the reference at entry and at exit.
+#![tactic(auto)]
+
 pub mod values;
 
 ghost use Rattle.std.specs.Prelude.{◌≡◌, length};
@@ -17,7 +19,7 @@ use rules::{Picked, Verdict, pick};
 
 // A decision as numbers.
 #[repr(C)]
-#[derive(Drop)]
+#[derive(Clone, Copy)]
 pub struct Report {
     pub refusal: u8,
     pub status: u8,
@@ -28,7 +30,7 @@ pub struct Report {
 }
 
 // What a step leaves.
-#[derive(Drop)]
+#[derive(Clone, Copy)]
 pub struct Served {
     pub tables: Tables,
     pub report: Report,
@@ -36,7 +38,7 @@ pub struct Served {
 
 // How many bytes a Tables and a Report take, and how many suffice for every dump. C code holds its own header to them.
 #[repr(C)]
-#[derive(Drop)]
+#[derive(Clone, Copy)]
 pub struct Sizes {
     pub tables: u32,
     pub report: u32,

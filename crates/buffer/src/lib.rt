@@ -1,4 +1,6 @@
 // Bytes at the front of a lent buffer. Each function answers how many it put; those behind stay.
+#![tactic(auto)]
+
 ghost use Rattle.std.specs.Prelude.{◌≤◌, [], ◌∷◌, length};
 ghost use Rattle.rules.specs.Lists.{two_bytes, four_bytes};
 ghost use Rattle.buffer.specs.Puts.{Puts};

@@ -1,4 +1,6 @@
 // The fields of a stream of events: where a field ends, and a reader that goes from one to the next.
+#![tactic(auto)]
+
 pub mod cuts;
 pub mod reader;
 
@@ -7,7 +9,7 @@ ghost use Rattle.fields.specs.Fields.{cut};
 
 // Where a field ends, and whether it is all there. One that is cut off ends with the bytes. At their end and past it there is none:
 // it ends where it starts.
-#[derive(Drop)]
+#[derive(Clone, Copy)]
 pub struct Cut {
     pub end: usize,
     pub whole: bool,

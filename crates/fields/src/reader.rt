@@ -6,7 +6,7 @@ ghost use Rattle.fields.specs.Reading.{reader_at};
 
 use crate::{Cut, cuts};
 
-#[derive(Drop)]
+#[derive(Clone, Copy)]
 pub struct Reader<'a> {
     pub input: &'a [u8],
     pub place: usize,

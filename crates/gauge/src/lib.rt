@@ -1,5 +1,7 @@
 // Functions for the programs of bench/, which time the engine in one memory. They only measure: a contract here says no more than its
 // function needs to be proved safe and to end. What a step does is promised where the step stands.
+#![tactic(auto)]
+
 ghost use Rattle.std.specs.Prelude.{◌≡◌, true, ◌<◌, ◌≤◌, length};
 ghost use Rattle.rules.specs.Numbers.{small};
 ghost use Rattle.store.specs.Store.{limits};

@@ -1,5 +1,7 @@
 // Reads a dump on standard input. First line: refusal and offset. Then, if it is one, a line for each field: the tag, and its values in
 // decimal.
+#![tactic(auto)]
+
 ghost use Rattle.std.specs.Prelude.{◌≡◌, ◌≤◌, length};
 
 use lines::{decimal, tables};

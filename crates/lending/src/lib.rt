@@ -1,5 +1,7 @@
 // The public operations on lent tables: a memory of any length and contents gets its answer. Reading a dump in place is
 // loading::load::load_in.
+#![tactic(auto)]
+
 pub mod check;
 pub mod dump;
 pub mod load;
@@ -13,13 +15,13 @@ pub const WORDS: usize = loading::load::WORDS;
 
 // The tables as a struct: the same memory. Every bit pattern is a value.
 #[repr(C)]
-#[derive(Drop)]
+#[derive(Clone, Copy)]
 pub struct Tables {
     pub words: [u32; WORDS],
 }
 
 // What a step on lent tables leaves.
-#[derive(Drop)]
+#[derive(Clone, Copy)]
 pub struct NextTables {
     pub tables: Tables,
     pub decision: Decision,
@@ -27,14 +29,14 @@ pub struct NextTables {
 
 // What writing a dump answers: the refusal, and the dump's length. It is laid out as in C, for the entry of crates/board.
 #[repr(C)]
-#[derive(Drop)]
+#[derive(Clone, Copy)]
 pub struct Dumped {
     pub refusal: u8,
     pub length: usize,
 }
 
 // What reading a dump into lent tables leaves.
-#[derive(Drop)]
+#[derive(Clone, Copy)]
 pub struct Loaded {
     pub tables: Tables,
     pub verdict: Verdict,

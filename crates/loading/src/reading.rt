@@ -19,7 +19,7 @@ const MOST_NAMES: u8 = numbers::THREADS as u8;
 const NO_FIELD: usize = 255;
 
 // The place behind a field of names, if one stands there.
-#[derive(Drop)]
+#[derive(Clone, Copy)]
 struct Names {
     at: usize,
     good: bool,

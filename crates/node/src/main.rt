@@ -1,5 +1,7 @@
 // The event program: events on standard input, a line for each field on standard output, and the last line.
 // A thin loop over the rounds of crates/stream. No contract can say what is read or written.
+#![tactic(auto)]
+
 ghost use Rattle.std.specs.Prelude.{◌≤◌, length};
 
 use lines::last;

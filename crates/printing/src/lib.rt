@@ -1,9 +1,11 @@
 // One turn of the event program, and the window over its input.
+#![tactic(auto)]
+
 pub mod turn;
 pub mod window;
 
 // What a turn leaves, beside the tables: the number of the next line, how many bytes were used, and how many are to be written.
-#[derive(Drop)]
+#[derive(Clone, Copy)]
 pub struct Turned {
     pub line: u64,
     pub used: usize,
@@ -11,7 +13,7 @@ pub struct Turned {
 }
 
 // The bytes of a buffer from `at` up to `held` wait to be served. `ended`: nothing comes behind them. `failed`: the last read failed.
-#[derive(Drop)]
+#[derive(Clone, Copy)]
 pub struct Span {
     pub at: usize,
     pub held: usize,

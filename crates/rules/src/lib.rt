@@ -1,26 +1,28 @@
 // The vocabulary of document 01, as types. The rules in specs/ speak of lists of these very types.
 // The document's numbers for the cases stand in specs/Codes.antt.
+#![tactic(auto)]
+
 pub mod codes;
 pub mod numbers;
 pub mod pick;
 pub mod tags;
 
 // Whom a thread receives from.
-#[derive(Drop)]
+#[derive(Clone, Copy)]
 pub enum Wanted {
     Anybody,
     Only(u8),
 }
 
 // The kinds of trap, 0 to 2.
-#[derive(Drop)]
+#[derive(Clone, Copy)]
 pub enum TrapKind {
     Program,
     Tlb,
     SysBp,
 }
 
-#[derive(Drop)]
+#[derive(Clone, Copy)]
 pub enum State {
     Running,
     Ready,
@@ -31,7 +33,7 @@ pub enum State {
 }
 
 // What is handed to a thread when it runs: a sender and a word, as far as the kind has them.
-#[derive(Drop)]
+#[derive(Clone, Copy)]
 pub enum Answer {
     Nothing,
     FromMessage(u8, u32),
@@ -41,27 +43,27 @@ pub enum Answer {
 }
 
 // One of a thread's three manager entries.
-#[derive(Drop)]
+#[derive(Clone, Copy)]
 pub enum Manager {
     Unset,
     Set(u8),
     Gone,
 }
 
-#[derive(Drop)]
+#[derive(Clone, Copy)]
 pub struct Managers {
     pub program: Manager,
     pub tlb: Manager,
     pub sysbp: Manager,
 }
 
-#[derive(Drop)]
+#[derive(Clone, Copy)]
 pub enum Parent {
     NoParent,
     ParentIs(u8),
 }
 
-#[derive(Drop)]
+#[derive(Clone, Copy)]
 pub struct Thread {
     pub name: u8,
     pub parent: Parent,
@@ -71,13 +73,13 @@ pub struct Thread {
     pub answer: Answer,
 }
 
-#[derive(Drop)]
+#[derive(Clone, Copy)]
 pub enum MessageKind {
     Ordinary,
     Notice,
 }
 
-#[derive(Drop)]
+#[derive(Clone, Copy)]
 pub struct Message {
     pub to: u8,
     pub from: u8,
@@ -87,20 +89,20 @@ pub struct Message {
 
 // A status word that came when nobody waited for its device.
 #[repr(C)]
-#[derive(Drop)]
+#[derive(Clone, Copy)]
 pub struct Held {
     pub device: u8,
     pub word: u32,
 }
 
 // Who runs, with what is left of its slice.
-#[derive(Drop)]
+#[derive(Clone, Copy)]
 pub enum Runner {
     NoRunner,
     Runs(u8, u8),
 }
 
-#[derive(Drop)]
+#[derive(Clone, Copy)]
 pub enum Status {
     Running,
     Idle,
@@ -109,14 +111,14 @@ pub enum Status {
 }
 
 // Whom request 3 ends.
-#[derive(Drop)]
+#[derive(Clone, Copy)]
 pub enum Target {
     Oneself,
     Named(u8),
 }
 
 // What a runner asks for: tags 16 to 19.
-#[derive(Drop)]
+#[derive(Clone, Copy)]
 pub enum Call {
     Send(u8, u32),
     Receive(Wanted),
@@ -131,7 +133,7 @@ pub enum Call {
 }
 
 // What the bytes of one field mean. An interrupt has the picked device and its status word.
-#[derive(Drop)]
+#[derive(Clone, Copy)]
 pub enum Event {
     Malformed,
     ByRunner(Call),
@@ -140,7 +142,7 @@ pub enum Event {
 }
 
 // What a step answers. The status and the runner are the document's numbers, since refusal 11 gives 255 for both.
-#[derive(Drop)]
+#[derive(Clone, Copy)]
 pub struct Decision {
     pub refusal: u8,
     pub status: u8,
@@ -150,14 +152,14 @@ pub struct Decision {
 
 // What the pick answers.
 #[repr(C)]
-#[derive(Drop)]
+#[derive(Clone, Copy)]
 pub struct Picked {
     pub refusal: u8,
     pub device: u8,
 }
 
 // What the table of tags says of a tag.
-#[derive(Drop)]
+#[derive(Clone, Copy)]
 pub struct TagFacts {
     pub known: bool,
     pub length: u16,
@@ -165,7 +167,7 @@ pub struct TagFacts {
 }
 
 // What the table of a dump's fields says of a tag.
-#[derive(Drop)]
+#[derive(Clone, Copy)]
 pub struct DumpFacts {
     pub known: bool,
     pub place: u8,
@@ -176,14 +178,14 @@ pub struct DumpFacts {
 
 // What reading a dump answers: the refusal, and the offset of the field at fault. It is laid out as in C, for the entry of crates/board.
 #[repr(C)]
-#[derive(Drop)]
+#[derive(Clone, Copy)]
 pub struct Verdict {
     pub refusal: u8,
     pub offset: usize,
 }
 
 // What a service's argument must be.
-#[derive(Drop)]
+#[derive(Clone, Copy)]
 pub enum Argument {
     NoService,
     Zero,

@@ -1,4 +1,6 @@
 // What a runner asks for: send, receive, trap, the nine requests, and the ending that they can cause.
+#![tactic(auto)]
+
 pub mod ending;
 pub mod receive;
 pub mod requests;

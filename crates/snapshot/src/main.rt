@@ -1,5 +1,7 @@
 // Runs the events on standard input from a start, and writes the dump's bytes to standard output.
 // A thin loop over the rounds of crates/stream. Their lines are those of the event program, and are not written.
+#![tactic(auto)]
+
 ghost use Rattle.std.specs.Prelude.{◌≤◌, length};
 
 use dumping::writing;

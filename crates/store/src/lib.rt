@@ -1,5 +1,7 @@
 // What handlers use: the memory in the words of the rules. Every name that they need stands here; another store with these names and
 // promises would serve the same handlers.
+#![tactic(auto)]
+
 mod ended;
 mod filling;
 mod head;
@@ -24,7 +26,7 @@ pub use threads::{
 };
 
 // What a search of an inbox took out of it.
-#[derive(Drop)]
+#[derive(Clone, Copy)]
 pub enum Taken {
     Missing,
     Took(Message),

@@ -1,5 +1,7 @@
 // The loop that the programs share, a round at a time: the fields that have been read are served (crates/printing), and where none is left
 // that is all there, more is read. What is written and what is left to serve is promised exactly, but for the bytes that a read gives.
+#![tactic(auto)]
+
 ghost use Rattle.std.specs.Prelude.{◌≡◌, ◌+◌, ◌≤◌, length};
 ghost use Rattle.rules.specs.Numbers.{small};
 ghost use Rattle.memory.specs.Layout.{size};
@@ -8,7 +10,7 @@ ghost use Rattle.stream.specs.Stream.{Right, Begins, Serves, Reads, Rounds};
 use printing::{Span, turn, window};
 
 // The window over the input's buffer, the number of the next line, and how many bytes of lines wait to be written.
-#[derive(Drop)]
+#[derive(Clone, Copy)]
 pub struct Run {
     pub line: u64,
     pub at: usize,

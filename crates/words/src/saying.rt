@@ -189,21 +189,21 @@ pub fn read_message(w: &[u32]) -> Message
 // ---- and back: words that say it
 
 // The two words of a runner.
-#[derive(Drop)]
+#[derive(Clone, Copy)]
 pub struct RunnerWords {
     pub name: u32,
     pub slice: u32,
 }
 
 // The two words of a state.
-#[derive(Drop)]
+#[derive(Clone, Copy)]
 struct StateWords {
     state: u32,
     detail: u32,
 }
 
 // The three words of an answer.
-#[derive(Drop)]
+#[derive(Clone, Copy)]
 struct AnswerWords {
     kind: u32,
     sender: u32,
@@ -387,7 +387,7 @@ pub fn write_message(w: &mut [u32], m: Message)
 }
 
 // Four words as they stand: to move an entry, it need not be known what they say.
-#[derive(Drop)]
+#[derive(Clone, Copy)]
 pub struct Four {
     pub a: u32,
     pub b: u32,
