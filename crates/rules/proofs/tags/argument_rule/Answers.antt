@@ -11,8 +11,7 @@ use Rattle.rules.specs.Lists.{◌==◌}
 use Rattle.rules.specs.Words.{Argument, NoService, Zero, AnyName, ADevice}
 use Rattle.rules.specs.Tags.{argument_rule as rule_of, rule_in}
 use Rattle.rules.proofs.Table.{at, throughout}
-use Rattle.rules.proofs.tags.argument_rule.Statement.{statement}
-use Rattle.rules.proofs.tags.argument_rule.Tie as tie
+use Rattle.rules.proofs.tags.argument_rule.Goals as goal
 
 -- a number for each rule, so that two are compared as numbers
 abbrev number : Argument → ℕ
@@ -39,18 +38,12 @@ same a b = number a == number b
 sound : (a b : Argument) → T (same a b) → a ≡ b
 sound a b t = sym (again a) ∙ ap numbered (eqb→eq (number a) (number b) t) ∙ again b
 
-array-copy-out-result : tie.Need-array-copy-out-result
-array-copy-out-result c = search rules
-
-returns : tie.Need-returns
+pub returns-then-row-lt10 : goal.returns-then-row-lt10
 unfolding rule_of rule_in
-returns c =
-    let h : c.before.before.args.service < 10 = omega arith in
+returns-then-row-lt10 c =
+    let h : c.args.service < 10 = omega arith in
     rw (at same sound rule_of 0, tt, zero-add)
 
-returns-2 : tie.Need-returns-2
+pub returns-else-row-lt10 : goal.returns-else-row-lt10
 unfolding rule_of rule_in
-returns-2 c = throughout same sound rule_of 10 246 _ tt c.before.args.service (omega arith) (omega arith)
-
-pub argument-rule-spec : {M : Type 1} → statement M
-argument-rule-spec = tie.close (tie.spec array-copy-out-result returns returns-2)
+returns-else-row-lt10 c = throughout same sound rule_of 10 246 _ tt c.args.service (omega arith) (omega arith)

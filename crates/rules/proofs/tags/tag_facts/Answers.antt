@@ -10,8 +10,7 @@ use Rattle.rules.specs.Lists.{◌==◌}
 use Rattle.rules.specs.Words.{TagFacts}
 use Rattle.rules.specs.Tags.{tag_facts as facts_of, facts_in}
 use Rattle.rules.proofs.Table.{both, at, throughout}
-use Rattle.rules.proofs.tags.tag_facts.Statement.{statement}
-use Rattle.rules.proofs.tags.tag_facts.Tie as tie
+use Rattle.rules.proofs.tags.tag_facts.Goals as goal
 
 abbrev same : TagFacts → TagFacts → Bool
 same f g = beq f.known g.known && (f.length == g.length) && beq f.runner g.runner
@@ -32,31 +31,18 @@ sound f g t =
       runner = same_bit f.runner g.runner p.1 i;
     }
 
-returns : tie.Need-returns
+pub returns-then-tag-lt-FIRST_TAG : goal.returns-then-tag-lt-FIRST_TAG
 unfolding facts_of facts_in
-returns c = throughout same sound facts_of 0 16 _ tt c.before.args.tag (omega arith) (omega arith)
+returns-then-tag-lt-FIRST_TAG c = throughout same sound facts_of 0 16 _ tt c.args.tag (omega arith) (omega arith)
 
-cast-row : tie.Need-overflow-cast-row
-cast-row c = search rules
-
-mul-result : tie.Need-overflow-mul-result
-mul-result c = search rules
-
-array-copy-out-result : tie.Need-array-copy-out-result
-array-copy-out-result c = search rules
-
-returns-2 : tie.Need-returns-2
+pub returns-then-row-lt6 : goal.returns-then-row-lt6
 unfolding facts_of facts_in
-returns-2 c =
-    let n = c.before.before.before.args.tag in
+returns-then-row-lt6 c =
+    let n = c.args.tag in
     let h : n - 16 < 6 = omega arith in
     let e : 16 + (n - 16) ≡ n = omega arith in
     rw (at same sound facts_of 16, tt, e)
 
-returns-3 : tie.Need-returns-3
+pub returns-else-row-lt6 : goal.returns-else-row-lt6
 unfolding facts_of facts_in
-returns-3 c = throughout same sound facts_of 22 234 _ tt c.before.before.args.tag (omega arith) (omega arith)
-
-pub tag-facts-spec : {M : Type 1} → statement M
-tag-facts-spec =
-    tie.close (tie.spec returns cast-row mul-result array-copy-out-result returns-2 returns-3)
+returns-else-row-lt6 c = throughout same sound facts_of 22 234 _ tt c.args.tag (omega arith) (omega arith)
