@@ -48,6 +48,7 @@ use Rattle.laws.proofs.Ending.{survivors, ending_forgets}
 
 insert_mem : {A : Type 0} (p : A → Bool) (a : A) (xs : List A) {x : A} → Memᴰ x xs → Memᴰ x (insert p a xs)
 unfolding insert
+insert_mem {A = A} p a [] {x = x} x3 = elim x3 [ ]
 insert_mem {A} p a (y ∷ xs) {x} (Memᴰ.head e) =
     by_if (λ (l : List A). Memᴰ x l) (p y) (λ _. Memᴰ.head e) (λ _. Memᴰ.tail (Memᴰ.head e))
 insert_mem {A} p a (y ∷ xs) {x} (Memᴰ.tail m) =

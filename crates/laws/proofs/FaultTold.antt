@@ -1,6 +1,6 @@
 -- What bytes tell that have no fault of a number: with none of 15 and 17 every value is in its range, with none of 15 and 18 every name
 -- lives where document 01 asks for a live one. So 18 is given for no range, and 19 for other rules only.
-use Prim.Native.Nat.{ℕ, zero, suc, ◌<◌}
+use Prim.Native.Nat.{ℕ, zero, suc, ◌<◌, ◌+◌}
 use mathlib.Core.Path.{◌≡◌, refl, sym, ap, ap₂, ◌∙◌, subst}
 use mathlib.Core.Bool.{Bool, true, false, ◌&&◌, not}
 use mathlib.Core.List.Memᴰ
@@ -39,9 +39,9 @@ use Rattle.laws.proofs.Faults.{free_of_15, refused_18, refused_19}
 field_placed : (at : ℕ) (before : List ℕ) (fs : List (List ℕ)) {g : Field}
     → Memᴰ g (map as_field fs) → (f : Placed) × Memᴰ f (placed_from at before fs) × (g ≡ f.field)
 unfolding placed_from
-field_placed at before [] m = absurd (Memᴰ.not_nil m)
+field_placed at before [] m = absurd (Memᴰ.not-nil m)
 field_placed at before (x ∷ fs) (Memᴰ.head e) = (record { at = at; before = before; field = as_field x }, Memᴰ.head refl, e)
-field_placed at before (x ∷ fs) (Memᴰ.tail m) = let r = field_placed _ _ fs m in (r.0, Memᴰ.tail r.1, r.2)
+field_placed at before (x ∷ fs) (Memᴰ.tail m) = let r = field_placed (at + length x) ((as_field x).tag ∷ before) fs m in (r.0, Memᴰ.tail r.1, r.2)
 
 value_field : (n : ℕ) (fs : List Field) {v : List ℕ} → Memᴰ v (values_of n fs) → Memᴰ (record { tag = n; value = v }) fs
 value_field n fs {v} m =
@@ -62,7 +62,7 @@ bytes_within : (l : List ℕ) → all is_byte l ≡ true → (f : List ℕ) → 
 bytes_within = by_fields (λ l. all is_byte l ≡ true → (f : List ℕ) → Memᴰ f (complete l) → all is_byte f ≡ true) none one
   where
     none : (l : List ℕ) → whole l ≡ false → all is_byte l ≡ true → (f : List ℕ) → Memᴰ f (complete l) → all is_byte f ≡ true
-    none l w b f m = absurd (Memᴰ.not_nil (subst (λ (fs : List (List ℕ)). Memᴰ f fs) (complete_none l w).0 m))
+    none l w b f m = absurd (Memᴰ.not-nil (subst (λ (fs : List (List ℕ)). Memᴰ f fs) (complete_none l w).0 m))
 
     one : (l : List ℕ) → whole l ≡ true →
         (all is_byte (past l) ≡ true → (f : List ℕ) → Memᴰ f (complete (past l)) → all is_byte f ≡ true)
@@ -82,7 +82,7 @@ word_below v i b =
 opening : (vs : List (List ℕ)) {u : List ℕ} → Memᴰ u vs → (v : List ℕ) × (rest : List ℕ) × Memᴰ v vs
     × (each (λ x. x) vs ≡ v ++ rest)
 unfolding each
-opening [] m = absurd (Memᴰ.not_nil m)
+opening [] m = absurd (Memᴰ.not-nil m)
 opening (v ∷ vs) m = (v, each (λ x. x) vs, Memᴰ.head refl, refl)
 
 all_map : {A B : Type 0} (p : B → Bool) (f : A → B) (xs : List A) → ((x : A) → Memᴰ x xs → p (f x) ≡ true) → all p (map f xs) ≡ true

@@ -91,7 +91,7 @@ free_of_15 bytes = (to, from)
         among n (Memᴰ.head e) a b c = rw e a
         among n (Memᴰ.tail (Memᴰ.head e)) a b c = rw e b
         among n (Memᴰ.tail (Memᴰ.tail (Memᴰ.head e))) a b c = rw e c
-        among n (Memᴰ.tail (Memᴰ.tail (Memᴰ.tail m))) a b c = absurd (Memᴰ.not_nil m)
+        among n (Memᴰ.tail (Memᴰ.tail (Memᴰ.tail m))) a b c = absurd (Memᴰ.not-nil m)
 
     from : (unread bytes ≡ []) × ((f : Placed) → Memᴰ f (placed bytes) → wrong_length f.field ≡ false)
         × ((n : ℕ) → Memᴰ n (1 ∷ 3 ∷ 4 ∷ []) → has n tags ≡ true) → faults_15 bytes ≡ []
@@ -127,7 +127,7 @@ module _ (bytes : List ℕ) where
 
       go : (b : Bool) → whole bytes ≡ b → BeginsAt bytes 0
       go true w = opens w
-      go false w = absurd (Memᴰ.not_nil (rw (complete_none bytes w).0 at head))
+      go false w = absurd (Memᴰ.not-nil (rw (complete_none bytes w).0 at head))
 
   -- an offset that is right: not behind the end, and before it a field begins there
   abbrev Right : ℕ → Type 0
@@ -142,7 +142,7 @@ module _ (bytes : List ℕ) where
     where
       at_end : (b : Bool) → Memᴰ o (if b then length bytes ∷ [] else []) → Right o
       at_end true m = let k = Memᴰ.eq_of_singleton m in (omega arith, λ h. absurd (omega arith))
-      at_end false m = absurd (Memᴰ.not_nil m)
+      at_end false m = absurd (Memᴰ.not-nil m)
 
       listed : Memᴰ o long ⊎ Memᴰ o (if ends_badly bytes then length bytes ∷ [] else [])
       listed = Memᴰ.append_cases long (subst (λ (l : List ℕ). Memᴰ o l) (sym e) (Memᴰ.head refl))

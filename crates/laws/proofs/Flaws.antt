@@ -66,6 +66,7 @@ row t =
 
 bad_meets_nothing : (s a : ℕ) → BadRequest s a → meets (argument_rule s) a ≡ false
 unfolding argument_rule rule_in meets
+bad_meets_nothing s a (argument_not_0 (mathlib.Core.List.Memᴰ.tail (mathlib.Core.List.Memᴰ.tail (mathlib.Core.List.Memᴰ.tail (mathlib.Core.List.Memᴰ.tail x17)))) d) = elim x17 [ ]
 bad_meets_nothing s a (service_0 e) = rw e
 bad_meets_nothing s a (service_over_9 h) =
     rw (

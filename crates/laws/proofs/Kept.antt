@@ -90,7 +90,7 @@ step_ruled bytes l R = record {
 pub run_ruled : {L : Limits} (T : Tables) (es : Input) → L.threads < names → Ruled L T → Ruled L (run L T es)
 unfolding run
 run_ruled T [] l R = R
-run_ruled T (e ∷ es) l R = run_ruled _ es l (step_ruled e l R)
+run_ruled {L = L} T (e ∷ es) l R = run_ruled (step L T e).tables es l (step_ruled e l R)
 
 -- ---- the law
 

@@ -24,6 +24,7 @@ module _ {A : Type 0} where
 
   pub keep_mem : (p : A → Bool) (xs : List A) {x : A} → Memᴰ x xs → p x ≡ true → Memᴰ x (keep p xs)
   unfolding keep
+  keep_mem p [] {x = x} x4 h = elim x4 [ ]
   keep_mem p (y ∷ xs) {x} (Memᴰ.head e) h = rw (ap p (sym e) ∙ h) (Memᴰ.head e)
   keep_mem p (y ∷ xs) {x} (Memᴰ.tail m) h =
       by_if (λ (l : List A). Memᴰ x l) (p y) (λ _. Memᴰ.tail (keep_mem p xs m h)) (λ _. keep_mem p xs m h)
@@ -48,6 +49,7 @@ module _ {A : Type 0} where
 
   pub insert_old : (p : A → Bool) (a : A) (l : List A) {x : A} → Memᴰ x l → Memᴰ x (insert p a l)
   unfolding insert
+  insert_old p a [] {x = x} x3 = elim x3 [ ]
   insert_old p a (y ∷ l) {x} (Memᴰ.head e) =
       by_if (λ (r : List A). Memᴰ x r) (p y) (λ _. Memᴰ.head e) (λ _. Memᴰ.tail (Memᴰ.head e))
   insert_old p a (y ∷ l) {x} (Memᴰ.tail m) =
@@ -59,6 +61,7 @@ module _ {A : Type 0} where
   mem_map f (x ∷ xs) (Memᴰ.tail m) = let r = mem_map f xs m in (r.0, Memᴰ.tail r.1, r.2)
 
   pub map_mem : {B : Type 0} (f : A → B) (xs : List A) {x : A} → Memᴰ x xs → Memᴰ (f x) (map f xs)
+  map_mem {B = B} f [] x3 = elim x3 [ ]
   map_mem f (y ∷ xs) (Memᴰ.head e) = Memᴰ.head (ap f e)
   map_mem f (y ∷ xs) (Memᴰ.tail m) = Memᴰ.tail (map_mem f xs m)
 

@@ -33,7 +33,7 @@ begins = by_fields Begins none one
   where
     none : (l : List ℕ) → whole l ≡ false → Begins l
     none l w at before f m =
-        absurd (Memᴰ.not_nil (subst (λ (fs : List (List ℕ)). Memᴰ f (placed_from at before fs)) (complete_none l w).0 m))
+        absurd (Memᴰ.not-nil (subst (λ (fs : List (List ℕ)). Memᴰ f (placed_from at before fs)) (complete_none l w).0 m))
 
     one : (l : List ℕ) → whole l ≡ true → Begins (past l) → Begins l
     one l w h at before f m = go (subst (λ (fs : List (List ℕ)). Memᴰ f (placed_from at before fs)) (complete_first l w).0 m)
@@ -116,9 +116,9 @@ begins_within bytes o b = let s = whole_within (drop o bytes) b.all_there in ome
 pub placed_field : (at : ℕ) (before : List ℕ) (fs : List (List ℕ)) {f : Placed}
     → Memᴰ f (placed_from at before fs) → Memᴰ f.field (map as_field fs)
 unfolding placed_from
-placed_field at before [] m = absurd (Memᴰ.not_nil m)
+placed_field at before [] m = absurd (Memᴰ.not-nil m)
 placed_field at before (x ∷ fs) (Memᴰ.head e) = Memᴰ.head (ap (λ (p : Placed). p.field) e)
-placed_field at before (x ∷ fs) (Memᴰ.tail m) = Memᴰ.tail (placed_field _ _ fs m)
+placed_field at before (x ∷ fs) (Memᴰ.tail m) = Memᴰ.tail (placed_field (at + length x) ((as_field x).tag ∷ before) fs m)
 
 not_so : (b : Bool) → (b ≡ true → ⊥) → b ≡ false
 not_so true h = absurd (h refl)
@@ -139,7 +139,7 @@ module _ (fault : Placed → Bool) where
   -- there is none exactly if no field has the fault
   pub none_exactly : (fs : List Placed) → (offsets fault fs ≡ []) ↔ ((f : Placed) → Memᴰ f fs → fault f ≡ false)
   none_exactly fs = (
-    λ e f m. not_so (fault f) (λ h. Memᴰ.not_nil
+    λ e f m. not_so (fault f) (λ h. Memᴰ.not-nil
         (subst (λ (l : List ℕ). Memᴰ f.at l) e ((offsets_exactly fs f.at).1 (f, m, h, refl)))),
     λ h. unfold offsets in ap (map (λ f. f.at)) (keep_none fault fs (none_count fault fs (none_any fault fs h))),
   )
@@ -157,9 +157,9 @@ First (o ∷ more) = (x : ℕ) → Memᴰ x more → o ≤ x
 
 placed_later : (at : ℕ) (before : List ℕ) (fs : List (List ℕ)) (f : Placed) → Memᴰ f (placed_from at before fs) → at ≤ f.at
 unfolding placed_from
-placed_later at before [] f m = absurd (Memᴰ.not_nil m)
+placed_later at before [] f m = absurd (Memᴰ.not-nil m)
 placed_later at before (x ∷ fs) f (Memᴰ.head e) = omega (arith, ap (λ (p : Placed). p.at) e)
-placed_later at before (x ∷ fs) f (Memᴰ.tail m) = omega (arith, placed_later _ _ fs f m)
+placed_later at before (x ∷ fs) f (Memᴰ.tail m) = omega (arith, placed_later (at + length x) ((as_field x).tag ∷ before) fs f m)
 
 -- Offsets rise from field to field.
 pub offsets_rise : (fault : Placed → Bool) (at : ℕ) (before : List ℕ) (fs : List (List ℕ)) →
@@ -176,12 +176,12 @@ offsets_rise fault at before (f ∷ fs) =
 -- and the length comes behind them all
 pub first_and_end : (n : ℕ) (b : Bool) (l : List ℕ) → First l → ((x : ℕ) → Memᴰ x l → x < n) → First (l ++ (if b then n ∷ [] else []))
 unfolding First
-first_and_end n true [] h k = λ x m. absurd (Memᴰ.not_nil m)
+first_and_end n true [] h k = λ x m. absurd (Memᴰ.not-nil m)
 first_and_end n false [] h k = tt
 first_and_end n true (o ∷ l) h k =
     λ x m. ⊎_elim (h x) (λ e. omega (arith, Memᴰ.eq_of_singleton e, k o (Memᴰ.head refl))) (Memᴰ.append_cases l m)
 first_and_end n false (o ∷ l) h k =
-    λ x m. ⊎_elim (h x) (λ e. absurd (Memᴰ.not_nil e)) (Memᴰ.append_cases l m)
+    λ x m. ⊎_elim (h x) (λ e. absurd (Memᴰ.not-nil e)) (Memᴰ.append_cases l m)
 
 pub first_is_earliest : (l : List ℕ) (o : ℕ) (more : List ℕ) → l ≡ o ∷ more → First l → Earliest o l
 unfolding First

@@ -27,6 +27,7 @@ module _ {A : Type 0} where
   pub chain_before : (r : A → A → Bool) → Transitive r → (x : A) (xs : List A) → chain r (x ∷ xs) ≡ true → (y : A) → Memᴰ y xs →
       r x y ≡ true
   unfolding chain
+  chain_before r t x [] c y x4 = elim x4 [ ]
   chain_before r t x (z ∷ xs) c y (Memᴰ.head e) = ap (r x) e ∙ and_left (r x z) _ c
   chain_before r t x (z ∷ xs) c y (Memᴰ.tail m) = t x z y (and_left (r x z) _ c) (chain_before r t z xs (and_right (r x z) _ c) y m)
 

@@ -75,6 +75,7 @@ module _ {A : Type 0} where
   pull_only : (p : A → Bool) (l : List A) (x : A) → count p l ≤ 1 → Memᴰ x l → p x ≡ true →
       pull p l ≡ pulled x (keep (λ y. not (p y)) l)
   unfolding pull behind keep
+  pull_only p [] x o x5 h = elim x5 [ ]
   pull_only p (y ∷ l) x o (Memᴰ.head e) h =
       let k : p y ≡ true = ap p (sym e) ∙ h in
       rw (k, e) (ap (λ r. pulled y r) (sym (kept_all p l (rest_none p y l o k))))

@@ -34,6 +34,7 @@ module _ {A : Type 0} where
   getD_member (x ∷ l) (suc i) d h = Memᴰ.tail (getD_member l i d (omega arith))
 
   pub member_place : (l : List A) (x d : A) → Memᴰ x l → (i : ℕ) × (i < length l) × (get_or l i d ≡ x)
+  member_place [] x d x3 = elim x3 [ ]
   member_place (y ∷ l) x d (Memᴰ.head e) = (0, omega arith, sym e)
   member_place (y ∷ l) x d (Memᴰ.tail m) = let r = member_place l x d m in let h = r.1 in (suc r.0, omega arith, r.2)
 

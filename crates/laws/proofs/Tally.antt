@@ -63,6 +63,7 @@ module _ {A : Type 0} where
   pub count_strict : (p q : A → Bool) (xs : List A) → ((x : A) → p x ≡ true → q x ≡ true) → (x : A) → Memᴰ x xs → p x ≡ false →
       q x ≡ true → count p xs < count q xs
   unfolding count
+  count_strict p q [] h x x6 a b = elim x6 [ ]
   count_strict p q (y ∷ xs) h x (Memᴰ.head e) a b =
       omega (arith, count_less p q xs h, ap one_if (ap p (sym e) ∙ a), ap one_if (ap q (sym e) ∙ b))
   count_strict p q (y ∷ xs) h x (Memᴰ.tail m) a b = omega (arith, count_strict p q xs h x m a b, one_less (p y) (q y) (h y))
@@ -172,6 +173,7 @@ module _ {A : Type 0} where
 
   pub none_passes : (p : A → Bool) (xs : List A) (x : A) → count p xs ≡ 0 → Memᴰ x xs → p x ≡ false
   unfolding count
+  none_passes p [] x z x4 = elim x4 [ ]
   none_passes p (y ∷ xs) x z (Memᴰ.head e) = ap p e ∙ none (p y) z
     where
       none : (b : Bool) → one_if b + count p xs ≡ 0 → b ≡ false
@@ -191,6 +193,7 @@ module _ {A : Type 0} where
 
   pub member_any : (p : A → Bool) (xs : List A) (x : A) → Memᴰ x xs → p x ≡ true → any p xs ≡ true
   unfolding any
+  member_any p [] x x4 h = elim x4 [ ]
   member_any p (y ∷ xs) x (Memᴰ.head e) h = or_left (p y) _ (ap p (sym e) ∙ h)
   member_any p (y ∷ xs) x (Memᴰ.tail m) h = or_right (p y) _ (member_any p xs x m h)
 
@@ -216,6 +219,7 @@ module _ {A : Type 0} where
 
   pub all_at : (p : A → Bool) (xs : List A) → all p xs ≡ true → (x : A) → Memᴰ x xs → p x ≡ true
   unfolding all
+  all_at p [] h x x4 = elim x4 [ ]
   all_at p (y ∷ xs) h x (Memᴰ.head e) = ap p e ∙ and_left (p y) _ h
   all_at p (y ∷ xs) h x (Memᴰ.tail m) = all_at p xs (and_right (p y) _ h) x m
 
@@ -240,6 +244,7 @@ module _ {A : Type 0} where
   pub only_one : (p : A → Bool) (xs : List A) → count p xs ≤ 1 → (x y : A) → Memᴰ x xs → Memᴰ y xs → p x ≡ true → p y ≡ true →
       x ≡ y
   unfolding count
+  only_one p [] h x y x7 _ a b = elim x7 [ ]
   only_one p (z ∷ xs) h x y (Memᴰ.head e) (Memᴰ.head f) a b = e ∙ sym f
   only_one p (z ∷ xs) h x y (Memᴰ.head e) (Memᴰ.tail n) a b =
       let k : p z ≡ true = ap p (sym e) ∙ a in

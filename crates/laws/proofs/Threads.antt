@@ -27,6 +27,7 @@ live_member ts n h = let r = any_member (named n) ts h in (r.0, r.1, eqb-true n 
 pub of_only : {A : Type 0} (d : A) (f : Thread → A) (n : ℕ) (ts : List Thread) → count (named n) ts ≤ 1 → (t : Thread) → Memᴰ t ts →
     t.name ≡ n → of_thread d f n ts ≡ f t
 unfolding of_thread
+of_only {A = A} d f n [] o t x4 x = elim x4 [ ]
 of_only d f n (u ∷ ts) o t (Memᴰ.head e) x = rw (eq-eqb n u.name (sym x ∙ ap (λ (v : Thread). v.name) e)) (ap f (sym e))
 of_only {A} d f n (u ∷ ts) o t (Memᴰ.tail m) x =
     by_if (λ (y : A). y ≡ f t) (named n u)
