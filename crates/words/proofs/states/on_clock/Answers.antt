@@ -1,0 +1,28 @@
+-- `on_clock` answers as the rule, state by state.
+use Rattle.rules.specs.States.{on_clock}
+use borrow.Author.Rules.{rules}
+use Rattle.words.proofs.states.on_clock.Goals as goal
+
+pub returns-in-Running : goal.returns-in-Running
+unfolding on_clock
+returns-in-Running c = search rules
+
+pub returns-in-Ready : goal.returns-in-Ready
+unfolding on_clock
+returns-in-Ready c = search rules
+
+pub returns-in-Receiving : goal.returns-in-Receiving
+unfolding on_clock
+returns-in-Receiving c = search rules
+
+pub returns-in-Clock : goal.returns-in-Clock
+unfolding on_clock
+returns-in-Clock c = search rules
+
+pub returns-in-Device : goal.returns-in-Device
+unfolding on_clock
+returns-in-Device c = search rules
+
+pub returns-in-Trapped : goal.returns-in-Trapped
+unfolding on_clock
+returns-in-Trapped c = search rules
