@@ -1,0 +1,15 @@
+-- `memory::memory::clock_at` meets its contract.
+use mathlib.Core.Path.{sym, ◌∙◌}
+use native.Mathlib.Omega.{arith}
+use borrow.Author.Rules.{rules}
+use Rattle.memory.specs.Memory.{rows_of, clock_of}
+use Rattle.memory.proofs.Rowing.{row_at}
+use Rattle.memory.proofs.memory.clock_at.Goals as goal
+
+pub bounds-m-i : goal.bounds-m-i
+unfolding rows_of
+bounds-m-i c = omega arith
+
+pub returns : goal.returns
+unfolding rows_of
+returns c = c.byte.ensures ∙ sym (row_at (clock_of c.args.m.now) _ c.args.i 0 c.requires.1)

@@ -1,0 +1,17 @@
+-- `memory::memory::ends` meets its contract.
+use mathlib.Core.Path.{refl}
+use native.Mathlib.Omega.{arith}
+use Rattle.memory.specs.Memory.{rows_of}
+use Rattle.memory.proofs.memory.ends.Goals as goal
+
+pub bounds-m-11 : goal.bounds-m-11
+unfolding rows_of
+bounds-m-11 c = omega arith
+
+pub overflow_cast-result : goal.overflow_cast-result
+unfolding rows_of
+overflow_cast-result c = omega (arith, c.shared_slice_known-1.given 11)
+
+pub returns : goal.returns
+unfolding rows_of
+returns c = refl

@@ -1,0 +1,18 @@
+-- `memory::memory::held_told` meets its contract.
+use Prim.Native.Nat.{ℕ, ◌≤◌, ◌<◌, ◌-◌}
+use mathlib.Core.Path.{sym}
+use native.Mathlib.Omega.{arith}
+use borrow.Author.Count.{below_more}
+use borrow.Author.Rules.{rules}
+use Rattle.rules.specs.Numbers.{devices}
+use Rattle.words.specs.Saying.{word}
+use Rattle.memory.specs.Memory.{rows_of}
+use Rattle.memory.specs.Layout.{held_place}
+use Rattle.memory.proofs.Helds.{untold, gentle_told, flags, inside}
+use Rattle.memory.proofs.memory.held_told.Given as goal
+
+abbrev pub invariant-loop-d : goal.invariant-loop-d
+invariant-loop-d l = (l.d ≤ devices) × ((k : ℕ) → k < l.d → word l.m (held_place k) ≤ 1)
+
+abbrev pub decreases-loop-d : goal.decreases-loop-d
+decreases-loop-d l = devices - l.d

@@ -1,0 +1,16 @@
+-- `memory::memory::name_at` meets its contract.
+use mathlib.Core.Path.{sym, ap, ◌∙◌}
+use native.Mathlib.Omega.{arith}
+use borrow.Author.Rules.{rules}
+use Rattle.laws.specs.Words.{Thread}
+use Rattle.memory.specs.Memory.{rows_of}
+use Rattle.memory.proofs.Fields.{thread_entry}
+use Rattle.memory.proofs.memory.name_at.Goals as goal
+
+pub bounds-m-i : goal.bounds-m-i
+unfolding rows_of
+bounds-m-i c = omega arith
+
+pub returns : goal.returns
+unfolding rows_of
+returns c = c.byte.ensures ∙ ap (λ (t : Thread). t.name) (sym (thread_entry c.args.m.now c.args.i c.requires.1))
