@@ -1,0 +1,45 @@
+-- `moving::threads::find_place` meets its contract. The loop: the place is one of those from `low` to `high`.
+use Prim.Native.Nat.{◌-◌}
+use native.Mathlib.Omega.{arith}
+use borrow.Author.Rules.{rules}
+use Rattle.memory.specs.Rows.{no_thread}
+use Rattle.memory.specs.Memory.{rows_of}
+use Rattle.memory.proofs.Sizes.{threads_long}
+use Rattle.moving.proofs.Halving.{Between, anywhere, above, not_above, only_place}
+use Rattle.moving.proofs.threads.find_place.Goals as goal
+
+pub loop-low-init : goal.loop-low-init
+loop-low-init c =
+    anywhere _ _ _ (omega (arith, c.requires.1, threads_long c.args.m.now)) _ c.count-high.ensures
+
+pub overflow_sub-middle : goal.overflow_sub-middle
+overflow_sub-middle c = omega arith
+
+pub overflow_add-middle : goal.overflow_add-middle
+overflow_add-middle c = omega arith
+
+pub name_at-requires : goal.name_at-requires
+name_at-requires c =
+    (c.requires.0, omega (arith, c.loop-low-test.true, c.loop-low.invariant.within, c.requires.1))
+
+pub overflow_add-low : goal.overflow_add-low
+overflow_add-low c = omega arith
+
+pub loop-low-smaller-then-name_at-name : goal.loop-low-smaller-then-name_at-name
+loop-low-smaller-then-name_at-name c = omega arith
+
+pub loop-low-preserved-then-name_at-name : goal.loop-low-preserved-then-name_at-name
+loop-low-preserved-then-name_at-name c =
+    above _ _ _ (omega (arith, c.requires.1, threads_long c.args.m.now)) _ _ _ no_thread c.loop-low.invariant
+    (omega (arith, c.loop-low-test.true)) c.requires.2 (omega (arith, c.if-name_at-name.true, c.name_at.ensures))
+
+pub loop-low-smaller : goal.loop-low-smaller
+loop-low-smaller c = omega arith
+
+pub loop-low-preserved : goal.loop-low-preserved
+loop-low-preserved c =
+    not_above _ _ _ (omega (arith, c.requires.1, threads_long c.args.m.now)) _ _ _ no_thread c.loop-low.invariant
+    (omega (arith, c.loop-low-test.true)) (omega (arith, c.if-name_at-name.false, c.name_at.ensures))
+
+pub returns : goal.returns
+returns c = only_place _ _ _ _ _ c.loop-low.invariant c.loop-low-test.false

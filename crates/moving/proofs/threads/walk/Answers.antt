@@ -1,0 +1,40 @@
+-- `moving::threads::walk` meets its contract. The loop: no thread passed has the name.
+use Prim.Native.Nat.{◌-◌}
+use mathlib.Core.Path.{sym, ◌∙◌}
+use native.Mathlib.Omega.{arith}
+use borrow.Author.Tests.{eq-eqb, ne_eqb}
+use borrow.Author.Rules.{rules}
+use Rattle.rules.specs.Tables.{named}
+use Rattle.memory.specs.Rows.{no_thread}
+use Rattle.memory.specs.Memory.{rows_of}
+use Rattle.memory.proofs.Sizes.{threads_long}
+use Rattle.moving.proofs.Loops.{Sought, seek_starts, seek_next, seek_finds, seek_ends}
+use Rattle.moving.proofs.threads.walk.Goals as goal
+
+pub loop-i-init : goal.loop-i-init
+loop-i-init c =
+    seek_starts _ _ _ (omega (arith, c.count-n.ensures, c.requires.1, threads_long c.args.m.now))
+
+pub name_at-requires : goal.name_at-requires
+name_at-requires c = (
+  c.requires.0,
+  omega (arith, c.loop-i-test.true, c.count-n.ensures, c.requires.1),
+)
+
+pub returns-then-name-name_at : goal.returns-then-name-name_at
+returns-then-name-name_at c = rw (← c.count-n.ensures)
+    (seek_finds _ _ _ _ no_thread c.loop-i.invariant c.loop-i-test.true
+    (eq-eqb _ _ (c.if-name-name_at.true ∙ c.name_at.ensures)))
+
+pub overflow_add-i : goal.overflow_add-i
+overflow_add-i c = omega arith
+
+pub loop-i-smaller : goal.loop-i-smaller
+loop-i-smaller c = omega arith
+
+pub loop-i-preserved : goal.loop-i-preserved
+loop-i-preserved c = seek_next _ _ _ _ no_thread c.loop-i.invariant c.loop-i-test.true
+    (ne_eqb _ _ (λ e. c.if-name-name_at.false (e ∙ sym c.name_at.ensures)))
+
+pub returns : goal.returns
+returns c = rw (← c.count-n.ensures) (seek_ends _ _ _ _ c.loop-i.invariant c.loop-i-test.false)
