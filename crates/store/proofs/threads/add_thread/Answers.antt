@@ -1,0 +1,22 @@
+-- `threads::add_thread` meets its contract: nobody has the newcomer's name, so at its place the names rise still.
+use Rattle.std.proofs.Common.{arith, rules}
+use Rattle.store.specs.Store.{limits}
+use Rattle.store.proofs.Searched.{threads_length, place_inside, came_in, roomy, can_place}
+use Rattle.store.proofs.threads.add_thread.Goals as goal
+
+pub find_place-at-requires : goal.find_place-at-requires
+find_place-at-requires c = can_place c.args.m.now c.requires.0
+
+pub open_gap-requires : goal.open_gap-requires
+unfolding limits
+open_gap-requires c = (
+  roomy c.args.m.now c.requires.0.shaped,
+  place_inside c.args.m.now c.requires.0 c.args.t _
+      c.find_place-at.ensures,
+  omega (arith, c.requires.1, threads_length c.args.m.now c.requires.0.shaped),
+)
+
+pub returns : goal.returns
+returns c =
+    came_in c.args.m.now c.requires.0 c.args.t _ c.find_place-at.ensures c.requires.2
+    c.open_gap.ensures
