@@ -1,5 +1,4 @@
 -- `window::heard` meets its contract: what the code tests are the bits of the answer.
-use borrow.Author.Rules.{rules}
 use Rattle.printing.proofs.Moving.{heard_so}
 use Rattle.printing.proofs.window.heard.Goals as goal
 

@@ -1,7 +1,5 @@
 -- `window::settle` meets its contract. After i turns i bytes stand at the front, and what is still to be moved is as it was.
-use Prim.Native.Nat.{◌-◌}
-use Rattle.printing.proofs.Moving.{Moving, moving_starts, moving_on, moving_ends, stands_already}
-use borrow.Author.Rules.{rules}
+use Rattle.printing.proofs.Moving.{moving_starts, moving_on, moving_ends, stands_already}
 use native.Mathlib.Omega.{arith}
 use Rattle.printing.proofs.window.settle.Goals as goal
 
