@@ -127,7 +127,3 @@ module _ (w : Span) {before mid : List ℕ} (ys : List ℕ) {k n : ℕ} (got : �
         answers = subst (λ (m : ℕ). MayAnswer m got) room answers;
         told = told;
       }
-
--- a count of no more bytes than there is room for
-pub counted : (n : ℕ) {most : ℕ} → n ≤ most → n ≡ clamp_len (pos n) most
-counted n h = omega arith
