@@ -1,4 +1,5 @@
 -- `lines::tables::put_thread` meets its contract: the numbers of the thread as one line.
+use borrow.Author.Rules.{rules}
 use Rattle.lines.proofs.tables.put_thread.Goals as goal
 
 pub returns : goal.returns
