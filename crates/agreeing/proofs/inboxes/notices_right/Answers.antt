@@ -192,7 +192,7 @@ loop-i-preserved c =
       arith,
       c.if-j-n.false,
       c.count-n.ensures,
-    )) _ no_thread c.loop-i.invariant e c.if-seen-j-ne0.false
+    )) _ no_thread c.loop-i.invariant e (omega arith)
 
 pub returns : goal.returns
 unfolding tables

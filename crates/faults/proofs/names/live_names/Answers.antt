@@ -67,7 +67,7 @@ loop-at-preserved c =
     let f = found in
     let w = sym f.all_there ∙ not-false _ c.if-not-next.false in
     mark_skips _ c.loop-at.invariant _ w f.ends
-    (λ k. c.if-bytes-at-eq-THREAD.false (sym (tag_there _ _ _ w f.ends) ∙ k))
+    (λ k. omega (arith, tag_there _ _ _ w f.ends, k))
 
 pub returns : goal.returns
 returns c = mark_ends _ c.loop-at.invariant c.loop-at-test.false

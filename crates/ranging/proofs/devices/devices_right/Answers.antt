@@ -77,7 +77,7 @@ loop-i-preserved-then-d-lt-DEVICES c =
       arith,
       c.loop-i-test.true,
       c.count-n.ensures,
-    )) w c.if-d-lt-DEVICES.true (sym c.is_held.ensures ∙ c.if-is_held.false) c.if-marks-d-ne0.false
+    )) w c.if-d-lt-DEVICES.true (sym c.is_held.ensures ∙ c.if-is_held.false) (omega arith)
 
 pub overflow_add-i-else-d-lt-DEVICES : goal.overflow_add-i-else-d-lt-DEVICES
 overflow_add-i-else-d-lt-DEVICES c = omega (arith, c.loop-i-test.true)

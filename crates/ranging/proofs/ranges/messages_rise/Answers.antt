@@ -32,7 +32,7 @@ loop-i-smaller c = omega arith
 
 pub loop-i-preserved : goal.loop-i-preserved
 loop-i-preserved c = along_next _ _ _ _ _ no_message c.loop-i.invariant c.loop-i-test.true
-    (up_to c.receiver_at-x.ensures c.receiver_at-y.ensures c.if-x-y.true)
+    (up_to c.receiver_at-x.ensures c.receiver_at-y.ensures (omega arith))
 
 pub returns-else-x-y : goal.returns-else-x-y
 unfolding tables
