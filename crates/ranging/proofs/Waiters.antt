@@ -1,6 +1,6 @@
 -- The devices' rule by one pass over the threads: marks say for which devices one waits, and no word is held for these.
 -- Held devices rise, so that each is held once.
-use Prim.Native.Nat.{ℕ, suc, ◌+◌, ◌≤◌, ◌<◌}
+use Prim.Native.Nat.{zero, ℕ, suc, ◌+◌, ◌≤◌, ◌<◌}
 use mathlib.Core.Path.{◌≡◌, refl, sym, ap, ◌∙◌}
 use mathlib.Core.Logic.{◌≢◌, ⊎_elim}
 use mathlib.Core.Bool.{Bool, true, false, ◌&&◌}
@@ -28,6 +28,7 @@ use Rattle.indexing.proofs.Marking.{none_marked, still_marked, marked_there, cou
 
 mem_from_on : (a n d : ℕ) → Memᴰ d (from_on a n) → d < a + n
 unfolding from_on
+mem_from_on a zero d x = elim x [ ]
 mem_from_on a (suc n) d (Memᴰ.head e) = omega (arith, e)
 mem_from_on a (suc n) d (Memᴰ.tail m) = omega (arith, mem_from_on (suc a) n d m)
 

@@ -1,0 +1,6 @@
+-- `check::check` meets its contract.
+use borrow.Author.Rules.{rules}
+use Rattle.checking.proofs.check.check.Goals as goal
+
+pub returns : goal.returns
+returns c = c.check_for.ensures

@@ -1,0 +1,18 @@
+-- `values::read_thread` meets its contract: each field is what its bytes stand for.
+use Rattle.rules.specs.Load.{thread_from}
+use borrow.Author.Rules.{rules}
+use Rattle.faults.proofs.values.read_thread.Goals as goal
+
+pub returns : goal.returns
+unfolding thread_from
+returns c =
+    rw (
+      c.parent_from.ensures,
+      c.state_from.ensures,
+      c.manager_from.ensures,
+      c.manager_from-2.ensures,
+      c.manager_from-3.ensures,
+      c.word_at.ensures,
+      c.answer_from.ensures,
+      c.word_at-2.ensures,
+    )

@@ -1,0 +1,13 @@
+-- `requests::create_brother` meets its contract: the newcomer has the requester's parent.
+use Rattle.serving.proofs.Asking.{brother}
+use borrow.Author.Rules.{rules}
+use Rattle.serving.proofs.requests.create_brother.Goals as goal
+
+pub parent_of-p-requires : goal.parent_of-p-requires
+parent_of-p-requires c = c.requires.0.holding
+
+pub create-requires : goal.create-requires
+create-requires c = c.requires
+
+pub returns : goal.returns
+returns c = brother _ _ c.parent_of-p.ensures c.create.ensures

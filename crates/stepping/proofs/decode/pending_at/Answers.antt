@@ -1,0 +1,7 @@
+-- `decode::pending_at` meets its contract: `eight_at`.
+use borrow.Author.Rules.{rules}
+use Rattle.stepping.proofs.Fields.{eight_at}
+use Rattle.stepping.proofs.decode.pending_at.Goals as goal
+
+pub returns : goal.returns
+returns c = cc (eight_at c.args.s.now c.args.at c.requires)
