@@ -1,0 +1,12 @@
+-- `lines::decimal::put_decimal` meets its contract: the digits are put from the last to the first.
+use native.Mathlib.Omega.{arith}
+use borrow.Author.Rules.{rules}
+use lib.ListN.{length-set}
+use Rattle.lines.proofs.Numerals.{Putting, putting_first, putting_next, putting_all, puts_digit}
+use Rattle.lines.proofs.decimal.put_decimal.Given as goal
+
+abbrev pub invariant-loop-i : goal.invariant-loop-i
+invariant-loop-i l = Putting l.n l.k l.i l.rest l.initial.out l.out
+
+abbrev pub decreases-loop-i : goal.decreases-loop-i
+decreases-loop-i l = l.i

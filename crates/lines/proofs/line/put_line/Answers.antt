@@ -1,0 +1,8 @@
+-- `lines::line::put_line` meets its contract: the numbers of the decision, the answer's by their codes, as one line.
+use borrow.Author.Rules.{rules}
+use Rattle.lines.proofs.line.put_line.Goals as goal
+
+pub returns : goal.returns
+returns c =
+    rw (← c.kind_code-kind.ensures, ← c.sender_code-sender.ensures, ← c.word_code-word.ensures)
+    c.put_numbers.ensures

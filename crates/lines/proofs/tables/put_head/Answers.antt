@@ -1,0 +1,31 @@
+-- `lines::tables::put_head` meets its contract: the numbers of the head as one line.
+use borrow.Author.Rules.{rules}
+use Rattle.lines.proofs.tables.put_head.Goals as goal
+
+pub status-s-requires : goal.status-s-requires
+status-s-requires c = c.requires.0
+
+pub runner-r-requires : goal.runner-r-requires
+runner-r-requires c = c.requires.0
+
+pub last-requires : goal.last-requires
+last-requires c = c.requires.0
+
+pub since-requires : goal.since-requires
+since-requires c = c.requires.0
+
+pub beats-requires : goal.beats-requires
+beats-requires c = c.requires.0
+
+pub returns : goal.returns
+returns c =
+    rw (
+      ← c.status-s.ensures,
+      ← c.runner-r.ensures,
+      ← c.status_code.ensures,
+      ← c.last.ensures,
+      ← c.runner_code.ensures,
+      ← c.slice_code.ensures,
+      ← c.since.ensures,
+      ← c.beats.ensures,
+    ) c.put_numbers.ensures

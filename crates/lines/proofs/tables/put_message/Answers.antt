@@ -1,0 +1,6 @@
+-- `lines::tables::put_message` meets its contract: the numbers of the message as one line.
+use borrow.Author.Rules.{rules}
+use Rattle.lines.proofs.tables.put_message.Goals as goal
+
+pub returns : goal.returns
+returns c = rw (← c.message_code.ensures) c.put_numbers.ensures
