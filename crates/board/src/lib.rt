@@ -1,4 +1,4 @@
-// The nucleus for a board, whose C code lends the tables. An entry takes the value behind the reference, calls a function by value and
+// The nucleus for a board, whose C code lends the tables: crate board_c exports these functions to it. An entry takes the value behind the reference, calls a function by value and
 // stores what that gives. The contract speaks of the words that stand behind the reference at entry and at exit.
 #![tactic(auto)]
 
@@ -46,15 +46,13 @@ pub struct Sizes {
 }
 
 // Starting is never refused, and looks at nothing that stood there.
-#[unsafe(no_mangle)]
-pub extern "C" fn nucleus_start(t: &mut Tables)
+pub fn nucleus_start(t: &mut Tables)
     ensures { Started t.new.words }
 {
     *t = start::start_value();
 }
 
-#[unsafe(no_mangle)]
-pub extern "C" fn nucleus_step(t: &mut Tables, event: &[u8]) -> Report
+pub fn nucleus_step(t: &mut Tables, event: &[u8]) -> Report
     ensures { Steps t.old.words event.now t.new.words result }
 {
     let r = values::step_numbers(*t, event);
@@ -64,13 +62,7 @@ pub extern "C" fn nucleus_step(t: &mut Tables, event: &[u8]) -> Report
 
 // A batch. C gets no slice as a result, so what `batch` hands back is left in the place of the events that were lent: a slice is a
 // pointer and a length. The numbers are those of a Report, in its order.
-#[unsafe(no_mangle)]
-pub extern "C" fn nucleus_batch<'a>(
-    t: &mut Tables,
-    events: &mut &'a [u8],
-    out: &mut [u32],
-    refusal: &mut u8,
-)
+pub fn nucleus_batch<'a>(t: &mut Tables, events: &mut &'a [u8], out: &mut [u32], refusal: &mut u8)
     ensures { Batches t.old.words events.old out.old events.new t.new.words
         out.new refusal.new }
 {
@@ -81,15 +73,13 @@ pub extern "C" fn nucleus_batch<'a>(
 }
 
 // 11 if the tables stand for none that meet the table rules, else 0.
-#[unsafe(no_mangle)]
-pub extern "C" fn nucleus_check(t: &Tables) -> u8
+pub fn nucleus_check(t: &Tables) -> u8
     ensures { result ≡ check_of t.now.words }
 {
     check::check_value(*t)
 }
 
-#[unsafe(no_mangle)]
-pub extern "C" fn nucleus_dump(t: &Tables, out: &mut [u8]) -> Dumped
+pub fn nucleus_dump(t: &Tables, out: &mut [u8]) -> Dumped
     ensures { (result ≡ dumped t.now.words (length out.old))
         × (out.new ≡ buffer_after t.now.words out.old) }
 {
@@ -97,8 +87,7 @@ pub extern "C" fn nucleus_dump(t: &Tables, out: &mut [u8]) -> Dumped
 }
 
 // Nothing looks at the tables that came: `load_value` is handed them so that a refused reading stores them back as they were.
-#[unsafe(no_mangle)]
-pub extern "C" fn nucleus_load(t: &mut Tables, bytes: &[u8]) -> Verdict
+pub fn nucleus_load(t: &mut Tables, bytes: &[u8]) -> Verdict
     ensures { Loads t.old.words bytes.now t.new.words result }
 {
     let l = load::load_value(*t, bytes);
@@ -106,15 +95,13 @@ pub extern "C" fn nucleus_load(t: &mut Tables, bytes: &[u8]) -> Verdict
     l.verdict
 }
 
-#[unsafe(no_mangle)]
-pub extern "C" fn nucleus_pick(pending: u64) -> Picked
+pub fn nucleus_pick(pending: u64) -> Picked
     ensures { result ≡ pick_of pending }
 {
     pick::pick(pending)
 }
 
-#[unsafe(no_mangle)]
-pub extern "C" fn nucleus_sizes() -> Sizes
+pub fn nucleus_sizes() -> Sizes
     ensures { result ≡ sizes_of }
 {
     Sizes {

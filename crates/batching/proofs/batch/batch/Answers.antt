@@ -1,0 +1,7 @@
+-- `batch::batch` meets its contract: what is served, and the end of the bytes behind it.
+use borrow.Author.Rules.{rules}
+use Rattle.batching.proofs.Serving.{hands_back}
+use Rattle.batching.proofs.batch.batch.Goals as goal
+
+pub returns : goal.returns
+returns c = hands_back c.serve-t.ensures c.rest_at.ensures

@@ -1,0 +1,17 @@
+-- `values::report` meets its contract: number by number.
+use Rattle.board.specs.Board.{report_of}
+use borrow.Author.Rules.{rules}
+use Rattle.board.proofs.values.report.Goals as goal
+
+pub returns : goal.returns
+unfolding report_of
+returns c =
+    let d = c.args.d in
+    λ i. record {
+      refusal = d.refusal;
+      status = d.status;
+      runner = d.runner;
+      kind = c.kind_code.ensures i;
+      sender = c.sender_code.ensures i;
+      word = c.word_code.ensures i;
+    }
