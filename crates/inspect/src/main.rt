@@ -20,61 +20,62 @@ fn buffer() -> [u8; 1048576]
     [0; ROOM]
 }
 
-fn say(text: &[u8]) {
-    io::write_all(libc::STDERR_FILENO, text);
+fn say(rt: &impl Eprint, text: &str) {
+    let _ = rt.eprint(text);
 }
 
 // The first n bytes are written, all of them; or nothing more is to be written.
-fn print(out: &[u8], n: usize) -> bool
+fn print(rt: &(impl Print + Eprint), out: &[u8], n: usize) -> bool
     requires { n ≤ length out.now }
 {
-    if io::write_all(libc::STDOUT_FILENO, &out[..n]) {
+    if rt.write_all(&out[..n]).is_ok() {
         return true;
     }
-    say(b"inspect: cannot write\n");
+    say(rt, "inspect: cannot write\n");
     false
 }
 
 // A line of two numbers.
-fn print_verdict(refusal: u64, offset: u64, out: &mut [u8]) -> bool
+fn print_verdict(rt: &(impl Print + Eprint), refusal: u64, offset: u64, out: &mut [u8]) -> bool
     requires { 65536 ≤ length out.old }
     ensures { length out.new ≡ length out.old }
 {
     let row = [refusal, offset];
     let k = decimal::put_numbers(out, &row);
-    print(out, k)
+    print(rt, out, k)
 }
 
-fn main() {
+fn main(rt: HostRuntime) {
     let mut m = stream::room();
     let mut input = buffer();
-    let mut out = io::large_buffer();
+    let mut out = stream::output_buffer();
     let mut w = Span {
         at: 0,
         held: 0,
         ended: false,
         failed: false,
     };
+    let mut reader = rt.stdin();
     let mut rounds = ROUNDS;
     while 0 < rounds && !w.ended {
         rounds -= 1;
-        w = window::refill(&mut input, w);
+        w = window::refill(&mut reader, &mut input, w);
         if w.failed {
-            say(b"inspect: cannot read\n");
+            say(&rt, "inspect: cannot read\n");
             return;
         }
     }
     let held = w.held;
     if held == ROOM {
-        say(b"inspect: too long\n");
+        say(&rt, "inspect: too long\n");
         return;
     }
     let v = load::load_in(&mut m, &input[..held]);
-    if !print_verdict(v.refusal as u64, v.offset as u64, &mut out) {
+    if !print_verdict(&rt, v.refusal as u64, v.offset as u64, &mut out) {
         return;
     }
     if v.refusal == 0 {
         let n = tables::put_tables(&mut out, &m);
-        print(&out, n);
+        print(&rt, &out, n);
     }
 }

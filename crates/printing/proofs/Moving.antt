@@ -16,11 +16,9 @@ use mir.Val.{SFits, to_z, of_z}
 use mir.Facts.{to_z-of_z}
 use borrow.Author.Tests.{le-ltb, eq-eqb, ne_eqb}
 use borrow.Rule.Slice.PartMut.{same_len_mid, take_put}
-use Rattle.libc.specs.Io.{Moved as MayAnswer}
-use Rattle.io.specs.Counts.{clamp_len}
 use Rattle.buffer.proofs.Putting.{rest, back}
 use Rattle.printing.specs.declared.Span.{Span}
-use Rattle.printing.specs.Input.{is_end, is_failure, heard, Settled, Refilled}
+use Rattle.printing.specs.Input.{MayAnswer, clamp_len, is_end, is_failure, heard, Settled, Refilled}
 
 -- of n bytes from `at` on, i stand at the front
 pub record Moving (at n : ℕ) (before after : List ℕ) (i : ℕ) : Type 0 where
@@ -105,19 +103,19 @@ heard_so left n got fits =
     span : Bool → Bool → Span
     span e f = record { at = 0; held = left + n; ended = e; failed = f }
 
--- k bytes stand at the front, the read answered `got`, and the buffer behind them comes back as ys
+-- k bytes stand at the front, the read answered `got` and put n bytes behind them, and the buffer there comes back as ys
 module _ (w : Span) {before mid : List ℕ} (ys : List ℕ) {k n : ℕ} (got : ℤ) {v : Span} (inside : w.held ≤ length before)
     (s : Settled w before mid k)
-    (kept : length ys ≡ length (rest k mid)) (fits : SFits w64 got) (answers : MayAnswer (length (rest k mid)) got)
-    (counts : n ≡ clamp_len (to_z w64 (of_z w64 got)) (length ys)) (says : v ≡ heard k n (to_z w64 (of_z w64 got))) where
+    (kept : length ys ≡ length (rest k mid)) (answers : MayAnswer (length (rest k mid)) got)
+    (counts : n ≡ clamp_len got (length ys)) (says : v ≡ heard k n got) where
   room : length (rest k mid) ≡ length before - (w.held - w.at)
   room = omega (arith, s.counts, s.size, length-take (length mid - k) (drop k mid), length-drop k mid)
 
   told : v ≡ heard (w.held - w.at) (clamp_len got (length before - (w.held - w.at))) got
   told =
       says
-      ∙ (ap₂ (λ (i : ℕ) (z : ℤ). heard i n z) s.counts (to_z-of_z fits)
-      ∙ ap (λ (i : ℕ). heard (w.held - w.at) i got) (counts ∙ ap₂ clamp_len (to_z-of_z fits) (kept ∙ room)))
+      ∙ (ap (λ (i : ℕ). heard i n got) s.counts
+      ∙ ap (λ (i : ℕ). heard (w.held - w.at) i got) (counts ∙ ap (clamp_len got) (kept ∙ room)))
 
   pub read_behind : Refilled w before v (back k mid ys)
   read_behind =

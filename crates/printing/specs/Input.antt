@@ -1,12 +1,20 @@
 -- The window over the input.
-use Rattle.std.specs.Prelude.{ℕ, zero, suc, ◌+◌, ◌-◌, Bool, true, false, ◌≡◌, List, ℤ, pos, negsuc, length, take, drop}
-use Rattle.libc.specs.Io.{Moved as MayAnswer}
-use Rattle.io.specs.Counts.{clamp_len}
+use Rattle.std.specs.Prelude.{ℕ, zero, suc, ◌+◌, ◌-◌, ◌≤◌, min, Bool, true, false, ◌≡◌, List, ℤ, pos, negsuc, length, take, drop}
 use Rattle.printing.specs.declared.Span.{Span}
 
 -- what has been read and is not served yet
 abbrev pub waiting : Span → List ℕ → List ℕ
 waiting w buffer = take (w.held - w.at) (drop w.at buffer)
+
+-- what a read that is handed n bytes may answer: -1, or how many bytes it moved, at most n
+abbrev pub MayAnswer : ℕ → ℤ → Type 0
+MayAnswer n (pos k) = k ≤ n
+MayAnswer n (negsuc k) = k ≡ 0
+
+-- what a read answered, brought into `0..=most`
+abbrev pub clamp_len : ℤ → ℕ → ℕ
+clamp_len (pos k) most = min k most
+clamp_len (negsuc k) most = 0
 
 -- a read that answers 0 is at the end of the input, one that answers below 0 has failed
 abbrev pub is_end : ℤ → Bool

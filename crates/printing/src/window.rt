@@ -3,6 +3,7 @@ ghost use Rattle.std.specs.Prelude.{◌≡◌, ◌+◌, ◌<◌, ◌≤◌, leng
 ghost use Rattle.printing.specs.Input.{Settled, Refilled, heard as heard_of};
 
 use crate::Span;
+use std::io::Read;
 
 // What waits moves to the front of the buffer, if it does not stand there. The answer: how many bytes that is.
 fn settle(buf: &mut [u8], w: Span) -> usize
@@ -36,13 +37,13 @@ fn heard(left: usize, n: usize, got: isize) -> Span
 }
 
 // What comes next is read behind what waits. What the read answers is handed on as it is: no contract can say it.
-pub fn refill(buf: &mut [u8], w: Span) -> Span
+pub fn refill<R: Read>(reader: &mut R, buf: &mut [u8], w: Span) -> Span
     requires { (w.at ≤ w.held) × (w.held ≤ length buf.old) }
     ensures { Refilled w buf.old result buf.new }
 {
     let left = settle(buf, w);
-    let room = &mut buf[left..];
-    let got = libc::read(libc::STDIN_FILENO, room);
-    let n = io::count(got, room);
-    heard(left, n, got)
+    match reader.read(&mut buf[left..]) {
+        Ok(n) => heard(left, n, n as isize),
+        Err(_) => heard(left, 0, -1),
+    }
 }

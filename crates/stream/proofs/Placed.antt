@@ -1,19 +1,18 @@
 -- What turns, reads and rounds keep: the run lies in its buffers, and the number of the next line grows by no more than the bytes that
 -- are there.
-use Prim.Native.Nat.{ℕ, zero, suc, ◌+◌, ◌-◌, ◌≤◌, ◌<◌, min}
-use mathlib.Core.Path.{◌≡◌, refl, sym, ap, ◌∙◌, subst}
-use mathlib.Core.Bool.{Bool, false}
+use Prim.Native.Nat.{ℕ, zero, suc, ◌+◌, ◌-◌, ◌≤◌}
+use mathlib.Core.Path.{◌≡◌, refl, sym, ap, subst}
+use mathlib.Core.Bool.{Bool}
 use mathlib.Core.List.{List}
 use native.Mathlib.Nat.{min-le_right}
 use native.Mathlib.Omega.{arith}
 use lib.IntN.{ℤ, pos, negsuc}
-use lib.ListN.{length, take, drop, length-drop}
+use lib.ListN.{length, drop, length-drop}
 use lib.Seq.{length-take-le}
-use Rattle.io.specs.Counts.{clamp_len}
-use Rattle.printing.specs.Input.{waiting, Refilled}
+use Rattle.printing.specs.Input.{clamp_len, waiting, Refilled}
 use Rattle.printing.specs.declared.Span.{Span}
 use Rattle.stream.specs.declared.Run.{Run}
-use Rattle.stream.specs.Stream.{window, Right, first, Begins, Serves, Reads, Rounds}
+use Rattle.stream.specs.Stream.{window, Right, Begins, Serves, Reads, Rounds}
 
 -- the same with the lengths said otherwise
 pub placed : {m : List ℕ} {r : Run} {a b n k : ℕ} → n ≡ a → k ≡ b → Right m r n k → Right m r a b

@@ -16,10 +16,9 @@ use Rattle.rules.specs.Runs.{run}
 use Rattle.laws.proofs.Steps.{run_append}
 use Rattle.store.specs.Store.{tables}
 use Rattle.fields.specs.Fields.{whole}
-use Rattle.io.specs.Counts.{clamp_len}
 use Rattle.printing.specs.declared.Span.{Span}
 use Rattle.printing.specs.declared.Turned.{Turned}
-use Rattle.printing.specs.Input.{waiting, is_end}
+use Rattle.printing.specs.Input.{clamp_len, waiting, is_end}
 use Rattle.lines.specs.Text.{last_line}
 use Rattle.printing.specs.Printing.{prints, output, fields, fields_in}
 use Rattle.printing.proofs.Streams.{prints_none}

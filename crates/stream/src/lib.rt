@@ -8,6 +8,7 @@ ghost use Rattle.memory.specs.Layout.{size};
 ghost use Rattle.stream.specs.Stream.{Right, Begins, Serves, Reads, Rounds};
 
 use printing::{Span, turn, window};
+use std::io::Read;
 
 // The window over the input's buffer, the number of the next line, and how many bytes of lines wait to be written.
 #[derive(Clone, Copy)]
@@ -25,6 +26,13 @@ pub fn input_buffer() -> [u8; 131072]
     ensures { 131072 ≡ length result }
 {
     [0; 131072]
+}
+
+// Room for the lines of one turn.
+pub fn output_buffer() -> [u8; 65536]
+    ensures { 65536 ≡ length result }
+{
+    [0; 65536]
 }
 
 // Room for tables of 20 threads and 20 blocks.
@@ -68,11 +76,12 @@ pub fn serve(m: &mut [u32], r: Run, last: bool, input: &[u8], out: &mut [u8]) ->
 }
 
 // More is read behind the window.
-pub fn read_more(r: Run, input: &mut [u8]) -> Run
+pub fn read_more<R: Read>(reader: &mut R, r: Run, input: &mut [u8]) -> Run
     requires { (r.at ≤ r.held) × (r.held ≤ length input.old) }
     ensures { Reads r input.old input.new result }
 {
     let w = window::refill(
+        reader,
         input,
         Span {
             at: r.at,
@@ -92,7 +101,13 @@ pub fn read_more(r: Run, input: &mut [u8]) -> Run
 }
 
 // One round: lines to be written, or more read.
-pub fn round(m: &mut [u32], r: Run, input: &mut [u8], out: &mut [u8]) -> Run
+pub fn round<R: Read>(
+    reader: &mut R,
+    m: &mut [u32],
+    r: Run,
+    input: &mut [u8],
+    out: &mut [u8],
+) -> Run
     requires { Right m.old r (length input.old) (length out.old) × (r.line + length input.old ≤ 9223372036854775808) }
     ensures { Rounds m.old r input.old out.old m.new input.new out.new
         result }
@@ -101,5 +116,5 @@ pub fn round(m: &mut [u32], r: Run, input: &mut [u8], out: &mut [u8]) -> Run
     if 0 < v.filled {
         return v;
     }
-    read_more(v, input)
+    read_more(reader, v, input)
 }

@@ -1,0 +1,11 @@
+-- `main` is safe and ends: the rounds that are left go down, and between two of them all is as `Going` says. At the end the tables can be
+-- dumped.
+use native.Mathlib.Omega.{arith}
+use Rattle.stream.proofs.Going.{Going, going_starts, going_asks, going_on, ends_right}
+use Rattle.snapshot.proofs.main.Given as goal
+
+abbrev pub invariant-loop-rounds : goal.invariant-loop-rounds
+invariant-loop-rounds l = Going l.m l.input l.out l.run l.rounds
+
+abbrev pub decreases-loop-rounds : goal.decreases-loop-rounds
+decreases-loop-rounds l = l.rounds
