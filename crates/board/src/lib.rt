@@ -1,5 +1,6 @@
-// The nucleus for a board, whose C code lends the tables: crate board_c exports these functions to it. An entry takes the value behind the reference, calls a function by value and
-// stores what that gives. The contract speaks of the words that stand behind the reference at entry and at exit.
+// The nucleus for a board, whose C code lends the tables: crate board_c exports these functions to it. An entry takes the value behind
+// the reference, calls a function by value and stores what that gives; a dump is read in place. The contract speaks of the words that
+// stand behind the reference at entry and at exit.
 #![tactic(auto)]
 
 pub mod values;
@@ -14,7 +15,8 @@ ghost use Rattle.board.specs.Layout.{sizes_of};
 
 use batching::batch;
 use fields::cuts;
-use lending::{Dumped, Tables, check, dump, load, start};
+use lending::{Dumped, Tables, check, dump, start};
+use loading::load as reading;
 use rules::{Picked, Verdict, pick};
 
 // A decision as numbers.
@@ -86,13 +88,11 @@ pub fn nucleus_dump(t: &Tables, out: &mut [u8]) -> Dumped
     dump::dump_value(*t, out)
 }
 
-// Nothing looks at the tables that came: `load_value` is handed them so that a refused reading stores them back as they were.
+// The dump is read in place. Nothing looks at the tables that came, and a refused reading leaves them as they were.
 pub fn nucleus_load(t: &mut Tables, bytes: &[u8]) -> Verdict
     ensures { Loads t.old.words bytes.now t.new.words result }
 {
-    let l = load::load_value(*t, bytes);
-    *t = l.tables;
-    l.verdict
+    reading::load_in(&mut t.words, bytes)
 }
 
 pub fn nucleus_pick(pending: u64) -> Picked
