@@ -12,7 +12,7 @@ use Rattle.rules.specs.Numbers.{small}
 use Rattle.rules.specs.Tables.{Tables}
 use Rattle.rules.specs.Dump.{dump}
 use Rattle.rules.specs.Runs.{Input, run, decisions}
-use Rattle.rules.specs.Batch.{unread, numbers, Taken, taken}
+use Rattle.rules.specs.Batch.{numbers, Taken, taken}
 use Rattle.rules.specs.declared.Decision.{Decision}
 use Rattle.laws.proofs.Determinacy.{determined}
 use Rattle.laws.proofs.Steps.{run_append}

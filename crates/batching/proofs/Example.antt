@@ -1,14 +1,13 @@
 -- Document 01's listing as one batch, with a malformed field and a cut one behind it: computed, so that the rule of a batch is seen to
 -- say what the document's listing says.
-use Prim.Native.Nat.{ℕ}
 use mathlib.Core.Path.{◌≡◌, refl}
-use mathlib.Core.List.{List, [], ◌∷◌, ◌++◌}
+use mathlib.Core.List.{[], ◌∷◌, ◌++◌}
 use Rattle.rules.specs.Lists.{each}
 use Rattle.rules.specs.Numbers.{small}
 use Rattle.rules.specs.Tables.{start}
 use Rattle.rules.specs.Opened.{opened}
 use Rattle.rules.specs.Benches.{P1}
-use Rattle.rules.specs.Batch.{numbers, Batched, batch}
+use Rattle.rules.specs.Batch.{batch}
 use Rattle.batching.specs.Example.{told, cut_short, gathered}
 
 -- Room for nine decisions: the eight of the listing, then 2 for the malformed field; the cut one is handed back.

@@ -15,7 +15,6 @@ use Rattle.rules.specs.TableRules.{table_rules}
 use Rattle.rules.specs.Step.{step}
 use Rattle.rules.specs.Runs.{Input, run, decisions}
 use Rattle.rules.specs.Batch.{numbers, taken}
-use Rattle.rules.specs.declared.Decision.{Decision}
 use Rattle.laws.specs.Words.{NoRunner, Panicked, Event}
 use Rattle.laws.proofs.Steps.{run_append, run_last}
 use Rattle.laws.proofs.Kept.{rules_hold_in_runs}

@@ -1,5 +1,5 @@
 -- A batch on a lent memory of any length and contents.
-use Rattle.std.specs.Prelude.{ℕ, ◌+◌, ◌*◌, ◌≤◌, Bool, true, not, ◌≡◌, List, [], ◌∷◌, ◌++◌, map, length, drop}
+use Rattle.std.specs.Prelude.{ℕ, ◌*◌, ◌≤◌, Bool, true, not, ◌≡◌, List, [], ◌∷◌, ◌++◌, map, length, drop}
 use Rattle.std.specs.Borrow.{Bor}
 use Rattle.rules.specs.Lists.{if◌then◌else◌, ◌==◌, all}
 use Rattle.rules.specs.Numbers.{small}

@@ -1,18 +1,17 @@
 -- From the C entries to the demands. Calls of nucleus_start and nucleus_step, known by what their contracts say alone, are a series in
 -- the sense of crates/lending/proofs/Runs.antt: each contract of a step has a decision that the report tells. So what is lent stands for
 -- the rules' run of those events, the reports are the lines of that run, and the laws there speak of what the entries report.
-use Prim.Native.Nat.{ℕ, ◌+◌, ◌≤◌}
+use Prim.Native.Nat.{ℕ, ◌≤◌}
 use mathlib.Core.Path.{◌≡◌, refl, sym, ap, ◌∙◌, subst}
 use mathlib.Core.Logic.{◌≢◌, ◌↔◌}
-use mathlib.Core.Bool.{Bool, true, false, ◌&&◌}
+use mathlib.Core.Bool.{Bool, true, false}
 use mathlib.Core.List.{List, [], ◌∷◌, ◌++◌, map, append-nil, append_assoc}
 use native.Mathlib.Omega.{arith}
-use Rattle.rules.specs.Lists.{◌==◌, one_if, any, all}
+use Rattle.rules.specs.Lists.{any, all}
 use Rattle.rules.specs.Numbers.{small}
 use Rattle.rules.specs.Tables.{Tables, start}
 use Rattle.rules.specs.Codes.{status_code, answer_numbers}
 use Rattle.rules.specs.Load.{answer_from}
-use Rattle.rules.specs.Events.{decode}
 use Rattle.rules.specs.Dispatch.{status}
 use Rattle.rules.specs.Step.{step}
 use Rattle.rules.specs.Runs.{Input, run, line, decisions, lines}
@@ -20,7 +19,6 @@ use Rattle.rules.specs.declared.Decision.{Decision}
 use Rattle.laws.specs.Words.{Status, Working, Idle, Halted, Panicked, Answer, Nothing, FromMessage, FromNotice, SenderGone, Result}
 use Rattle.laws.specs.Words.{NoRunner, Event}
 use Rattle.laws.proofs.Tests.{clash}
-use Rattle.laws.specs.Calm.{is_tick}
 use Rattle.laws.specs.Wait.{tick_accepted, became_ready, ticks_accepted, served_by}
 use Rattle.laws.specs.Outside.{from_outside, some_ready, outside}
 use Rattle.laws.proofs.Idle.{reported}

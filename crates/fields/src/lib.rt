@@ -15,7 +15,7 @@ pub struct Cut {
     pub whole: bool,
 }
 
-// The field at a place, for callers whose own parameters are plain: they need no proof by hand.
+// The field at a place, for callers whose own parameters are plain.
 pub fn field_at(input: &[u8], place: usize) -> Cut
     ensures { result ≡ cut input.now place }
 {

@@ -1,5 +1,5 @@
 // A reader of events: the input, and the place of the next field. It goes on behind a field's length, whatever the field holds.
-// The struct holds a reference, so each function over it is proved by hand, and is thin: the work is done in cuts.rt.
+// The struct holds a reference, and each function over it is thin: the work is done in cuts.rt.
 ghost use Rattle.std.specs.Prelude.{◌≡◌};
 ghost use Rattle.fields.specs.Fields.{cut, EndOf};
 ghost use Rattle.fields.specs.Reading.{reader_at};

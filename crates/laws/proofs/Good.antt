@@ -12,7 +12,7 @@ use Rattle.rules.specs.Lists.{if◌then◌else◌, ◌==◌, one_if, Pulled, mis
 use Rattle.rules.specs.Numbers.{Limits, names, beat_ticks, devices, wrap}
 use Rattle.rules.specs.Words.{by_wanted, by_manager}
 use Rattle.rules.specs.Tables.{Tables, in_state, with_managers, with_ticks, named, live, of_thread, change, manager, set_entry, new_thread}
-use Rattle.rules.specs.Tables.{runs_as, me}
+use Rattle.rules.specs.Tables.{runs_as}
 use Rattle.rules.specs.States.{is_running, is_ready, on_clock, receives, at_device, waits_for, trapped_on, awaits}
 use Rattle.rules.specs.Waking.{Outcome, wake_those, is_ordinary, blocks_used, notice_of, handed_as, handed, accepts, queue, deliver, stop}
 use Rattle.rules.specs.Send.{message, waits_for_decision, decides, decide, send}

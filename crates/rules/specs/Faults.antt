@@ -1,6 +1,6 @@
 -- Where bytes that are no dump are bad (document 02, CR 4): "Split it by cause and give the offset of the first byte of the field at
 -- fault, or the length of the input where a field is missing or cut." A list of offsets for each number, in the order of the bytes.
-use Rattle.std.specs.Prelude.{ℕ, ◌+◌, Bool, true, false, ◌&&◌, ◌||◌, not, List, [], ◌∷◌, ◌++◌, map, leb, ltb, length}
+use Rattle.std.specs.Prelude.{ℕ, ◌+◌, Bool, true, ◌&&◌, ◌||◌, not, List, [], ◌∷◌, ◌++◌, map, leb, ltb, length}
 use Rattle.rules.specs.Lists.{if◌then◌else◌, ◌==◌, all, any, keep, has}
 use Rattle.rules.specs.Numbers.{Limits, names, full_slice, beat_ticks, devices}
 use Rattle.rules.specs.Words.{State, Manager, Managers, Working, Idle, Halted, Panicked, Verdict, by_state, by_wanted, by_manager}

@@ -7,7 +7,7 @@ use Rattle.laws.specs.Words.{Thread, Message}
 use Rattle.memory.specs.Rows.{view, Room, nothing, put_threads, put_count, put_messages, put_letters}
 use Rattle.memory.specs.Memory.{rows_of}
 use Rattle.memory.proofs.Sizes.{threads_long, messages_long}
-use Rattle.store.specs.Store.{limits, tables, Shaped, Holding, Fills}
+use Rattle.store.specs.Store.{tables, Shaped, Holding, Fills}
 use Rattle.store.proofs.Written.{fills}
 
 behind : {A : Type 0} (l : List A) (n : ℕ) (x : A) → n < length l → take (n + 1) (set l n x) ≡ take n l ++ (x ∷ [])

@@ -10,7 +10,7 @@ use Rattle.memory.specs.Memory.{rows_of}
 use Rattle.memory.proofs.Sizes.{threads_whole, threads_count, ready_count, clock_count, messages_count}
 use Rattle.moving.proofs.Steps.{by}
 use Rattle.moving.proofs.Found.{any_place, found_thread, no_such_thread, found_map, no_map, found_within, insert_at}
-use Rattle.store.specs.Store.{limits, tables, Shaped, Holding, Leaves, name_where}
+use Rattle.store.specs.Store.{tables, Shaped, Holding, Leaves, name_where}
 use Rattle.store.proofs.Written.{fills, leaves, threads_left, rising_where, rising_insert}
 
 -- ---- what the row functions ask

@@ -3,8 +3,8 @@
 use Rattle.std.specs.Prelude.{ℕ, ◌+◌, ◌-◌, ◌&&◌, List, [], ◌∷◌, ltb, get_or}
 use Rattle.rules.specs.Lists.{if◌then◌else◌, ◌==◌}
 use Rattle.rules.specs.Numbers.{nobody}
-use Rattle.laws.specs.Words.{Wanted, Anybody, Only, TrapKind, Program, Tlb, SysBp, State, Running, Ready, Receiving, Clock, Device, Trapped}
-use Rattle.laws.specs.Words.{Answer, Nothing, FromMessage, FromNotice, SenderGone, Result, Manager, Unset, Set, Gone, Managers, Parent}
+use Rattle.laws.specs.Words.{Wanted, Anybody, Only, Program, Tlb, SysBp, State, Running, Ready, Receiving, Clock, Device, Trapped}
+use Rattle.laws.specs.Words.{Answer, Nothing, FromMessage, FromNotice, SenderGone, Result, Manager, Unset, Set, Gone, Parent}
 use Rattle.laws.specs.Words.{NoParent, ParentIs, Thread, MessageKind, Ordinary, Notice, Message, Held, Runner, NoRunner, Runs}
 
 abbrev pub word : List ℕ → ℕ → ℕ

@@ -1,7 +1,6 @@
 -- `put_four` meets its contract: its bytes are written one by one.
 use native.Mathlib.Omega.{arith}
 use lib.ListN.{length-set}
-use borrow.Author.Rules.{rules}
 use Rattle.buffer.proofs.Putting.{puts_four}
 use Rattle.buffer.proofs.put_four.Goals as goal
 

@@ -1,6 +1,5 @@
 -- `put_head` meets its contract: a length below 256 has 0 as its high byte.
 use native.Mathlib.Omega.{arith}
-use borrow.Author.Rules.{rules}
 use Rattle.buffer.proofs.Putting.{short_length}
 use Rattle.buffer.proofs.put_head.Goals as goal
 

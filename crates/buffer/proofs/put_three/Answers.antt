@@ -1,7 +1,6 @@
 -- `put_three` meets its contract: its bytes are written one by one.
 use native.Mathlib.Omega.{arith}
 use lib.ListN.{length-set}
-use borrow.Author.Rules.{rules}
 use Rattle.buffer.proofs.Putting.{puts_three}
 use Rattle.buffer.proofs.put_three.Goals as goal
 

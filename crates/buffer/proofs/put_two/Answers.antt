@@ -1,5 +1,4 @@
 -- `put_two` meets its contract: its bytes are written one by one.
-use borrow.Author.Rules.{rules}
 use Rattle.buffer.proofs.Putting.{puts_two}
 use Rattle.buffer.proofs.put_two.Goals as goal
 

@@ -1,9 +1,6 @@
 -- `answers` is safe and ends: the memory keeps its length.
-use Prim.Native.Nat.{◌-◌}
-use mathlib.Core.Path.{◌≡◌, refl, ◌∙◌}
+use mathlib.Core.Path.{refl, ◌∙◌}
 use native.Mathlib.Omega.{arith}
-use lib.ListN.{length}
-use borrow.Author.Rules.{rules}
 use Rattle.gauge.proofs.answers.Goals as goal
 
 pub loop-i-init : goal.loop-i-init

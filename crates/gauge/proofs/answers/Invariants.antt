@@ -1,9 +1,7 @@
 -- `answers` is safe and ends: the memory keeps its length.
 use Prim.Native.Nat.{◌-◌}
-use mathlib.Core.Path.{◌≡◌, refl, ◌∙◌}
-use native.Mathlib.Omega.{arith}
+use mathlib.Core.Path.{◌≡◌}
 use lib.ListN.{length}
-use borrow.Author.Rules.{rules}
 use Rattle.gauge.proofs.answers.Given as goal
 
 abbrev pub invariant-loop-i : goal.invariant-loop-i

@@ -10,7 +10,6 @@ use Rattle.checking.specs.Stands.{stands}
 use Rattle.loading.specs.Loading.{Loads}
 use Rattle.loading.proofs.Exits.{writable}
 use Rattle.loading.proofs.Promises.{reads}
-use borrow.Author.Rules.{rules}
 use Rattle.gauge.proofs.gauge_again.Goals as goal
 
 -- a memory that a dump was read into

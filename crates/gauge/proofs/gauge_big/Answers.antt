@@ -1,8 +1,6 @@
 -- `gauge_big` is safe: a started memory stands, at any limits.
 use Rattle.laws.proofs.Kept.{start_ruled}
-use Rattle.rules.specs.Numbers.{Limits}
 use native.Mathlib.Omega.{arith}
-use borrow.Author.Rules.{rules}
 use Rattle.gauge.proofs.gauge_big.Goals as goal
 
 pub run_in-requires : goal.run_in-requires

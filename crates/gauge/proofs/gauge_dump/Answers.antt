@@ -2,7 +2,6 @@
 use mathlib.Core.Path.{◌∙◌}
 use Rattle.lending.proofs.Standing.{checked, passes}
 use native.Mathlib.Omega.{arith}
-use borrow.Author.Rules.{rules}
 use Rattle.gauge.proofs.gauge_dump.Goals as goal
 
 pub run_in-requires : goal.run_in-requires

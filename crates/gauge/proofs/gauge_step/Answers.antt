@@ -1,5 +1,4 @@
 -- `gauge_step` is safe: a started memory stands.
-use borrow.Author.Rules.{rules}
 use Rattle.lending.proofs.Standing.{checked}
 use Rattle.gauge.proofs.gauge_step.Goals as goal
 

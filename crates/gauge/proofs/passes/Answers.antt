@@ -1,10 +1,6 @@
 -- `passes` is safe and ends: the count of those that passed is at most the count of the turns.
-use Prim.Native.Nat.{◌≤◌, ◌-◌}
-use mathlib.Core.Path.{◌≡◌, refl, ap, ◌∙◌}
-use mathlib.Core.Logic.{⊎_elim}
+use mathlib.Core.Path.{refl}
 use native.Mathlib.Omega.{arith}
-use lib.ListN.{length, length-set}
-use borrow.Author.Rules.{rules}
 use Rattle.gauge.proofs.passes.Goals as goal
 
 pub loop-i-init : goal.loop-i-init

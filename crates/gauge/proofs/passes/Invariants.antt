@@ -1,10 +1,7 @@
 -- `passes` is safe and ends: the count of those that passed is at most the count of the turns.
 use Prim.Native.Nat.{◌≤◌, ◌-◌}
-use mathlib.Core.Path.{◌≡◌, refl, ap, ◌∙◌}
-use mathlib.Core.Logic.{⊎_elim}
-use native.Mathlib.Omega.{arith}
-use lib.ListN.{length, length-set}
-use borrow.Author.Rules.{rules}
+use mathlib.Core.Path.{◌≡◌}
+use lib.ListN.{length}
 use Rattle.gauge.proofs.passes.Given as goal
 
 abbrev pub invariant-loop-i : goal.invariant-loop-i

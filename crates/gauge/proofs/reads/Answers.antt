@@ -1,10 +1,6 @@
 -- `reads` is safe and ends: the memory keeps its length, and the count of those that were read is at most the count of the turns.
-use Prim.Native.Nat.{◌≤◌, ◌-◌}
-use mathlib.Core.Path.{◌≡◌, refl, ◌∙◌}
-use mathlib.Core.Logic.{⊎_elim}
-use lib.ListN.{length}
+use mathlib.Core.Path.{refl}
 use native.Mathlib.Omega.{arith}
-use borrow.Author.Rules.{rules}
 use Rattle.gauge.proofs.reads.Goals as goal
 
 pub loop-i-init : goal.loop-i-init

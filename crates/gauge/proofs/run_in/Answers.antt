@@ -1,12 +1,7 @@
 -- `run_in` meets its contract: each step leaves a memory that stands, with the limits that it had. An event that is accepted passed a
 -- byte at least, so the count does not wrap; what is left of the bytes is the measure.
-use Prim.Native.Nat.{◌≤◌, ◌-◌}
-use mathlib.Core.Path.{◌≡◌, refl, ◌∙◌}
+use mathlib.Core.Path.{refl, ◌∙◌}
 use native.Mathlib.Omega.{arith}
-use lib.ListN.{length}
-use borrow.Author.Rules.{rules}
-use Rattle.store.specs.Store.{limits}
-use Rattle.handling.specs.Standing.{AtRest}
 use Rattle.gauge.proofs.run_in.Goals as goal
 
 pub loop-at-init : goal.loop-at-init

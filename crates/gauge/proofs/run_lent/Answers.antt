@@ -1,9 +1,6 @@
 -- `run_lent` is safe and ends, as `run_in`: a step on a lent memory asks nothing of it.
-use Prim.Native.Nat.{◌≤◌, ◌-◌}
-use mathlib.Core.Path.{◌≡◌, refl, ◌∙◌}
+use mathlib.Core.Path.{refl, ◌∙◌}
 use native.Mathlib.Omega.{arith}
-use lib.ListN.{length}
-use borrow.Author.Rules.{rules}
 use Rattle.gauge.proofs.run_lent.Goals as goal
 
 pub loop-at-init : goal.loop-at-init

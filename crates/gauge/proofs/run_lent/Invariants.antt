@@ -1,9 +1,7 @@
 -- `run_lent` is safe and ends, as `run_in`: a step on a lent memory asks nothing of it.
 use Prim.Native.Nat.{◌≤◌, ◌-◌}
-use mathlib.Core.Path.{◌≡◌, refl, ◌∙◌}
-use native.Mathlib.Omega.{arith}
+use mathlib.Core.Path.{◌≡◌}
 use lib.ListN.{length}
-use borrow.Author.Rules.{rules}
 use Rattle.gauge.proofs.run_lent.Given as goal
 
 abbrev pub invariant-loop-at : goal.invariant-loop-at

@@ -1,11 +1,7 @@
 -- `writes` is safe and ends: the dump of a memory that stands fits, and the buffer keeps its length.
-use Prim.Native.Nat.{◌≤◌, ◌-◌}
-use mathlib.Core.Path.{◌≡◌, refl, ◌∙◌}
-use mathlib.Core.Logic.{⊎_elim}
-use lib.ListN.{length}
+use mathlib.Core.Path.{refl}
 use Rattle.loading.proofs.Exits.{writable}
 use native.Mathlib.Omega.{arith}
-use borrow.Author.Rules.{rules}
 use Rattle.gauge.proofs.writes.Goals as goal
 
 pub loop-i-init : goal.loop-i-init

@@ -1,11 +1,7 @@
 -- `writes` is safe and ends: the dump of a memory that stands fits, and the buffer keeps its length.
 use Prim.Native.Nat.{◌≤◌, ◌-◌}
-use mathlib.Core.Path.{◌≡◌, refl, ◌∙◌}
-use mathlib.Core.Logic.{⊎_elim}
+use mathlib.Core.Path.{◌≡◌}
 use lib.ListN.{length}
-use Rattle.loading.proofs.Exits.{writable}
-use native.Mathlib.Omega.{arith}
-use borrow.Author.Rules.{rules}
 use Rattle.gauge.proofs.writes.Given as goal
 
 abbrev pub invariant-loop-i : goal.invariant-loop-i

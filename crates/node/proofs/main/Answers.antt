@@ -3,7 +3,7 @@ use mathlib.Core.Path.{sym}
 use native.Mathlib.Omega.{arith}
 use borrow.Author.Rules.{rules}
 use Rattle.buffer.proofs.Putting.{place_within}
-use Rattle.stream.proofs.Going.{Going, going_starts, going_asks, going_on, round_within, ends_right, end_within}
+use Rattle.stream.proofs.Going.{going_starts, going_asks, going_on, round_within, ends_right, end_within}
 use Rattle.node.proofs.main.Goals as goal
 
 pub loop-rounds-init : goal.loop-rounds-init

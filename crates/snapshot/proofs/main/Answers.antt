@@ -6,7 +6,7 @@ use borrow.Author.Rules.{rules}
 use Rattle.buffer.proofs.Putting.{place_within}
 use Rattle.loading.proofs.Exits.{writable}
 use Rattle.lending.proofs.Standing.{passes}
-use Rattle.stream.proofs.Going.{Going, going_starts, going_asks, going_on, ends_right}
+use Rattle.stream.proofs.Going.{going_starts, going_asks, going_on, ends_right}
 use Rattle.snapshot.proofs.main.Goals as goal
 
 pub loop-rounds-init : goal.loop-rounds-init

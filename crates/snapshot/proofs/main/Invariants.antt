@@ -1,7 +1,6 @@
 -- `main` is safe and ends: the rounds that are left go down, and between two of them all is as `Going` says. At the end the tables can be
 -- dumped.
-use native.Mathlib.Omega.{arith}
-use Rattle.stream.proofs.Going.{Going, going_starts, going_asks, going_on, ends_right}
+use Rattle.stream.proofs.Going.{Going}
 use Rattle.snapshot.proofs.main.Given as goal
 
 abbrev pub invariant-loop-rounds : goal.invariant-loop-rounds

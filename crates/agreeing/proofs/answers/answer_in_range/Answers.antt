@@ -1,6 +1,5 @@
 -- `answers::answer_in_range` meets its contract: a word is in its range by its type, so that the sender is left to test.
 use mathlib.Core.Path.{sym, ap, ◌∙◌}
-use borrow.Author.Rules.{rules}
 use Rattle.agreeing.proofs.Widths.{sender_in_range, word_fits}
 use Rattle.agreeing.proofs.answers.answer_in_range.Goals as goal
 

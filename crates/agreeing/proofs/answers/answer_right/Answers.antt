@@ -1,5 +1,4 @@
 -- `answers::answer_right` meets its contract: the tests are tried in turn.
-use borrow.Author.Rules.{rules}
 use Rattle.laws.proofs.Tests.{not_true, not_false}
 use Rattle.agreeing.proofs.answers.answer_right.Goals as goal
 

@@ -1,16 +1,13 @@
 -- `answers::answers_right` meets its contract. The loop: the answers passed are right.
-use Prim.Native.Nat.{◌-◌}
 use mathlib.Core.Path.{refl, sym, ap₂, ◌∙◌}
 use mathlib.Core.Bool.{◌&&◌, ◌||◌}
 use native.Mathlib.Omega.{arith}
-use borrow.Author.Rules.{rules}
 use Rattle.rules.specs.States.{is_ready}
 use Rattle.rules.specs.TableRules.{answer_in_range, is_nothing}
-use Rattle.laws.specs.Words.{Thread, State, Answer}
+use Rattle.laws.specs.Words.{State, Answer}
 use Rattle.memory.specs.Rows.{no_thread}
-use Rattle.memory.specs.Memory.{rows_of}
 use Rattle.store.specs.Store.{tables}
-use Rattle.indexing.proofs.Passing.{Over, over_starts, over_next, over_fails, over_ends, roomy, threads_whole, thread_reach}
+use Rattle.indexing.proofs.Passing.{over_starts, over_next, over_fails, over_ends, roomy, threads_whole, thread_reach}
 use Rattle.agreeing.proofs.answers.answers_right.Goals as goal
 
 pub count-n-requires : goal.count-n-requires

@@ -1,19 +1,15 @@
 -- `inboxes::inboxes_right` meets its contract. The loop: no thread accepts a message passed.
-use Prim.Native.Nat.{ℕ, ◌-◌}
+use Prim.Native.Nat.{ℕ}
 use mathlib.Core.Path.{refl, sym, ap, ap₂, ◌∙◌}
 use mathlib.Core.Bool.{not}
 use native.Mathlib.Omega.{arith}
 use lib.ListN.{get_or}
-use borrow.Author.Rules.{rules}
-use Rattle.rules.specs.Lists.{any}
 use Rattle.rules.specs.States.{receives}
-use Rattle.rules.specs.Waking.{accepts}
-use Rattle.laws.specs.Words.{Message, State}
-use Rattle.memory.specs.Rows.{view, no_thread, no_message}
-use Rattle.memory.specs.Memory.{rows_of}
+use Rattle.laws.specs.Words.{State}
+use Rattle.memory.specs.Rows.{no_thread, no_message}
 use Rattle.store.specs.Store.{tables}
 use Rattle.agreeing.proofs.Inboxing.{by_messages, accepts_there, accepts_nowhere}
-use Rattle.indexing.proofs.Passing.{Over, over_starts, over_next, over_fails, over_ends, roomy, counted, messages_whole, message_reach}
+use Rattle.indexing.proofs.Passing.{over_starts, over_next, over_fails, over_ends, roomy, counted, messages_whole, message_reach}
 use Rattle.agreeing.proofs.inboxes.inboxes_right.Goals as goal
 
 pub count-n-requires : goal.count-n-requires

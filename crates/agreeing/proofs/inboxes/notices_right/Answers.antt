@@ -1,9 +1,7 @@
 -- `inboxes::notices_right` meets its contract. The loop: the notices passed are right, and the marks say whose were met.
-use Prim.Native.Nat.{◌-◌}
 use mathlib.Core.Path.{sym, ap, ◌∙◌}
 use native.Mathlib.Omega.{arith}
 use lib.ListN.{get_or}
-use borrow.Author.Rules.{rules}
 use Rattle.rules.specs.States.{awaits}
 use Rattle.rules.specs.Waking.{is_ordinary}
 use Rattle.laws.specs.Words.{Message}
@@ -12,7 +10,7 @@ use Rattle.memory.specs.Memory.{rows_of}
 use Rattle.store.specs.Store.{tables}
 use Rattle.laws.proofs.Both.{failed, passed}
 use Rattle.agreeing.proofs.Inboxing.{from_place}
-use Rattle.agreeing.proofs.Noticing.{Noticed, notice_starts, notice_skips, no_sender, not_trapped, met_before, met_now, notice_ends}
+use Rattle.agreeing.proofs.Noticing.{notice_starts, notice_skips, no_sender, not_trapped, met_before, met_now, notice_ends}
 use Rattle.indexing.proofs.Passing.{roomy, few, counted, message_reach}
 use Rattle.agreeing.proofs.inboxes.notices_right.Goals as goal
 
@@ -194,7 +192,7 @@ loop-i-preserved c =
       arith,
       c.if-j-n.false,
       c.count-n.ensures,
-    )) _ no_thread c.loop-i.invariant e c.if-seen-j-ne0.false
+    )) _ no_thread c.loop-i.invariant e (omega arith)
 
 pub returns : goal.returns
 unfolding tables

@@ -1,5 +1,4 @@
 -- `managers::entries_right` meets its contract: the three entries are tried in turn.
-use borrow.Author.Rules.{rules}
 use Rattle.rules.specs.Tables.{manager}
 use Rattle.laws.proofs.Both.{failed, passed}
 use Rattle.indexing.proofs.Standing.{entry_read}

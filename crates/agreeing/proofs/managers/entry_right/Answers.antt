@@ -1,5 +1,4 @@
 -- `managers::entry_right` meets its contract, case by case.
-use borrow.Author.Rules.{rules}
 use Rattle.agreeing.proofs.managers.entry_right.Goals as goal
 
 pub returns-in-Unset : goal.returns-in-Unset

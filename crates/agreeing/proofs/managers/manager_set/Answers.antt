@@ -1,5 +1,4 @@
 -- `managers::manager_set` answers as the rule, state by state.
-use borrow.Author.Rules.{rules}
 use Rattle.rules.specs.TableRules.{manager_set}
 use Rattle.agreeing.proofs.managers.manager_set.Goals as goal
 

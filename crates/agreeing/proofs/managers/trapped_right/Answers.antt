@@ -1,14 +1,13 @@
 -- `managers::trapped_right` meets its contract. The loop: who of the threads passed is trapped has a manager.
-use Prim.Native.Nat.{◌-◌}
 use mathlib.Core.Path.{refl, sym, ap, ◌∙◌}
 use native.Mathlib.Omega.{arith}
 use lib.ListN.{get_or}
 use Rattle.rules.specs.TableRules.{manager_set}
-use Rattle.laws.specs.Words.{Thread, State}
+use Rattle.laws.specs.Words.{State}
 use Rattle.memory.specs.Rows.{no_thread}
 use Rattle.memory.specs.Memory.{rows_of}
 use Rattle.store.specs.Store.{tables}
-use Rattle.indexing.proofs.Passing.{Over, over_starts, over_next, over_fails, over_ends, roomy, threads_whole, thread_reach}
+use Rattle.indexing.proofs.Passing.{over_starts, over_next, over_fails, over_ends, roomy, threads_whole, thread_reach}
 use Rattle.agreeing.proofs.managers.trapped_right.Goals as goal
 
 pub count-n-requires : goal.count-n-requires

@@ -1,5 +1,4 @@
 -- `managers::wanted_live` meets its contract, state by state.
-use borrow.Author.Rules.{rules}
 use Rattle.agreeing.proofs.managers.wanted_live.Goals as goal
 
 pub returns-in-Running : goal.returns-in-Running

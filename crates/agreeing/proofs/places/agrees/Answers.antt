@@ -1,5 +1,4 @@
 -- `places::agrees` meets its contract: at each exit the code's tests are put in for the rule's.
-use borrow.Author.Rules.{rules}
 use borrow.Author.Tests.{eq-eqb, ne_eqb}
 use Rattle.agreeing.proofs.places.agrees.Goals as goal
 

@@ -1,17 +1,11 @@
 -- `places::all_agree` meets its contract. The loop: each thread passed stands where its state says.
 use Prim.Native.Nat.{◌-◌}
-use mathlib.Core.Path.{refl, sym, ◌∙◌}
-use native.Mathlib.Omega.{arith}
-use lib.ListN.{get_or}
-use borrow.Author.Rules.{rules}
 use Rattle.rules.specs.Lists.{times_in}
 use Rattle.laws.specs.Words.{Thread}
-use Rattle.memory.specs.Rows.{view, no_thread}
+use Rattle.memory.specs.Rows.{view}
 use Rattle.memory.specs.Memory.{rows_of}
-use Rattle.store.specs.Store.{tables}
-use Rattle.indexing.proofs.Passing.{Over, over_starts, over_next, over_fails, over_ends, roomy, ready_counted, clock_counted, threads_whole}
-use Rattle.indexing.proofs.Passing.{thread_reach}
-use Rattle.indexing.proofs.Standing.{standing, looked}
+use Rattle.indexing.proofs.Passing.{Over}
+use Rattle.indexing.proofs.Standing.{standing}
 use Rattle.agreeing.proofs.places.all_agree.Given as goal
 
 abbrev pub invariant-loop-i : goal.invariant-loop-i

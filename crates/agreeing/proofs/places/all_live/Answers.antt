@@ -1,17 +1,10 @@
 -- `places::all_live` meets its contract. The loop: the names passed are live.
-use Prim.Native.Nat.{ℕ, ◌-◌}
-use mathlib.Core.Path.{◌≡◌, sym, ap, ◌∙◌}
-use mathlib.Core.List.{List}
+use Prim.Native.Nat.{ℕ}
+use mathlib.Core.Path.{sym, ap, ◌∙◌}
 use native.Mathlib.Omega.{arith}
-use lib.ListN.{length}
-use borrow.Author.Rules.{rules}
 use Rattle.rules.specs.Lists.{any}
 use Rattle.rules.specs.Tables.{named}
-use Rattle.laws.specs.Words.{Thread}
-use Rattle.memory.specs.Memory.{rows_of}
-use Rattle.moving.proofs.Loops.{Passed, all_starts, all_next, all_fails, all_ends}
-use Rattle.indexing.specs.Index.{Indexed}
-use Rattle.indexing.specs.Queue.{queue}
+use Rattle.moving.proofs.Loops.{all_starts, all_next, all_fails, all_ends}
 use Rattle.indexing.proofs.Passing.{roomy, queue_long}
 use Rattle.agreeing.proofs.places.all_live.Goals as goal
 

@@ -1,18 +1,15 @@
 -- `places::all_live` meets its contract. The loop: the names passed are live.
 use Prim.Native.Nat.{ℕ, ◌-◌}
-use mathlib.Core.Path.{◌≡◌, sym, ap, ◌∙◌}
+use mathlib.Core.Path.{◌≡◌}
 use mathlib.Core.List.{List}
-use native.Mathlib.Omega.{arith}
 use lib.ListN.{length}
-use borrow.Author.Rules.{rules}
 use Rattle.rules.specs.Lists.{any}
 use Rattle.rules.specs.Tables.{named}
 use Rattle.laws.specs.Words.{Thread}
 use Rattle.memory.specs.Memory.{rows_of}
-use Rattle.moving.proofs.Loops.{Passed, all_starts, all_next, all_fails, all_ends}
+use Rattle.moving.proofs.Loops.{Passed}
 use Rattle.indexing.specs.Index.{Indexed}
 use Rattle.indexing.specs.Queue.{queue}
-use Rattle.indexing.proofs.Passing.{roomy, queue_long}
 use Rattle.agreeing.proofs.places.all_live.Given as goal
 
 abbrev pub invariant-loop-i : goal.invariant-loop-i

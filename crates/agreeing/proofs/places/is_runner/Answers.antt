@@ -1,5 +1,4 @@
 -- `places::is_runner` meets its contract: by whether anybody runs.
-use borrow.Author.Rules.{rules}
 use Rattle.rules.specs.Tables.{runs_as}
 use Rattle.agreeing.proofs.places.is_runner.Goals as goal
 

@@ -1,6 +1,5 @@
 -- `places::places_agree` meets its contract: the four tests are tried in turn.
 use native.Mathlib.Omega.{arith}
-use borrow.Author.Rules.{rules}
 use Rattle.store.specs.Store.{tables}
 use Rattle.laws.proofs.Both.{failed, passed}
 use Rattle.indexing.proofs.Passing.{roomy, ready_counted, clock_counted, read_length}

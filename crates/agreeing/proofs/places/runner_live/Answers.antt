@@ -1,5 +1,4 @@
 -- `places::runner_live` meets its contract: by whether anybody runs.
-use borrow.Author.Rules.{rules}
 use Rattle.agreeing.proofs.places.runner_live.Goals as goal
 
 pub returns-in-NoRunner : goal.returns-in-NoRunner

@@ -1,7 +1,6 @@
 -- `places::runner_right` meets its contract: by whether anybody runs.
 use Prim.Native.Nat.{ℕ}
 use mathlib.Core.Path.{sym, ap, ◌∙◌}
-use borrow.Author.Rules.{rules}
 use borrow.Author.Tests.{le-leb, lt-leb}
 use Rattle.rules.specs.Lists.{◌==◌}
 use Rattle.memory.proofs.Sizes.{ready_count}

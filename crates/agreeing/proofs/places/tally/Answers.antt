@@ -1,11 +1,7 @@
 -- `places::tally` meets its contract. The loop: how often each name was met so far.
-use Prim.Native.Nat.{◌-◌}
 use native.Mathlib.Omega.{arith}
-use borrow.Author.Rules.{rules}
-use Rattle.memory.specs.Memory.{rows_of}
-use Rattle.indexing.specs.Queue.{queue}
 use Rattle.indexing.proofs.Passing.{roomy, few, queue_long, tally_read}
-use Rattle.indexing.proofs.Tallying.{Tallied, tally_starts, tally_low, tally_ends}
+use Rattle.indexing.proofs.Tallying.{tally_starts, tally_low, tally_ends}
 use Rattle.agreeing.proofs.places.tally.Goals as goal
 
 pub loop-i-init : goal.loop-i-init

@@ -1,7 +1,5 @@
 -- `batch::answer` meets its contract: 11, or the step.
 use mathlib.Core.Path.{sym, ◌∙◌}
-use borrow.Author.Rules.{rules}
-use borrow.Author.Tests.{not-true, not-false}
 use Rattle.lending.proofs.Standing.{checked, refused_11, stepped}
 use Rattle.batching.proofs.batch.answer.Goals as goal
 

@@ -1,5 +1,4 @@
 -- `batch::batch` meets its contract: what is served, and the end of the bytes behind it.
-use borrow.Author.Rules.{rules}
 use Rattle.batching.proofs.Serving.{hands_back}
 use Rattle.batching.proofs.batch.batch.Goals as goal
 

@@ -6,7 +6,7 @@ use native.Mathlib.Omega.{arith}
 use lib.ListN.{length, drop}
 use Rattle.rules.specs.Fields.{field_size}
 use Rattle.fields.specs.declared.Cut.{Cut}
-use Rattle.batching.proofs.Running.{Running, running_starts, has_room, decision_fits, field_within, one_run, all_run}
+use Rattle.batching.proofs.Running.{running_starts, has_room, decision_fits, field_within, one_run, all_run}
 use Rattle.batching.proofs.batch.run.Goals as goal
 
 pub check-good-requires : goal.check-good-requires

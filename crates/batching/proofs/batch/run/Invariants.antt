@@ -1,12 +1,6 @@
 -- `batch::run` meets its contract. Whenever the loop's test is reached, the events so far were run by single calls, and their decisions
 -- stand in the buffer. The measure is how many are left.
-use Prim.Native.Nat.{◌+◌, ◌≤◌}
-use mathlib.Core.Path.{◌≡◌, ap}
-use native.Mathlib.Omega.{arith}
-use lib.ListN.{length, drop}
-use Rattle.rules.specs.Fields.{field_size}
-use Rattle.fields.specs.declared.Cut.{Cut}
-use Rattle.batching.proofs.Running.{Running, running_starts, has_room, decision_fits, field_within, one_run, all_run}
+use Rattle.batching.proofs.Running.{Running}
 use Rattle.batching.proofs.batch.run.Given as goal
 
 abbrev pub invariant-loop-left : goal.invariant-loop-left

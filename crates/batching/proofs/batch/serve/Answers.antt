@@ -1,6 +1,5 @@
 -- `batch::serve` meets its contract: 14, or all complete fields run.
 use native.Mathlib.Omega.{arith}
-use borrow.Author.Rules.{rules}
 use Rattle.batching.proofs.Serving.{refused_14, ran}
 use Rattle.batching.proofs.batch.serve.Goals as goal
 

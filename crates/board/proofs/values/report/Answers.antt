@@ -1,6 +1,5 @@
 -- `values::report` meets its contract: number by number.
 use Rattle.board.specs.Board.{report_of}
-use borrow.Author.Rules.{rules}
 use Rattle.board.proofs.values.report.Goals as goal
 
 pub returns : goal.returns

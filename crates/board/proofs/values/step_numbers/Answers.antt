@@ -2,7 +2,6 @@
 use mathlib.Core.Path.{ap, ◌∙◌}
 use Rattle.board.specs.declared.Report.{Report}
 use Rattle.board.specs.Board.{report_of}
-use borrow.Author.Rules.{rules}
 use Rattle.board.proofs.values.step_numbers.Goals as goal
 
 pub returns : goal.returns

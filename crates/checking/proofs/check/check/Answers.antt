@@ -1,5 +1,4 @@
 -- `check::check` meets its contract.
-use borrow.Author.Rules.{rules}
 use Rattle.checking.proofs.check.check.Goals as goal
 
 pub returns : goal.returns

@@ -1,6 +1,5 @@
 -- `shown::manager_number` meets its contract: gone, or a byte.
 use mathlib.Core.Path.{◌∙◌}
-use borrow.Author.Rules.{rules}
 use Rattle.dumping.proofs.Showing.{gone_shown, manager_shown}
 use Rattle.dumping.proofs.shown.manager_number.Goals as goal
 

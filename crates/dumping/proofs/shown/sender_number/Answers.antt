@@ -1,6 +1,5 @@
 -- `shown::sender_number` meets its contract, test by test.
 use borrow.Author.Tests.{eq-eqb, ne_eqb}
-use borrow.Author.Rules.{rules}
 use Rattle.dumping.specs.Shown.{sender_number}
 use Rattle.dumping.proofs.shown.sender_number.Goals as goal
 

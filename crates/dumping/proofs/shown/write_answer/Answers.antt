@@ -3,7 +3,6 @@ use mathlib.Core.Path.{refl, sym, ◌∙◌}
 use mathlib.Core.List.{◌∷◌}
 use Rattle.rules.specs.Lists.{four_bytes}
 use Rattle.buffer.proofs.Putting.{behind, counted, said}
-use borrow.Author.Rules.{rules}
 use Rattle.dumping.proofs.Showing.{answer_shown, answer_else}
 use Rattle.dumping.proofs.shown.write_answer.Goals as goal
 

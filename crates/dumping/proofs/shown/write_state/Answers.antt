@@ -2,7 +2,6 @@
 use mathlib.Core.Path.{sym, ◌∙◌}
 use mathlib.Core.List.{[], ◌∷◌}
 use Rattle.buffer.proofs.Putting.{said}
-use borrow.Author.Rules.{rules}
 use Rattle.dumping.proofs.Showing.{state_shown, state_else}
 use Rattle.dumping.proofs.shown.write_state.Goals as goal
 

@@ -1,12 +1,7 @@
 -- `writing::count_held` meets its contract. The loop: the held words of the devices passed are counted.
-use Prim.Native.Nat.{◌-◌}
-use Rattle.rules.specs.Numbers.{devices}
-use Rattle.store.specs.Store.{tables}
-use Rattle.dumping.specs.Dumping.{held_at}
-use Rattle.dumping.proofs.Walks.{below, walk_held, held_few}
-use Rattle.dumping.proofs.Puttings.{Counted, count_starts, count_next, count_within, count_ends}
+use Rattle.dumping.proofs.Walks.{walk_held, held_few}
+use Rattle.dumping.proofs.Puttings.{count_starts, count_next, count_within, count_ends}
 use native.Mathlib.Omega.{arith}
-use borrow.Author.Rules.{rules}
 use Rattle.dumping.proofs.writing.count_held.Goals as goal
 
 pub loop-d-init : goal.loop-d-init

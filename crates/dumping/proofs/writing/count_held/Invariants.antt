@@ -3,10 +3,8 @@ use Prim.Native.Nat.{◌-◌}
 use Rattle.rules.specs.Numbers.{devices}
 use Rattle.store.specs.Store.{tables}
 use Rattle.dumping.specs.Dumping.{held_at}
-use Rattle.dumping.proofs.Walks.{below, walk_held, held_few}
-use Rattle.dumping.proofs.Puttings.{Counted, count_starts, count_next, count_within, count_ends}
-use native.Mathlib.Omega.{arith}
-use borrow.Author.Rules.{rules}
+use Rattle.dumping.proofs.Walks.{below}
+use Rattle.dumping.proofs.Puttings.{Counted}
 use Rattle.dumping.proofs.writing.count_held.Given as goal
 
 abbrev pub invariant-loop-d : goal.invariant-loop-d

@@ -1,13 +1,10 @@
 -- `writing::write_clock` meets its contract. The loop: the names passed stand behind the head of the field.
-use Prim.Native.Nat.{◌-◌}
 use mathlib.Core.Path.{◌∙◌}
-use Rattle.store.specs.Store.{tables}
 use Rattle.store.proofs.Limits.{names_left}
 use Rattle.store.proofs.Lengths.{clock_limit}
 use Rattle.buffer.proofs.Putting.{stays_long}
-use Rattle.dumping.proofs.Puttings.{Named, name_starts, named_long, name_there, name_room, name_next, name_ends}
+use Rattle.dumping.proofs.Puttings.{name_starts, named_long, name_there, name_room, name_next, name_ends}
 use native.Mathlib.Omega.{arith}
-use borrow.Author.Rules.{rules}
 use Rattle.dumping.proofs.writing.write_clock.Goals as goal
 
 pub clock_count-n-requires : goal.clock_count-n-requires

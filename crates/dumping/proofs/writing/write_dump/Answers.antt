@@ -7,7 +7,6 @@ use Rattle.store.specs.Store.{tables}
 use Rattle.buffer.proofs.Putting.{Front, front, after, room, place_within}
 use Rattle.dumping.proofs.Parts.{to_threads, to_ready, to_clock, to_messages, Lengths, lengths}
 use native.Mathlib.Omega.{arith}
-use borrow.Author.Rules.{rules}
 use Rattle.dumping.proofs.writing.write_dump.Goals as goal
 
 pub write_head-at-requires : goal.write_head-at-requires

@@ -2,7 +2,6 @@
 use mathlib.Core.Path.{refl}
 use Rattle.buffer.proofs.Putting.{behind, counted, said}
 use Rattle.dumping.proofs.Showing.{front_bytes}
-use borrow.Author.Rules.{rules}
 use Rattle.dumping.proofs.writing.write_front.Goals as goal
 
 pub returns : goal.returns

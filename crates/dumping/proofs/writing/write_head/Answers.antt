@@ -5,7 +5,6 @@ use Rattle.rules.specs.Codes.{status_code, slice_code}
 use Rattle.store.specs.Store.{tables}
 use Rattle.buffer.proofs.Putting.{behind, counted, said}
 use Rattle.dumping.proofs.Parts.{head_bytes}
-use borrow.Author.Rules.{rules}
 use Rattle.dumping.proofs.writing.write_head.Goals as goal
 
 pub status-s-requires : goal.status-s-requires

@@ -1,15 +1,9 @@
 -- `writing::write_held` meets its contract. The loop: the fields of the held words of the devices passed stand at the front.
-use Prim.Native.Nat.{◌-◌}
-use Rattle.rules.specs.Numbers.{devices}
-use Rattle.rules.specs.Dump.{field, held_value}
 use Rattle.laws.proofs.DumpLength.{held_length}
-use Rattle.store.specs.Store.{tables}
-use Rattle.dumping.specs.Dumping.{held_at}
-use Rattle.dumping.proofs.Walks.{below, walk_held}
-use Rattle.dumping.proofs.Puttings.{Written, write_starts, written_long, write_room, write_fits, write_within, write_next}
+use Rattle.dumping.proofs.Walks.{walk_held}
+use Rattle.dumping.proofs.Puttings.{write_starts, written_long, write_room, write_fits, write_within, write_next}
 use Rattle.dumping.proofs.Puttings.{write_ends}
 use native.Mathlib.Omega.{arith}
-use borrow.Author.Rules.{rules}
 use Rattle.dumping.proofs.writing.write_held.Goals as goal
 
 pub loop-d-init : goal.loop-d-init

@@ -2,7 +2,6 @@
 use mathlib.Core.Path.{refl}
 use Rattle.rules.specs.Dump.{message_value}
 use Rattle.buffer.proofs.Putting.{behind, counted}
-use borrow.Author.Rules.{rules}
 use Rattle.dumping.proofs.writing.write_message.Goals as goal
 
 pub returns : goal.returns

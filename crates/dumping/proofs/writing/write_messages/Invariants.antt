@@ -3,14 +3,9 @@ use Prim.Native.Nat.{◌-◌}
 use mathlib.Core.List.{[], ◌∷◌}
 use lib.ListN.{take, get_or}
 use Rattle.rules.specs.Dump.{field, message_value}
-use Rattle.laws.proofs.DumpLength.{message_length}
 use Rattle.memory.specs.Rows.{no_message}
 use Rattle.store.specs.Store.{tables}
-use Rattle.dumping.proofs.Walks.{walk_list}
-use Rattle.dumping.proofs.Puttings.{Written, write_starts, written_long, write_room, write_fits, write_within, write_next}
-use Rattle.dumping.proofs.Puttings.{write_ends, one_field}
-use native.Mathlib.Omega.{arith}
-use borrow.Author.Rules.{rules}
+use Rattle.dumping.proofs.Puttings.{Written}
 use Rattle.dumping.proofs.writing.write_messages.Given as goal
 
 abbrev pub invariant-loop-i : goal.invariant-loop-i

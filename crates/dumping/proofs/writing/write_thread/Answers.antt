@@ -3,7 +3,6 @@ use mathlib.Core.Path.{refl}
 use Rattle.buffer.proofs.Putting.{behind, counted, said}
 use Rattle.dumping.specs.Shown.{thread_front}
 use Rattle.dumping.proofs.Showing.{thread_bytes}
-use borrow.Author.Rules.{rules}
 use Rattle.dumping.proofs.writing.write_thread.Goals as goal
 
 pub returns : goal.returns

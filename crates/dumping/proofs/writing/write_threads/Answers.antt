@@ -1,18 +1,14 @@
 -- `writing::write_threads` meets its contract. The loop: the fields of the threads passed stand at the front.
-use Prim.Native.Nat.{◌-◌}
 use mathlib.Core.Path.{◌∙◌}
-use mathlib.Core.List.{[], ◌∷◌}
-use lib.ListN.{take, get_or}
 use Rattle.rules.specs.Dump.{field, thread_value}
 use Rattle.laws.proofs.DumpLength.{thread_length}
 use Rattle.memory.specs.Rows.{no_thread}
 use Rattle.store.specs.Store.{tables}
 use Rattle.store.proofs.Searched.{threads_within, thread_entry}
 use Rattle.dumping.proofs.Walks.{walk_list}
-use Rattle.dumping.proofs.Puttings.{Written, write_starts, written_long, write_room, write_fits, write_within, write_next}
+use Rattle.dumping.proofs.Puttings.{write_starts, written_long, write_room, write_fits, write_within, write_next}
 use Rattle.dumping.proofs.Puttings.{write_ends, one_field}
 use native.Mathlib.Omega.{arith}
-use borrow.Author.Rules.{rules}
 use Rattle.dumping.proofs.writing.write_threads.Goals as goal
 
 pub thread_count-n-requires : goal.thread_count-n-requires

@@ -1,5 +1,4 @@
 -- `find::find` meets its contract: one law for each exit.
-use borrow.Author.Rules.{rules}
 use Rattle.faults.proofs.Finding.{lengths_right, found_15, ended_15, found_16, found_17, found_18, none_found}
 use Rattle.faults.proofs.find.find.Goals as goal
 

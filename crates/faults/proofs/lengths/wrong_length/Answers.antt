@@ -1,7 +1,6 @@
 -- `lengths::wrong_length` meets its contract: what the table says of the tag.
 use lib.ListN.{length-drop}
 use borrow.Author.Tests.{not-true, not-false}
-use borrow.Author.Rules.{rules}
 use Rattle.rules.specs.Faults.{wrong_length as wrong_length_of}
 use Rattle.faults.proofs.lengths.wrong_length.Goals as goal
 

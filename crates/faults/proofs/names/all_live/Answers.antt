@@ -1,10 +1,6 @@
 -- `names::all_live` meets its contract: those before i live.
-use Prim.Native.Nat.{◌-◌}
 use mathlib.Core.Path.{sym, ◌∙◌}
-use borrow.Author.Tests.{not-true, not-false}
-use borrow.Author.Rules.{rules}
-use Rattle.faults.specs.Names.{lives_in}
-use Rattle.faults.proofs.Alls.{Passed, none_passed, one_more, one_fails, all_passed}
+use Rattle.faults.proofs.Alls.{none_passed, one_more, one_fails, all_passed}
 use Rattle.faults.proofs.names.all_live.Goals as goal
 
 pub loop-i-init : goal.loop-i-init

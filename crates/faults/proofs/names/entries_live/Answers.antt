@@ -1,7 +1,5 @@
 -- `names::entries_live` meets its contract: entry by entry.
 use mathlib.Core.Path.{sym, ◌∙◌}
-use borrow.Author.Tests.{not-true, not-false}
-use borrow.Author.Rules.{rules}
 use Rattle.faults.proofs.names.entries_live.Goals as goal
 
 pub returns-then-not-entry_lives : goal.returns-then-not-entry_lives

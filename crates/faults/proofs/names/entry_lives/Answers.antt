@@ -1,5 +1,4 @@
 -- `names::entry_lives` meets its contract: each arm is the rule's own case.
-use borrow.Author.Rules.{rules}
 use Rattle.faults.proofs.names.entry_lives.Goals as goal
 
 pub returns-in-Set : goal.returns-in-Set

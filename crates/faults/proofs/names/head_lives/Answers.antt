@@ -1,5 +1,4 @@
 -- `names::head_lives` meets its contract: the runner that the two bytes stand for.
-use borrow.Author.Rules.{rules}
 use Rattle.rules.specs.Faults.{head_lives as head_lives_of}
 use Rattle.faults.proofs.names.head_lives.Goals as goal
 

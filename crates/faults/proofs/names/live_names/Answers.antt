@@ -1,13 +1,10 @@
 -- `names::live_names` meets its contract: the names of the fields before a place are marked. The measure is how many bytes are left.
-use Prim.Native.Nat.{◌-◌}
 use mathlib.Core.Path.{sym, ◌∙◌}
 use native.Mathlib.Omega.{arith}
-use lib.ListN.{length}
 use borrow.Author.Tests.{not-true, not-false}
-use borrow.Author.Rules.{rules}
 use Rattle.fields.proofs.Sizes.{Inside, inside}
 use Rattle.faults.proofs.Walking.{tag_there}
-use Rattle.faults.proofs.Naming.{Marking, mark_starts, mark_skips, thread_long, name_there, mark_next, mark_cut, mark_ends}
+use Rattle.faults.proofs.Naming.{mark_starts, mark_skips, thread_long, name_there, mark_next, mark_cut, mark_ends}
 use Rattle.faults.proofs.names.live_names.Goals as goal
 
 pub loop-at-init : goal.loop-at-init
@@ -70,7 +67,7 @@ loop-at-preserved c =
     let f = found in
     let w = sym f.all_there ∙ not-false _ c.if-not-next.false in
     mark_skips _ c.loop-at.invariant _ w f.ends
-    (λ k. c.if-bytes-at-eq-THREAD.false (sym (tag_there _ _ _ w f.ends) ∙ k))
+    (λ k. omega (arith, tag_there _ _ _ w f.ends, k))
 
 pub returns : goal.returns
 returns c = mark_ends _ c.loop-at.invariant c.loop-at-test.false

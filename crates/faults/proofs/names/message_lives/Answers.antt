@@ -1,7 +1,5 @@
 -- `names::message_lives` meets its contract: receiver and sender.
 use mathlib.Core.Path.{sym, ◌∙◌}
-use borrow.Author.Tests.{not-true, not-false}
-use borrow.Author.Rules.{rules}
 use Rattle.rules.specs.Faults.{message_lives as message_lives_of}
 use Rattle.faults.proofs.names.message_lives.Goals as goal
 

@@ -1,5 +1,4 @@
 -- `names::name_wanted_lives` meets its contract: each arm is the rule's own case.
-use borrow.Author.Rules.{rules}
 use Rattle.faults.proofs.names.name_wanted_lives.Goals as goal
 
 pub returns-in-Only : goal.returns-in-Only

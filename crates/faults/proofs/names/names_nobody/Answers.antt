@@ -4,7 +4,6 @@ use mathlib.Core.List.{List}
 use mathlib.Core.Path.{sym, ap, ◌∙◌}
 use mathlib.Core.Bool.{not}
 use lib.ListN.{get_or}
-use borrow.Author.Rules.{rules}
 use Rattle.rules.specs.Faults.{wrong_length, value_lives, names_nobody as names_nobody_of}
 use Rattle.faults.specs.Names.{lives_in}
 use Rattle.faults.proofs.Fits.{value_is}

@@ -1,5 +1,4 @@
 -- `names::parent_lives` meets its contract: each arm is the rule's own case.
-use borrow.Author.Rules.{rules}
 use Rattle.faults.proofs.names.parent_lives.Goals as goal
 
 pub returns-in-ParentIs : goal.returns-in-ParentIs

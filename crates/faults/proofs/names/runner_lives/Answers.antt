@@ -1,5 +1,4 @@
 -- `names::runner_lives` meets its contract: each arm is the rule's own case.
-use borrow.Author.Rules.{rules}
 use Rattle.faults.proofs.names.runner_lives.Goals as goal
 
 pub returns-in-Runs : goal.returns-in-Runs

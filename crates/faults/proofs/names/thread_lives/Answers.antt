@@ -1,7 +1,6 @@
 -- `names::thread_lives` meets its contract: parent, wanted name, entries, and the entry that is waited for.
 use mathlib.Core.Path.{sym, ◌∙◌}
-use borrow.Author.Tests.{not-true, not-false}
-use borrow.Author.Rules.{rules}
+use borrow.Author.Tests.{not-false}
 use Rattle.rules.specs.Load.{thread_from}
 use Rattle.rules.specs.Faults.{thread_lives as thread_lives_of}
 use Rattle.faults.proofs.names.thread_lives.Goals as goal

@@ -2,7 +2,6 @@
 use mathlib.Core.Path.{refl}
 use native.Mathlib.Omega.{arith}
 use borrow.Author.Tests.{ne_eqb}
-use borrow.Author.Rules.{rules}
 use Rattle.rules.specs.Tags.{dump_facts, dump_facts_in}
 use Rattle.rules.specs.Faults.{value_lives as value_lives_of}
 use Rattle.faults.proofs.Fits.{long}

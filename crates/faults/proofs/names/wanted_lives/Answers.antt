@@ -1,5 +1,4 @@
 -- `names::wanted_lives` meets its contract: each arm is the rule's own case.
-use borrow.Author.Rules.{rules}
 use Rattle.faults.proofs.names.wanted_lives.Goals as goal
 
 pub returns-in-Receiving : goal.returns-in-Receiving

@@ -1,6 +1,5 @@
 -- `order::misplaced` meets its contract: one law of the table for each exit.
 use borrow.Author.Tests.{not-true, not-false, lt-ltb, le-ltb}
-use borrow.Author.Rules.{rules}
 use Rattle.faults.specs.Order.{misplaced_behind}
 use Rattle.faults.proofs.order.misplaced.Goals as goal
 

@@ -1,6 +1,5 @@
 -- `order::place_of` meets its contract: what the table says.
 use mathlib.Core.Path.{ap}
-use borrow.Author.Rules.{rules}
 use Rattle.rules.specs.declared.DumpFacts.{DumpFacts}
 use Rattle.faults.proofs.order.place_of.Goals as goal
 

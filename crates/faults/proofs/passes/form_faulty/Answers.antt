@@ -1,6 +1,5 @@
 -- `passes::form_faulty` meets its contract: by number.
 use borrow.Author.Tests.{ne_eqb}
-use borrow.Author.Rules.{rules}
 use Rattle.faults.specs.Passes.{form_behind}
 use Rattle.faults.proofs.passes.form_faulty.Goals as goal
 

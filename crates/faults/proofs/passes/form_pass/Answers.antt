@@ -1,11 +1,10 @@
 -- `passes::form_pass` meets its contract: the fields before a place have no fault. The measure is how many bytes are left.
-use Prim.Native.Nat.{ℕ, ◌-◌}
+use Prim.Native.Nat.{ℕ}
 use mathlib.Core.List.{List}
 use mathlib.Core.Path.{sym, ap, ◌∙◌, subst}
 use native.Mathlib.Omega.{arith}
 use lib.ListN.{length}
 use borrow.Author.Tests.{not-true, not-false}
-use borrow.Author.Rules.{rules}
 use Rattle.rules.specs.Load.{as_field}
 use Rattle.fields.proofs.Sizes.{Inside, inside}
 use Rattle.faults.specs.declared.Before.{Before}

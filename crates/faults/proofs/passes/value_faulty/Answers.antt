@@ -1,6 +1,5 @@
 -- `passes::value_faulty` meets its contract: by number.
 use borrow.Author.Tests.{ne_eqb}
-use borrow.Author.Rules.{rules}
 use Rattle.faults.specs.Passes.{value_fault}
 use Rattle.faults.proofs.passes.value_faulty.Goals as goal
 

@@ -1,16 +1,15 @@
 -- `passes::value_pass` meets its contract: the fields before a place have no fault. The measure is how many bytes are left.
-use Prim.Native.Nat.{ℕ, ◌-◌}
+use Prim.Native.Nat.{ℕ}
 use mathlib.Core.List.{List}
 use mathlib.Core.Path.{sym, ap, ◌∙◌}
 use native.Mathlib.Omega.{arith}
 use lib.ListN.{length}
 use borrow.Author.Tests.{not-true, not-false}
-use borrow.Author.Rules.{rules}
 use Rattle.rules.specs.Load.{as_field}
 use Rattle.fields.proofs.Sizes.{Inside, inside}
 use Rattle.faults.specs.Names.{lives_in}
 use Rattle.faults.specs.Passes.{value_fault}
-use Rattle.faults.proofs.Walking.{ValueWalked, value_starts, value_next, value_finds, value_cut, value_ends, ends_within, first_long}
+use Rattle.faults.proofs.Walking.{value_starts, value_next, value_finds, value_cut, value_ends, ends_within, first_long}
 use Rattle.faults.proofs.Walking.{cut_out}
 use Rattle.faults.proofs.passes.value_pass.Goals as goal
 

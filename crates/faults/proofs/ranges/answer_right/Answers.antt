@@ -1,7 +1,6 @@
 -- `ranges::answer_right` meets its contract: each arm is the rule's own case; a word is below 2^32.
 use mathlib.Core.Path.{sym, ◌∙◌}
 use borrow.Author.Tests.{lt-ltb}
-use borrow.Author.Rules.{rules}
 use Rattle.faults.proofs.Fits.{and_true, result_right}
 use Rattle.rules.specs.Numbers.{wrap}
 use Rattle.rules.specs.TableRules.{answer_in_range}

@@ -1,6 +1,5 @@
 -- `ranges::kind_fits` meets its contract: what is written for the kind that it stands for.
 use mathlib.Core.Path.{ap, ◌∙◌}
-use borrow.Author.Rules.{rules}
 use Rattle.rules.specs.Codes.{message_code as message_code_of}
 use Rattle.faults.proofs.ranges.kind_fits.Goals as goal
 

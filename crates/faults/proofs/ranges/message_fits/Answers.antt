@@ -1,7 +1,5 @@
 -- `ranges::message_fits` meets its contract: a test for each exit.
 use mathlib.Core.Path.{sym, ◌∙◌}
-use borrow.Author.Tests.{not-true, not-false}
-use borrow.Author.Rules.{rules}
 use Rattle.rules.specs.Faults.{message_fits as message_fits_of}
 use Rattle.faults.proofs.ranges.message_fits.Goals as goal
 

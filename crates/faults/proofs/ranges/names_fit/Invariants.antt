@@ -1,10 +1,7 @@
 -- `ranges::names_fit` meets its contract: those before i are names.
 use Prim.Native.Nat.{◌-◌}
-use mathlib.Core.Path.{sym, ◌∙◌}
-use borrow.Author.Tests.{not-true, not-false}
-use borrow.Author.Rules.{rules}
 use Rattle.rules.specs.Faults.{is_name}
-use Rattle.faults.proofs.Alls.{Passed, none_passed, one_more, one_fails, all_passed}
+use Rattle.faults.proofs.Alls.{Passed}
 use Rattle.faults.proofs.ranges.names_fit.Given as goal
 
 abbrev pub invariant-loop-i : goal.invariant-loop-i

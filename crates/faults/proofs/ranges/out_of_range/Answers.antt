@@ -4,7 +4,6 @@ use mathlib.Core.List.{List}
 use mathlib.Core.Path.{sym, ap, ◌∙◌}
 use mathlib.Core.Bool.{not}
 use lib.ListN.{get_or}
-use borrow.Author.Rules.{rules}
 use Rattle.rules.specs.Faults.{wrong_length, value_fits, out_of_range as out_of_range_of}
 use Rattle.faults.proofs.Fits.{value_is}
 use Rattle.faults.proofs.ranges.out_of_range.Goals as goal

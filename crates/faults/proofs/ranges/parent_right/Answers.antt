@@ -1,5 +1,4 @@
 -- `ranges::parent_right` meets its contract: each arm is the rule's own case.
-use borrow.Author.Rules.{rules}
 use Rattle.faults.proofs.ranges.parent_right.Goals as goal
 
 pub returns-in-ParentIs : goal.returns-in-ParentIs

@@ -1,7 +1,6 @@
 -- `ranges::runner_fits` meets its contract: what is written for what it stands for.
 use mathlib.Core.Path.{sym, ◌∙◌}
 use borrow.Author.Tests.{eq-eqb, ne_eqb}
-use borrow.Author.Rules.{rules}
 use Rattle.rules.specs.Faults.{runner_fits as runner_fits_of}
 use Rattle.faults.proofs.ranges.runner_fits.Goals as goal
 

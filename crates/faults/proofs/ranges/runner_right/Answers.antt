@@ -1,5 +1,4 @@
 -- `ranges::runner_right` meets its contract: each arm is the rule's own case.
-use borrow.Author.Rules.{rules}
 use Rattle.faults.proofs.ranges.runner_right.Goals as goal
 
 pub returns-in-Runs : goal.returns-in-Runs

@@ -1,7 +1,6 @@
 -- `ranges::slice_right` meets its contract: a test for each exit.
 use mathlib.Core.Path.{sym, ◌∙◌}
-use borrow.Author.Tests.{not-true, not-false, le-leb, lt-leb}
-use borrow.Author.Rules.{rules}
+use borrow.Author.Tests.{le-leb, lt-leb}
 use Rattle.faults.proofs.ranges.slice_right.Goals as goal
 
 pub returns-then-not-is_name : goal.returns-then-not-is_name

@@ -1,7 +1,6 @@
 -- `ranges::state_fits` meets its contract: what is written for what it stands for.
 use mathlib.Core.Path.{sym, ◌∙◌}
 use borrow.Author.Tests.{eq-eqb, ne_eqb}
-use borrow.Author.Rules.{rules}
 use Rattle.rules.specs.Faults.{state_fits as state_fits_of}
 use Rattle.faults.proofs.ranges.state_fits.Goals as goal
 

@@ -1,8 +1,6 @@
 -- `ranges::thread_fits` meets its contract: a test for each exit.
 use mathlib.Core.Path.{sym, ◌∙◌}
-use borrow.Author.Tests.{not-true, not-false}
-use borrow.Author.Rules.{rules}
-use Rattle.rules.specs.Faults.{is_name, thread_fits as thread_fits_of}
+use Rattle.rules.specs.Faults.{thread_fits as thread_fits_of}
 use Rattle.faults.proofs.ranges.thread_fits.Goals as goal
 
 pub returns-then-not-is_name : goal.returns-then-not-is_name

@@ -1,5 +1,4 @@
 -- `ranges::wanted_right` meets its contract: each arm is the rule's own case.
-use borrow.Author.Rules.{rules}
 use Rattle.faults.proofs.ranges.wanted_right.Goals as goal
 
 pub returns-in-Only : goal.returns-in-Only

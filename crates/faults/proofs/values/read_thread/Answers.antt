@@ -1,6 +1,5 @@
 -- `values::read_thread` meets its contract: each field is what its bytes stand for.
 use Rattle.rules.specs.Load.{thread_from}
-use borrow.Author.Rules.{rules}
 use Rattle.faults.proofs.values.read_thread.Goals as goal
 
 pub returns : goal.returns

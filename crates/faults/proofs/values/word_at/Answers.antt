@@ -1,7 +1,6 @@
 -- `values::word_at` meets its contract: `four_at`.
 use Rattle.laws.proofs.Bytes.{four_at}
 use native.Mathlib.Omega.{arith}
-use borrow.Author.Rules.{rules}
 use Rattle.faults.proofs.values.word_at.Goals as goal
 
 pub returns : goal.returns

@@ -1,6 +1,5 @@
 -- `cuts::cut_at` meets its contract: one law for each exit.
 use native.Mathlib.Omega.{arith}
-use borrow.Author.Rules.{rules}
 use Rattle.fields.proofs.Sizes.{none_left, few_left, cut_left, whole_left}
 use Rattle.fields.proofs.cuts.cut_at.Goals as goal
 

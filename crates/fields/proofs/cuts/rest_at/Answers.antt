@@ -5,7 +5,6 @@ use mathlib.Core.List.{List}
 use native.Mathlib.Omega.{arith}
 use lib.ListN.{length, take, drop, length-drop, drop_of_length-le}
 use lib.Seq.{take_all, drop-length}
-use borrow.Author.Rules.{rules}
 use Rattle.fields.proofs.cuts.rest_at.Goals as goal
 
 to_the_end : (s : List ℕ) (n : ℕ) → take (length s - n) (drop n s) ≡ drop n s

@@ -1,5 +1,5 @@
 -- `dispatch::dispatch` meets its contract: the front of the queue runs where nobody does, and else the runner goes on.
-use Rattle.std.proofs.Common.{sym, ◌∙◌, rules}
+use Rattle.std.proofs.Common.{sym, ◌∙◌}
 use Rattle.rules.specs.Waking.{◌handing◌}
 use Rattle.laws.proofs.Single.{dispatch_stays}
 use Rattle.store.specs.Store.{tables}

@@ -1,5 +1,5 @@
 -- `dispatch::run_next` meets its contract: nobody is ready, or the front of the queue is taken.
-use Rattle.std.proofs.Common.{sym, ◌∙◌, arith, rules}
+use Rattle.std.proofs.Common.{sym, ◌∙◌, arith}
 use Rattle.store.specs.Store.{tables}
 use Rattle.rules.specs.Waking.{◌handing◌}
 use Rattle.handling.proofs.Leaving.{as_it_was, and_hands}

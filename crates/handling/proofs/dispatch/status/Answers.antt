@@ -1,5 +1,5 @@
 -- `dispatch::status` meets its contract: a runner, no thread, or a thread that something outside wakes.
-use Rattle.std.proofs.Common.{true, false, sym, ◌∙◌, rules}
+use Rattle.std.proofs.Common.{true, false, sym, ◌∙◌}
 use Rattle.store.specs.Store.{tables}
 use Rattle.handling.proofs.Dispatching.{working, halted, rests}
 use Rattle.handling.proofs.dispatch.status.Goals as goal

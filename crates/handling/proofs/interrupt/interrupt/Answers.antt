@@ -1,5 +1,5 @@
 -- `interrupt::interrupt` meets its contract: the one waiter of the device is woken, or there is none and the word is held.
-use Rattle.std.proofs.Common.{sym, ◌∙◌, rules}
+use Rattle.std.proofs.Common.{sym, ◌∙◌}
 use Rattle.laws.proofs.Single.{interrupt_holds}
 use Rattle.store.specs.Store.{tables}
 use Rattle.handling.proofs.Leaving.{in_words}

@@ -1,5 +1,5 @@
 -- `moves::deliver` meets its contract: a receiver that waits is woken, and has room in the ready queue; else the message is queued.
-use Rattle.std.proofs.Common.{sym, ap, ◌∙◌, rules}
+use Rattle.std.proofs.Common.{sym, ap, ◌∙◌}
 use Rattle.rules.specs.Waking.{wake}
 use Rattle.laws.specs.Words.{Answer}
 use Rattle.laws.proofs.Single.{deliver_wakes, deliver_queues}

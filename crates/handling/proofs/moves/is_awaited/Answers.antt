@@ -1,5 +1,5 @@
 -- `moves::is_awaited` meets its contract: the receiver is asked.
-use Rattle.std.proofs.Common.{◌∙◌, rules}
+use Rattle.std.proofs.Common.{◌∙◌}
 use Rattle.store.specs.Store.{tables}
 use Rattle.handling.proofs.Moving.{awaited}
 use Rattle.handling.proofs.moves.is_awaited.Goals as goal

@@ -1,6 +1,5 @@
 -- `moves::stop` meets its contract: the thread is turned, and nobody runs.
 use Rattle.handling.proofs.Moving.{stopped}
-use Rattle.std.proofs.Common.{rules}
 use Rattle.handling.proofs.moves.stop.Goals as goal
 
 pub set_runner-requires : goal.set_runner-requires

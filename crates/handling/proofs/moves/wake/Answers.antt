@@ -1,6 +1,5 @@
 -- `moves::wake` meets its contract: the thread is turned, and its name joins the tail.
 use Rattle.handling.proofs.Moving.{turned_room, woken}
-use Rattle.std.proofs.Common.{rules}
 use Rattle.handling.proofs.moves.wake.Goals as goal
 
 pub join_ready-requires : goal.join_ready-requires

@@ -1,6 +1,6 @@
 -- `tick::beat` meets its contract. The ready and the clock waiters are different threads, so the ready queue has room for all.
 use Rattle.handling.proofs.Ticking.{passed, beat_room, struck}
-use Rattle.std.proofs.Common.{arith, rules}
+use Rattle.std.proofs.Common.{arith}
 use Rattle.handling.proofs.tick.beat.Goals as goal
 
 pub since-since-requires : goal.since-since-requires

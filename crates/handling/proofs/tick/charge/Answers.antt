@@ -1,5 +1,5 @@
 -- `tick::charge` meets its contract: the runner's count is raised, and its slice is one less.
-use Rattle.std.proofs.Common.{sym, ◌∙◌, rules}
+use Rattle.std.proofs.Common.{sym, ◌∙◌}
 use Rattle.laws.proofs.Single.{charge_none}
 use Rattle.store.specs.Store.{tables}
 use Rattle.handling.proofs.Leaving.{as_it_was, in_words}

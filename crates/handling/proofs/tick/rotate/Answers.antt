@@ -1,5 +1,5 @@
 -- `tick::rotate` meets its contract: with a used-up slice the runner is woken and nobody runs.
-use Rattle.std.proofs.Common.{sym, ◌∙◌, arith, rules}
+use Rattle.std.proofs.Common.{sym, ◌∙◌, arith}
 use Rattle.laws.proofs.Single.{rotate_stays, rotate_none}
 use Rattle.store.specs.Store.{tables}
 use Rattle.handling.proofs.Leaving.{as_it_was, in_words}

@@ -1,5 +1,5 @@
 -- `tick::tick` meets its contract: each part leaves what the next asks.
-use Rattle.std.proofs.Common.{◌<◌, arith, rules}
+use Rattle.std.proofs.Common.{◌<◌, arith}
 use Rattle.rules.specs.Numbers.{Limits, beat_ticks}
 use Rattle.rules.specs.Tables.{Tables}
 use Rattle.rules.specs.Tick.{beat, rotate, tick}

@@ -1,6 +1,5 @@
 -- `index::is_live` meets its contract: the look-up law of the index.
 use native.Mathlib.Omega.{arith}
-use borrow.Author.Rules.{rules}
 use Rattle.indexing.proofs.Indexing.{look_live}
 use Rattle.indexing.proofs.index.is_live.Goals as goal
 

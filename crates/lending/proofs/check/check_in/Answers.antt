@@ -1,7 +1,5 @@
 -- `check::check_in` meets its contract: the check's answer as a refusal.
 use mathlib.Core.Path.{sym, ◌∙◌}
-use borrow.Author.Tests.{not-true, not-false}
-use borrow.Author.Rules.{rules}
 use Rattle.lending.specs.Lent.{check_of}
 use Rattle.lending.proofs.check.check_in.Goals as goal
 

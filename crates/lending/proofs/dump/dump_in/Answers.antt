@@ -2,8 +2,6 @@
 use mathlib.Core.Path.{◌≡◌, sym, ◌∙◌}
 use mathlib.Core.Bool.{true}
 use native.Mathlib.Omega.{arith}
-use borrow.Author.Tests.{not-true, not-false}
-use borrow.Author.Rules.{rules}
 use Rattle.loading.proofs.Exits.{writable}
 use Rattle.lending.specs.Lent.{valid}
 use Rattle.lending.proofs.DumpExits.{eleven, twelve, written}

@@ -1,7 +1,5 @@
 -- `step::step_in` meets its contract: 11, or the step.
 use mathlib.Core.Path.{sym, ◌∙◌}
-use borrow.Author.Rules.{rules}
-use borrow.Author.Tests.{not-true, not-false}
 use Rattle.lending.proofs.Standing.{checked, refused_11, stepped}
 use Rattle.lending.proofs.step.step_in.Goals as goal
 

@@ -1,6 +1,6 @@
 -- `lines::decimal::digits` meets its contract. After each turn k digits are counted; the measure is what is left of the number.
 use native.Mathlib.Omega.{arith}
-use Rattle.lines.proofs.Numerals.{Counted, counted_first, counted_next, counted_all}
+use Rattle.lines.proofs.Numerals.{counted_first, counted_next, counted_all}
 use Rattle.lines.proofs.decimal.digits.Goals as goal
 
 pub loop-rest-init : goal.loop-rest-init

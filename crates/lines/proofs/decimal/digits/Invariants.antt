@@ -1,6 +1,5 @@
 -- `lines::decimal::digits` meets its contract. After each turn k digits are counted; the measure is what is left of the number.
-use native.Mathlib.Omega.{arith}
-use Rattle.lines.proofs.Numerals.{Counted, counted_first, counted_next, counted_all}
+use Rattle.lines.proofs.Numerals.{Counted}
 use Rattle.lines.proofs.decimal.digits.Given as goal
 
 abbrev pub invariant-loop-rest : goal.invariant-loop-rest

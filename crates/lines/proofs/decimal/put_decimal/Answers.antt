@@ -1,8 +1,7 @@
 -- `lines::decimal::put_decimal` meets its contract: the digits are put from the last to the first.
 use native.Mathlib.Omega.{arith}
-use borrow.Author.Rules.{rules}
 use lib.ListN.{length-set}
-use Rattle.lines.proofs.Numerals.{Putting, putting_first, putting_next, putting_all, puts_digit}
+use Rattle.lines.proofs.Numerals.{putting_first, putting_next, putting_all, puts_digit}
 use Rattle.lines.proofs.decimal.put_decimal.Goals as goal
 
 pub overflow_cast-out : goal.overflow_cast-out

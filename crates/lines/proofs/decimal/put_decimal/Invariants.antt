@@ -1,8 +1,5 @@
 -- `lines::decimal::put_decimal` meets its contract: the digits are put from the last to the first.
-use native.Mathlib.Omega.{arith}
-use borrow.Author.Rules.{rules}
-use lib.ListN.{length-set}
-use Rattle.lines.proofs.Numerals.{Putting, putting_first, putting_next, putting_all, puts_digit}
+use Rattle.lines.proofs.Numerals.{Putting}
 use Rattle.lines.proofs.decimal.put_decimal.Given as goal
 
 abbrev pub invariant-loop-i : goal.invariant-loop-i

@@ -1,9 +1,8 @@
 -- `lines::decimal::put_numbers` meets its contract. After i turns the first i numbers stand at the front.
-use Prim.Native.Nat.{◌-◌}
 use native.Mathlib.Omega.{arith}
-use lib.ListN.{length, length-set}
+use lib.ListN.{length-set}
 use Rattle.buffer.proofs.Putting.{room, stays_long}
-use Rattle.lines.proofs.NumberLines.{Row, row_first, row_next, row_ends, row_none, line_few}
+use Rattle.lines.proofs.NumberLines.{row_first, row_next, row_ends, row_none, line_few}
 use Rattle.lines.proofs.decimal.put_numbers.Goals as goal
 
 pub bounds-out-0 : goal.bounds-out-0

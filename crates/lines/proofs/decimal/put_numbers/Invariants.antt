@@ -1,9 +1,7 @@
 -- `lines::decimal::put_numbers` meets its contract. After i turns the first i numbers stand at the front.
 use Prim.Native.Nat.{◌-◌}
-use native.Mathlib.Omega.{arith}
-use lib.ListN.{length, length-set}
-use Rattle.buffer.proofs.Putting.{room, stays_long}
-use Rattle.lines.proofs.NumberLines.{Row, row_first, row_next, row_ends, row_none, line_few}
+use lib.ListN.{length}
+use Rattle.lines.proofs.NumberLines.{Row}
 use Rattle.lines.proofs.decimal.put_numbers.Given as goal
 
 abbrev pub invariant-loop-i : goal.invariant-loop-i

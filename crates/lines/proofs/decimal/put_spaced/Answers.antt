@@ -5,7 +5,6 @@ use native.Mathlib.Omega.{arith}
 use lib.ListN.{length, set, length-set}
 use Rattle.buffer.specs.Puts.{Puts}
 use Rattle.buffer.proofs.Putting.{puts_none, one_more, behind, room, stays_long}
-use borrow.Author.Rules.{rules}
 use Rattle.lines.proofs.Numerals.{few_digits}
 use Rattle.lines.proofs.decimal.put_spaced.Goals as goal
 

@@ -5,7 +5,6 @@ use mathlib.Core.List.{List}
 use Rattle.rules.specs.declared.Status.{Status}
 use Rattle.buffer.specs.Puts.{Puts}
 use Rattle.lines.specs.Text.{last_line}
-use borrow.Author.Rules.{rules}
 use Rattle.lines.proofs.last.put_last.Goals as goal
 
 -- the last line of a status that is known

@@ -1,5 +1,4 @@
 -- `lines::line::put_line` meets its contract: the numbers of the decision, the answer's by their codes, as one line.
-use borrow.Author.Rules.{rules}
 use Rattle.lines.proofs.line.put_line.Goals as goal
 
 pub returns : goal.returns

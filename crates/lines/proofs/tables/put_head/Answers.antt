@@ -1,5 +1,4 @@
 -- `lines::tables::put_head` meets its contract: the numbers of the head as one line.
-use borrow.Author.Rules.{rules}
 use Rattle.lines.proofs.tables.put_head.Goals as goal
 
 pub status-s-requires : goal.status-s-requires

@@ -1,11 +1,7 @@
 -- `lines::tables::put_held` meets its contract. After d turns the lines of the words held for devices below d stand at the front.
-use Prim.Native.Nat.{◌-◌}
-use Rattle.rules.specs.Numbers.{devices}
-use Rattle.store.specs.Store.{tables}
-use Rattle.dumping.proofs.Walks.{below, walk_held}
+use Rattle.dumping.proofs.Walks.{walk_held}
 use Rattle.buffer.proofs.Putting.{place_within}
-use Rattle.lines.specs.Text.{held_line}
-use Rattle.lines.proofs.Entries.{Listed, listed_starts, listed_room, listed_next, listed_ends, word_few}
+use Rattle.lines.proofs.Entries.{listed_starts, listed_room, listed_next, listed_ends, word_few}
 use native.Mathlib.Omega.{arith}
 use Rattle.lines.proofs.tables.put_held.Goals as goal
 

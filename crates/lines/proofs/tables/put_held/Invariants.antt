@@ -2,11 +2,9 @@
 use Prim.Native.Nat.{◌-◌}
 use Rattle.rules.specs.Numbers.{devices}
 use Rattle.store.specs.Store.{tables}
-use Rattle.dumping.proofs.Walks.{below, walk_held}
-use Rattle.buffer.proofs.Putting.{place_within}
+use Rattle.dumping.proofs.Walks.{below}
 use Rattle.lines.specs.Text.{held_line}
-use Rattle.lines.proofs.Entries.{Listed, listed_starts, listed_room, listed_next, listed_ends, word_few}
-use native.Mathlib.Omega.{arith}
+use Rattle.lines.proofs.Entries.{Listed}
 use Rattle.lines.proofs.tables.put_held.Given as goal
 
 abbrev pub invariant-loop-d : goal.invariant-loop-d

@@ -1,5 +1,4 @@
 -- `lines::tables::put_message` meets its contract: the numbers of the message as one line.
-use borrow.Author.Rules.{rules}
 use Rattle.lines.proofs.tables.put_message.Goals as goal
 
 pub returns : goal.returns

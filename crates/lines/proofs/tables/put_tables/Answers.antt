@@ -1,5 +1,4 @@
 -- `lines::tables::put_tables` meets its contract: each call puts its part behind what stands there.
-use Prim.Native.Nat.{ℕ}
 use native.Mathlib.Omega.{arith}
 use Rattle.store.specs.Store.{tables}
 use Rattle.dumping.proofs.Walks.{held_few as few_held}

@@ -1,5 +1,4 @@
 -- `lines::tables::put_thread` meets its contract: the numbers of the thread as one line.
-use borrow.Author.Rules.{rules}
 use Rattle.lines.proofs.tables.put_thread.Goals as goal
 
 pub returns : goal.returns

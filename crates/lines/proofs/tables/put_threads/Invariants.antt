@@ -1,13 +1,9 @@
 -- `lines::tables::put_threads` meets its contract. After i turns the lines of the first i threads stand at the front.
 use Prim.Native.Nat.{◌-◌}
 use lib.ListN.{take}
-use Rattle.memory.specs.Rows.{no_thread}
 use Rattle.store.specs.Store.{tables}
-use Rattle.dumping.proofs.Walks.{walk_list}
-use Rattle.buffer.proofs.Putting.{place_within}
 use Rattle.lines.specs.Text.{thread_line}
-use Rattle.lines.proofs.Entries.{Listed, listed_starts, listed_room, listed_next, listed_ends, one_line, one_few, thread_few}
-use native.Mathlib.Omega.{arith}
+use Rattle.lines.proofs.Entries.{Listed}
 use Rattle.lines.proofs.tables.put_threads.Given as goal
 
 abbrev pub invariant-loop-i : goal.invariant-loop-i

@@ -2,11 +2,9 @@
 use Prim.Native.Nat.{ℕ}
 use mathlib.Core.Path.{sym, ap, ◌∙◌}
 use mathlib.Core.List.{[], ◌∷◌}
-use borrow.Author.Tests.{not-true, not-false}
 use Rattle.buffer.proofs.Putting.{puts_none, said}
 use Rattle.lines.specs.Text.{numbers_line}
 use Rattle.lines.proofs.Entries.{no_word, one_word}
-use borrow.Author.Rules.{rules}
 use Rattle.lines.proofs.tables.put_word.Goals as goal
 
 pub is_held-requires : goal.is_held-requires

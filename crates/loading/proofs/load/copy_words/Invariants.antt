@@ -1,10 +1,8 @@
 -- `load::copy_words` meets its contract: up to each place the words are those of `from`, and behind it as they were.
 use Prim.Native.Nat.{◌-◌}
-use mathlib.Core.Path.{◌≡◌, refl}
+use mathlib.Core.Path.{◌≡◌}
 use lib.ListN.{length}
-use Rattle.loading.proofs.Placing.{Placed, place_starts, place_next, place_ends}
-use native.Mathlib.Omega.{arith}
-use borrow.Author.Rules.{rules}
+use Rattle.loading.proofs.Placing.{Placed}
 use Rattle.loading.proofs.load.copy_words.Given as goal
 
 abbrev pub invariant-loop-i : goal.invariant-loop-i

@@ -4,7 +4,6 @@ use mathlib.Core.Path.{ap, ◌∙◌}
 use mathlib.Core.List.{List}
 use Rattle.rules.specs.Lists.{same}
 use Rattle.loading.proofs.Exits.{writable, front, front_fits}
-use borrow.Author.Rules.{rules}
 use Rattle.loading.proofs.load.gives.Goals as goal
 
 pub write_dump-n-requires : goal.write_dump-n-requires

@@ -1,5 +1,4 @@
 -- `load::load_in` meets its contract: where the bytes are bad and nothing written, or the words that were read, copied.
-use borrow.Author.Tests.{not-true, not-false}
 use Rattle.loading.proofs.Exits.{refused_there, copied}
 use native.Mathlib.Omega.{arith}
 use borrow.Author.Rules.{rules}

@@ -1,8 +1,6 @@
 -- `load::reads` meets its contract: a law of Exits for each exit.
 use mathlib.Core.Path.{sym, ◌∙◌}
-use borrow.Author.Tests.{not-true, not-false}
 use Rattle.loading.proofs.Exits.{nothing_found, rules_broken, compared}
-use borrow.Author.Rules.{rules}
 use Rattle.loading.proofs.load.reads.Goals as goal
 
 pub read_fields-requires : goal.read_fields-requires

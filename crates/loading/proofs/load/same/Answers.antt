@@ -1,8 +1,6 @@
 -- `load::same` meets its contract: up to each place the bool says whether the bytes are alike.
-use Prim.Native.Nat.{◌-◌}
 use mathlib.Core.Path.{sym}
-use Rattle.loading.proofs.Comparing.{Alike, other_length, alike_starts, alike_next, other_next, alike_ends}
-use borrow.Author.Rules.{rules}
+use Rattle.loading.proofs.Comparing.{other_length, alike_starts, alike_next, other_next, alike_ends}
 use Rattle.loading.proofs.load.same.Goals as goal
 use Rattle.loading.proofs.load.same.Goals.{then-a-i, else-a-i}
 

@@ -2,7 +2,6 @@
 use mathlib.Core.Path.{sym, ◌∙◌}
 use borrow.Author.Tests.{eq-eqb, ne_eqb}
 use Rattle.loading.proofs.Cutting.{opened, unopened}
-use borrow.Author.Rules.{rules}
 use Rattle.loading.proofs.opening.opens.Goals as goal
 
 pub returns-then-s-lt3 : goal.returns-then-s-lt3

@@ -1,9 +1,7 @@
 -- `reading::count_names` meets its contract: a law of Cutting for each exit.
 use Prim.Native.Nat.{◌+◌}
 use lib.ListN.{get_or}
-use borrow.Author.Tests.{not-true, not-false}
 use Rattle.loading.proofs.Cutting.{seen, names_short, names_many, names_shut, names_open}
-use borrow.Author.Rules.{rules}
 use Rattle.loading.proofs.reading.count_names.Goals as goal
 
 pub returns-then-bytes-from-lt3 : goal.returns-then-bytes-from-lt3

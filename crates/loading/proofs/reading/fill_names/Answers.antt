@@ -1,8 +1,6 @@
 -- `reading::fill_names` meets its contract: up to each place the names stand in the queue.
-use Prim.Native.Nat.{◌-◌}
-use mathlib.Core.Path.{◌≡◌, refl}
-use lib.ListN.{length}
-use Rattle.loading.proofs.Filling.{Naming, naming_starts, naming_room, naming_next, naming_ends}
+use mathlib.Core.Path.{refl}
+use Rattle.loading.proofs.Filling.{naming_starts, naming_room, naming_next, naming_ends}
 use native.Mathlib.Omega.{arith}
 use Rattle.loading.proofs.reading.fill_names.Goals as goal
 

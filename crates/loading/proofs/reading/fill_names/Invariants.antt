@@ -1,9 +1,8 @@
 -- `reading::fill_names` meets its contract: up to each place the names stand in the queue.
 use Prim.Native.Nat.{◌-◌}
-use mathlib.Core.Path.{◌≡◌, refl}
+use mathlib.Core.Path.{◌≡◌}
 use lib.ListN.{length}
-use Rattle.loading.proofs.Filling.{Naming, naming_starts, naming_room, naming_next, naming_ends}
-use native.Mathlib.Omega.{arith}
+use Rattle.loading.proofs.Filling.{Naming}
 use Rattle.loading.proofs.reading.fill_names.Given as goal
 
 abbrev pub invariant-loop-i : goal.invariant-loop-i

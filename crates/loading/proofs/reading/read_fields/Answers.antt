@@ -1,10 +1,8 @@
 -- `reading::read_fields` meets its contract: no head, or a head in a cleared memory and the rest behind it.
 use mathlib.Core.Path.{sym, ◌∙◌}
-use borrow.Author.Tests.{not-true, not-false}
 use Rattle.loading.proofs.Cutting.{opens_room}
 use Rattle.loading.proofs.Finding.{not_headed, head_empty, all_found}
 use native.Mathlib.Omega.{arith}
-use borrow.Author.Rules.{rules}
 use Rattle.loading.proofs.reading.read_fields.Goals as goal
 
 pub returns-then-not-opens : goal.returns-then-not-opens

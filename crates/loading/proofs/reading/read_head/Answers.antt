@@ -2,7 +2,6 @@
 use mathlib.Core.Path.{◌∙◌}
 use Rattle.loading.proofs.Filling.{head_written}
 use native.Mathlib.Omega.{arith}
-use borrow.Author.Rules.{rules}
 use Rattle.loading.proofs.reading.read_head.Goals as goal
 
 pub bounds-bytes-4 : goal.bounds-bytes-4

@@ -3,7 +3,6 @@ use Prim.Native.Nat.{◌+◌, ◌-◌}
 use lib.ListN.{take, drop}
 use Rattle.loading.proofs.Cutting.{names_none, names_read}
 use Rattle.loading.proofs.Filling.{unnamed, named, named_now, part_few}
-use borrow.Author.Rules.{rules}
 use Rattle.loading.proofs.reading.read_names.Goals as goal
 
 pub count_names-n-requires : goal.count_names-n-requires

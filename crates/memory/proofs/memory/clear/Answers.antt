@@ -3,7 +3,6 @@ use mathlib.Core.Path.{ap, ◌∙◌}
 use mathlib.Core.List.{[]}
 use native.Mathlib.Omega.{arith}
 use lib.ListN.{length-set}
-use borrow.Author.Rules.{rules}
 use Rattle.memory.specs.Rows.{put_held}
 use Rattle.memory.proofs.Fields.{still_roomy}
 use Rattle.memory.proofs.Clears.{anew_long, anew_roomy, anew_nothing}

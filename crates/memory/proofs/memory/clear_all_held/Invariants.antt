@@ -1,11 +1,7 @@
 -- `memory::memory::clear_all_held` meets its contract.
 use Prim.Native.Nat.{◌≤◌, ◌-◌}
-use mathlib.Core.Path.{ap}
-use native.Mathlib.Omega.{arith}
-use borrow.Author.Rules.{rules}
 use Rattle.rules.specs.Numbers.{devices}
-use Rattle.memory.specs.Memory.{rows_of}
-use Rattle.memory.proofs.Helds.{Emptied, none_emptied, one_emptied, all_emptied}
+use Rattle.memory.proofs.Helds.{Emptied}
 use Rattle.memory.proofs.memory.clear_all_held.Given as goal
 
 abbrev pub invariant-loop-d : goal.invariant-loop-d

@@ -1,6 +1,5 @@
 -- `memory::memory::clear_held` meets its contract.
 use native.Mathlib.Omega.{arith}
-use borrow.Author.Rules.{rules}
 use Rattle.memory.specs.Memory.{rows_of}
 use Rattle.memory.proofs.Helds.{clear_put}
 use Rattle.memory.proofs.memory.clear_held.Goals as goal

@@ -1,7 +1,6 @@
 -- `memory::memory::clock_at` meets its contract.
 use mathlib.Core.Path.{sym, ◌∙◌}
 use native.Mathlib.Omega.{arith}
-use borrow.Author.Rules.{rules}
 use Rattle.memory.specs.Memory.{rows_of, clock_of}
 use Rattle.memory.proofs.Rowing.{row_at}
 use Rattle.memory.proofs.memory.clock_at.Goals as goal

@@ -2,8 +2,7 @@
 use Prim.Native.Nat.{◌+◌, ℕ}
 use mathlib.Core.Path.{sym, ap, ◌∙◌}
 use mathlib.Core.List.{List, ◌++◌}
-use lib.ListN.{take, drop, length}
-use borrow.Author.Rules.{rules}
+use lib.ListN.{take, drop}
 use Rattle.memory.proofs.Rowing.{lent_size, lent_is, put_back}
 use Rattle.memory.proofs.memory.copy_four.Goals as goal
 

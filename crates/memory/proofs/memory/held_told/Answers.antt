@@ -1,13 +1,9 @@
 -- `memory::memory::held_told` meets its contract.
-use Prim.Native.Nat.{ℕ, ◌≤◌, ◌<◌, ◌-◌}
 use mathlib.Core.Path.{sym}
 use native.Mathlib.Omega.{arith}
 use borrow.Author.Count.{below_more}
-use borrow.Author.Rules.{rules}
 use Rattle.rules.specs.Numbers.{devices}
-use Rattle.words.specs.Saying.{word}
 use Rattle.memory.specs.Memory.{rows_of}
-use Rattle.memory.specs.Layout.{held_place}
 use Rattle.memory.proofs.Helds.{untold, gentle_told, flags, inside}
 use Rattle.memory.proofs.memory.held_told.Goals as goal
 

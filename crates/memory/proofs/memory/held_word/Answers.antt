@@ -1,7 +1,6 @@
 -- `memory::memory::held_word` meets its contract.
 use mathlib.Core.Path.{sym, ◌∙◌}
 use native.Mathlib.Omega.{arith}
-use borrow.Author.Rules.{rules}
 use Rattle.memory.specs.Memory.{rows_of}
 use Rattle.memory.proofs.Helds.{held_taken, held_left, flags, inside}
 use Rattle.memory.proofs.memory.held_word.Goals as goal

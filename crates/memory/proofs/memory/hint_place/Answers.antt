@@ -1,7 +1,6 @@
 -- `memory::memory::hint_place` meets its contract.
 use Prim.Native.Nat.{◌+◌, ◌%◌}
 use native.Mathlib.Omega.{arith}
-use borrow.Author.Rules.{rules}
 use Rattle.memory.specs.Memory.{rows_of}
 use Rattle.memory.proofs.Changes.{hint_put}
 use Rattle.memory.proofs.memory.hint_place.Goals as goal

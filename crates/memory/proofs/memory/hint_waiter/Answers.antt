@@ -1,6 +1,5 @@
 -- `memory::memory::hint_waiter` meets its contract.
 use native.Mathlib.Omega.{arith}
-use borrow.Author.Rules.{rules}
 use Rattle.memory.specs.Memory.{rows_of}
 use Rattle.memory.proofs.Changes.{head_put}
 use Rattle.memory.proofs.memory.hint_waiter.Goals as goal

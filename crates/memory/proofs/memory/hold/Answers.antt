@@ -1,7 +1,6 @@
 -- `memory::memory::hold` meets its contract.
 use native.Mathlib.Omega.{arith}
 use lib.ListN.{length-set}
-use borrow.Author.Rules.{rules}
 use Rattle.memory.specs.Memory.{rows_of}
 use Rattle.memory.proofs.Helds.{hold_put}
 use Rattle.memory.proofs.memory.hold.Goals as goal

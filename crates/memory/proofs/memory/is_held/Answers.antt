@@ -1,7 +1,6 @@
 -- `memory::memory::is_held` meets its contract.
 use mathlib.Core.Path.{sym}
 use native.Mathlib.Omega.{arith}
-use borrow.Author.Rules.{rules}
 use Rattle.memory.specs.Memory.{rows_of}
 use Rattle.memory.proofs.Helds.{is_held, flags, inside}
 use Rattle.memory.proofs.memory.is_held.Goals as goal

@@ -1,6 +1,5 @@
 -- `memory::memory::last` meets its contract.
 use native.Mathlib.Omega.{arith}
-use borrow.Author.Rules.{rules}
 use Rattle.memory.specs.Memory.{rows_of}
 use Rattle.memory.proofs.memory.last.Goals as goal
 

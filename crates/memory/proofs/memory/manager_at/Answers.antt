@@ -2,7 +2,6 @@
 use Prim.Native.Nat.{ℕ, ◌+◌}
 use mathlib.Core.Path.{ap, ◌∙◌}
 use native.Mathlib.Omega.{arith}
-use borrow.Author.Rules.{rules}
 use Rattle.words.specs.Saying.{word, manager_in}
 use Rattle.memory.specs.Memory.{rows_of}
 use Rattle.memory.specs.Layout.{thread_place}

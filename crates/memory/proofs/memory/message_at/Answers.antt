@@ -1,7 +1,6 @@
 -- `memory::memory::message_at` meets its contract.
 use mathlib.Core.Path.{sym, ap, ◌∙◌}
 use native.Mathlib.Omega.{arith}
-use borrow.Author.Rules.{rules}
 use Rattle.words.specs.Saying.{word, message_in}
 use Rattle.memory.specs.Memory.{rows_of, message_of}
 use Rattle.memory.specs.Layout.{message_place}

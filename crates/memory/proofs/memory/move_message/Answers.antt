@@ -1,6 +1,5 @@
 -- `memory::memory::move_message` meets its contract.
 use native.Mathlib.Omega.{arith}
-use borrow.Author.Rules.{rules}
 use Rattle.memory.specs.Memory.{rows_of}
 use Rattle.memory.proofs.Fields.{message_moved}
 use Rattle.memory.proofs.memory.move_message.Goals as goal

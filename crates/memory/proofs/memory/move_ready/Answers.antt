@@ -2,7 +2,6 @@
 use Prim.Native.Nat.{◌+◌}
 use mathlib.Core.Path.{sym}
 use native.Mathlib.Omega.{arith}
-use borrow.Author.Rules.{rules}
 use Rattle.words.specs.Saying.{word}
 use Rattle.memory.specs.Layout.{thread_place}
 use Rattle.memory.specs.Memory.{rows_of, ready_of}

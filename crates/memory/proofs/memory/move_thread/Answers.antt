@@ -1,7 +1,6 @@
 -- `memory::memory::move_thread` meets its contract.
 use mathlib.Core.Path.{◌∙◌}
 use native.Mathlib.Omega.{arith}
-use borrow.Author.Rules.{rules}
 use Rattle.memory.specs.Memory.{rows_of}
 use Rattle.memory.proofs.Fields.{thread_moved, still_roomy}
 use Rattle.memory.proofs.memory.move_thread.Goals as goal

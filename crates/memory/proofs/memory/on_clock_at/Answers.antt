@@ -1,7 +1,6 @@
 -- `memory::memory::on_clock_at` meets its contract.
 use mathlib.Core.Path.{sym, ap, ◌∙◌}
 use native.Mathlib.Omega.{arith}
-use borrow.Author.Rules.{rules}
 use Rattle.rules.specs.States.{on_clock}
 use Rattle.laws.specs.Words.{Thread}
 use Rattle.memory.specs.Memory.{rows_of}

@@ -1,7 +1,6 @@
 -- `memory::memory::place_hint` meets its contract.
 use Prim.Native.Nat.{◌+◌, ◌%◌}
 use native.Mathlib.Omega.{arith}
-use borrow.Author.Rules.{rules}
 use Rattle.memory.specs.Memory.{rows_of}
 use Rattle.memory.proofs.memory.place_hint.Goals as goal
 

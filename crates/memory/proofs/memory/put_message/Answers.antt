@@ -2,7 +2,6 @@
 use Prim.Native.Nat.{ℕ}
 use mathlib.Core.List.{List}
 use native.Mathlib.Omega.{arith}
-use borrow.Author.Rules.{rules}
 use Rattle.words.specs.Saying.{word}
 use Rattle.memory.specs.Memory.{rows_of}
 use Rattle.memory.specs.Layout.{message_place}

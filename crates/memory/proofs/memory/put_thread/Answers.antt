@@ -3,7 +3,6 @@ use Prim.Native.Nat.{ℕ}
 use mathlib.Core.Path.{◌∙◌}
 use mathlib.Core.List.{List}
 use native.Mathlib.Omega.{arith}
-use borrow.Author.Rules.{rules}
 use Rattle.memory.specs.Memory.{rows_of}
 use Rattle.memory.specs.Layout.{thread_place}
 use Rattle.memory.proofs.Rowing.{lent_size}

@@ -1,7 +1,6 @@
 -- `memory::memory::ready_at` meets its contract.
 use mathlib.Core.Path.{sym, ◌∙◌}
 use native.Mathlib.Omega.{arith}
-use borrow.Author.Rules.{rules}
 use Rattle.memory.specs.Memory.{rows_of, ready_of}
 use Rattle.memory.proofs.Rowing.{row_at}
 use Rattle.memory.proofs.memory.ready_at.Goals as goal

@@ -1,6 +1,5 @@
 -- `memory::memory::set_beats` meets its contract.
 use native.Mathlib.Omega.{arith}
-use borrow.Author.Rules.{rules}
 use Rattle.memory.specs.Memory.{rows_of}
 use Rattle.memory.proofs.Changes.{head_put}
 use Rattle.memory.proofs.memory.set_beats.Goals as goal

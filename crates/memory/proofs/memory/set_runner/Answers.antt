@@ -1,7 +1,6 @@
 -- `memory::memory::set_runner` meets its contract.
 use native.Mathlib.Omega.{arith}
 use lib.ListN.{length-set}
-use borrow.Author.Rules.{rules}
 use Rattle.memory.specs.Memory.{rows_of}
 use Rattle.memory.proofs.Changes.{runner_put}
 use Rattle.memory.proofs.memory.set_runner.Goals as goal

@@ -1,7 +1,6 @@
 -- `memory::memory::set_ticks` meets its contract.
 use mathlib.Core.Path.{refl}
 use native.Mathlib.Omega.{arith}
-use borrow.Author.Rules.{rules}
 use Rattle.rules.specs.Tables.{with_ticks}
 use Rattle.memory.specs.Memory.{rows_of}
 use Rattle.memory.proofs.Fields.{thread_store}

@@ -1,5 +1,4 @@
 -- `memory::shaped` meets its contract: the tests are tried in turn.
-use borrow.Author.Rules.{rules}
 use borrow.Author.Tests.{le-leb, lt-leb, eq-eqb, ne_eqb}
 use Rattle.memory.specs.Shape.{shaped}
 use Rattle.laws.proofs.Both.{fails_at, passes, ends}

@@ -1,7 +1,6 @@
 -- `memory::memory::thread_at` meets its contract.
 use mathlib.Core.Path.{sym, ap, ◌∙◌}
 use native.Mathlib.Omega.{arith}
-use borrow.Author.Rules.{rules}
 use Rattle.words.specs.Saying.{thread_in}
 use Rattle.memory.specs.Memory.{rows_of, thread_of}
 use Rattle.memory.specs.Layout.{thread_place}

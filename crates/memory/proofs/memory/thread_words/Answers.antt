@@ -2,7 +2,6 @@
 use mathlib.Core.Path.{sym, ap, ◌∙◌}
 use native.Mathlib.Omega.{arith}
 use lib.ListN.{length-take, length-drop}
-use borrow.Author.Rules.{rules}
 use Rattle.words.specs.Saying.{thread_in}
 use Rattle.memory.specs.Memory.{rows_of, thread_of}
 use Rattle.memory.specs.Layout.{thread_place}

@@ -1,7 +1,6 @@
 -- `memory::memory::ticks_at` meets its contract.
 use mathlib.Core.Path.{sym, ap}
 use native.Mathlib.Omega.{arith}
-use borrow.Author.Rules.{rules}
 use Rattle.laws.specs.Words.{Thread}
 use Rattle.memory.specs.Memory.{rows_of}
 use Rattle.memory.proofs.Fields.{thread_entry}

@@ -1,7 +1,6 @@
 -- `memory::memory::trapped_on_at` meets its contract.
 use mathlib.Core.Path.{sym, ap, ◌∙◌}
 use native.Mathlib.Omega.{arith}
-use borrow.Author.Rules.{rules}
 use Rattle.rules.specs.States.{awaits}
 use Rattle.words.specs.Saying.{thread_in}
 use Rattle.laws.specs.Words.{Thread}

@@ -1,7 +1,6 @@
 -- `memory::memory::wakes_at` meets its contract.
 use mathlib.Core.Path.{sym, ap, ◌∙◌}
 use native.Mathlib.Omega.{arith}
-use borrow.Author.Rules.{rules}
 use Rattle.rules.specs.States.{wakes_from_outside}
 use Rattle.laws.specs.Words.{Thread}
 use Rattle.memory.specs.Memory.{rows_of}

@@ -3,7 +3,6 @@ use Prim.Native.Nat.{ℕ, ◌+◌}
 use mathlib.Core.Path.{ap, ◌∙◌, sym}
 use native.Mathlib.Omega.{arith}
 use lib.ListN.{set}
-use borrow.Author.Rules.{rules}
 use Rattle.memory.specs.Memory.{rows_of}
 use Rattle.memory.specs.Rows.{Roomy, put_ends, put_ended, members}
 use Rattle.moving.proofs.Steps.{by}

@@ -1,6 +1,5 @@
 -- `moving::members::begin` meets its contract.
 use native.Mathlib.Omega.{arith}
-use borrow.Author.Rules.{rules}
 use Rattle.memory.specs.Rows.{Roomy}
 use Rattle.memory.proofs.Sizes.{ended_long}
 use Rattle.moving.proofs.Steps.{by}

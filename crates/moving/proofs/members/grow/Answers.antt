@@ -1,14 +1,12 @@
 -- `moving::members::grow` meets its contract. The loop: Growing, of Sets.antt.
-use Prim.Native.Nat.{◌-◌, ◌<◌}
-use mathlib.Core.Path.{◌≡◌, ap, ◌∙◌}
+use Prim.Native.Nat.{◌<◌}
+use mathlib.Core.Path.{ap, ◌∙◌}
 use native.Mathlib.Omega.{arith}
-use borrow.Author.Rules.{rules}
 use Rattle.memory.specs.Memory.{rows_of}
-use Rattle.memory.specs.Rows.{Rows, Roomy, members}
+use Rattle.memory.specs.Rows.{Rows, Roomy}
 use Rattle.memory.proofs.Sizes.{threads_long, ended_long, same_room}
 use Rattle.moving.proofs.Steps.{by, Within}
-use Rattle.moving.proofs.Sets.{Growing, grow_starts, grow_tests, grow_by, grow_room, grow_next, grow_ends}
-use Rattle.moving.specs.Marks.{Marks}
+use Rattle.moving.proofs.Sets.{grow_starts, grow_tests, grow_by, grow_room, grow_next, grow_ends}
 use Rattle.moving.proofs.members.grow.Goals as goal
 
 pub loop-i-init : goal.loop-i-init

@@ -1,5 +1,4 @@
 -- `moving::members::is_child` meets its contract.
-use borrow.Author.Rules.{rules}
 use Rattle.moving.proofs.members.is_child.Goals as goal
 
 pub returns-in-NoParent : goal.returns-in-NoParent

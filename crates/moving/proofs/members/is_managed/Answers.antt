@@ -1,5 +1,4 @@
 -- `moving::members::is_managed` meets its contract.
-use borrow.Author.Rules.{rules}
 use Rattle.moving.proofs.members.is_managed.Goals as goal
 
 pub returns-in-Unset : goal.returns-in-Unset

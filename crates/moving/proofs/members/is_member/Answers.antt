@@ -2,7 +2,6 @@
 use Prim.Native.Nat.{ℕ}
 use mathlib.Core.Path.{ap, ◌∙◌}
 use lib.ListN.{take}
-use borrow.Author.Rules.{rules}
 use Rattle.rules.specs.Lists.{has as has_in}
 use Rattle.memory.specs.Memory.{rows_of}
 use lib.Seq.{take-take}

@@ -1,7 +1,6 @@
 -- `moving::members::is_trapped_on` meets its contract. It asks of the one manager that the thread waits for, not of each member.
 use mathlib.Core.Path.{sym, ◌∙◌}
 use lib.ListN.{take}
-use borrow.Author.Rules.{rules}
 use Rattle.rules.specs.States.{trapped_on}
 use Rattle.memory.specs.Memory.{rows_of}
 use Rattle.moving.proofs.Sets.{never, managed}

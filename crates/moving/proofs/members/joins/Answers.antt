@@ -1,7 +1,6 @@
 -- `moving::members::joins` meets its contract.
 use mathlib.Core.Path.{sym, ◌∙◌}
 use lib.ListN.{get_or}
-use borrow.Author.Rules.{rules}
 use Rattle.memory.specs.Rows.{no_thread, members}
 use Rattle.memory.specs.Memory.{rows_of}
 use Rattle.moving.proofs.Sets.{joins_in, joins_child, joins_trapped}

@@ -1,6 +1,5 @@
 -- `moving::members::lose` meets its contract.
 use mathlib.Core.Path.{sym, ◌∙◌}
-use borrow.Author.Rules.{rules}
 use Rattle.moving.proofs.Sets.{is_gone, lose_none}
 use native.Mathlib.Omega.{arith}
 use lib.Seq.{take-take}

@@ -1,6 +1,5 @@
 -- `moving::members::lose_managers` meets its contract. Three entries are all that a thread has.
 use native.Mathlib.Omega.{arith}
-use borrow.Author.Rules.{rules}
 use Rattle.memory.specs.Memory.{rows_of}
 use Rattle.memory.proofs.Sizes.{threads_long}
 use Rattle.moving.proofs.Steps.{by}

@@ -1,7 +1,6 @@
 -- `moving::members::mark` meets its contract.
 use mathlib.Core.Path.{◌∙◌}
 use Rattle.moving.proofs.Marking.{marked, marked_stays, marked_at}
-use borrow.Author.Rules.{rules}
 use native.Mathlib.Omega.{arith}
 use Rattle.moving.proofs.members.mark.Goals as goal
 

@@ -1,6 +1,5 @@
 -- `moving::members::names_member` meets its contract.
 use mathlib.Core.Path.{sym, ◌∙◌}
-use borrow.Author.Rules.{rules}
 use Rattle.moving.proofs.members.names_member.Goals as goal
 
 pub is_member-requires : goal.is_member-requires

@@ -1,13 +1,9 @@
 -- `moving::messages::blocks_used` meets its contract. The loop: what is counted and the count of the rest are the count of all.
 use Prim.Native.Nat.{◌-◌}
-use native.Mathlib.Omega.{arith}
-use borrow.Author.Rules.{rules}
 use Rattle.rules.specs.Waking.{is_ordinary}
 use Rattle.laws.specs.Words.{Message}
-use Rattle.memory.specs.Rows.{no_message}
 use Rattle.memory.specs.Memory.{rows_of}
-use Rattle.memory.proofs.Sizes.{messages_long}
-use Rattle.moving.proofs.Loops.{Counted, count_starts, count_more, count_skips, count_ends}
+use Rattle.moving.proofs.Loops.{Counted}
 use Rattle.moving.proofs.messages.blocks_used.Given as goal
 
 abbrev pub invariant-loop-i : goal.invariant-loop-i

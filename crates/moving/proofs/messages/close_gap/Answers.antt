@@ -1,16 +1,13 @@
 -- `moving::messages::close_gap` meets its contract. The loop: what is moved up and the rest are the messages without the one that goes.
 use Prim.Native.Nat.{ℕ, ◌-◌}
-use mathlib.Core.Path.{◌≡◌, refl, ap, ◌∙◌}
-use mathlib.Core.List.{List}
+use mathlib.Core.Path.{refl, ap, ◌∙◌}
 use native.Mathlib.Omega.{arith}
 use lib.ListN.{take}
-use borrow.Author.Rules.{rules}
-use Rattle.laws.specs.Words.{Message}
 use Rattle.memory.specs.Rows.{Rows, Roomy, no_message}
 use Rattle.memory.specs.Memory.{rows_of}
 use Rattle.memory.proofs.Sizes.{messages_long, same_room}
-use Rattle.moving.proofs.Loops.{Closing, close_starts, close_next, close_ends}
-use Rattle.moving.proofs.Steps.{by, BothAmong, Only, the_messages, begins, writes, messages_are}
+use Rattle.moving.proofs.Loops.{close_starts, close_next, close_ends}
+use Rattle.moving.proofs.Steps.{by, BothAmong, the_messages, begins, writes, messages_are}
 use Rattle.moving.proofs.messages.close_gap.Goals as goal
 
 pub overflow_sub-last : goal.overflow_sub-last

@@ -1,16 +1,11 @@
 -- `moving::messages::close_gap` meets its contract. The loop: what is moved up and the rest are the messages without the one that goes.
-use Prim.Native.Nat.{ℕ, ◌-◌}
-use mathlib.Core.Path.{◌≡◌, refl, ap, ◌∙◌}
+use Prim.Native.Nat.{◌-◌}
+use mathlib.Core.Path.{◌≡◌}
 use mathlib.Core.List.{List}
-use native.Mathlib.Omega.{arith}
-use lib.ListN.{take}
-use borrow.Author.Rules.{rules}
 use Rattle.laws.specs.Words.{Message}
-use Rattle.memory.specs.Rows.{Rows, Roomy, no_message}
 use Rattle.memory.specs.Memory.{rows_of}
-use Rattle.memory.proofs.Sizes.{messages_long, same_room}
-use Rattle.moving.proofs.Loops.{Closing, close_starts, close_next, close_ends}
-use Rattle.moving.proofs.Steps.{by, BothAmong, Only, the_messages, begins, writes, messages_are}
+use Rattle.moving.proofs.Loops.{Closing}
+use Rattle.moving.proofs.Steps.{Only, the_messages}
 use Rattle.moving.proofs.messages.close_gap.Given as goal
 
 abbrev pub invariant-loop-i : goal.invariant-loop-i

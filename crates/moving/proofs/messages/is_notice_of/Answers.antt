@@ -1,6 +1,5 @@
 -- `moving::messages::is_notice_of` meets its contract. By cases of its kind.
 use mathlib.Core.Path.{sym, ◌∙◌}
-use borrow.Author.Rules.{rules}
 use Rattle.moving.proofs.messages.is_notice_of.Goals as goal
 
 pub returns-then-is_ordinary : goal.returns-then-is_ordinary

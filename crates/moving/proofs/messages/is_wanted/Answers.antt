@@ -1,6 +1,5 @@
 -- `moving::messages::is_wanted` meets its contract. By cases, whether it is in the inbox.
 use borrow.Author.Tests.{eq-eqb, ne_eqb}
-use borrow.Author.Rules.{rules}
 use Rattle.moving.proofs.messages.is_wanted.Goals as goal
 
 pub returns-then-receiver_at-me : goal.returns-then-receiver_at-me

@@ -1,15 +1,9 @@
 -- `moving::messages::seek_end` meets its contract. The loop: no message passed is to a later receiver.
-use Prim.Native.Nat.{◌-◌}
-use mathlib.Core.Bool.{not}
 use native.Mathlib.Omega.{arith}
-use lib.Dec.{leb}
 use borrow.Author.Tests.{le-leb, lt-leb}
-use borrow.Author.Rules.{rules}
-use Rattle.laws.specs.Words.{Message}
 use Rattle.memory.specs.Rows.{no_message}
-use Rattle.memory.specs.Memory.{rows_of}
 use Rattle.memory.proofs.Sizes.{messages_long}
-use Rattle.moving.proofs.Loops.{Sought, seek_starts, seek_next, seek_finds, seek_ends}
+use Rattle.moving.proofs.Loops.{seek_starts, seek_next, seek_finds, seek_ends}
 use Rattle.moving.proofs.messages.seek_end.Goals as goal
 
 pub loop-i-init : goal.loop-i-init

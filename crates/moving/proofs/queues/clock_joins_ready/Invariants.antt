@@ -1,13 +1,9 @@
 -- `moving::queues::clock_joins_ready` meets its contract. The loop: the ready queue and the waiters that are left are the ready queue and
 -- all waiters.
 use Prim.Native.Nat.{◌-◌}
-use mathlib.Core.Path.{◌≡◌, ap}
-use native.Mathlib.Omega.{arith}
-use borrow.Author.Rules.{rules}
-use Rattle.memory.specs.Rows.{Rows, Roomy}
+use mathlib.Core.Path.{◌≡◌}
 use Rattle.memory.specs.Memory.{rows_of}
-use Rattle.memory.proofs.Sizes.{ready_long, clock_long, same_room}
-use Rattle.moving.proofs.Steps.{by, Within, Joins, joins_starts, joins_next, joins_ends}
+use Rattle.moving.proofs.Steps.{Joins}
 use Rattle.moving.proofs.queues.clock_joins_ready.Given as goal
 
 abbrev pub invariant-loop-i : goal.invariant-loop-i

@@ -1,15 +1,13 @@
 -- `moving::queues::drop_front` meets its contract. The loop: what is moved up and the rest of the queue are the queue without its front.
 use Prim.Native.Nat.{ℕ, ◌-◌}
-use mathlib.Core.Path.{◌≡◌, refl, ap, ◌∙◌}
-use mathlib.Core.List.{List}
+use mathlib.Core.Path.{refl, ap, ◌∙◌}
 use native.Mathlib.Omega.{arith}
 use lib.ListN.{take}
-use borrow.Author.Rules.{rules}
 use Rattle.memory.specs.Rows.{Rows, Roomy}
 use Rattle.memory.specs.Memory.{rows_of}
 use Rattle.memory.proofs.Sizes.{ready_long, same_room}
-use Rattle.moving.proofs.Loops.{Closing, close_starts, close_next, close_ends}
-use Rattle.moving.proofs.Steps.{by, BothWithin, Only, the_ready, begins, writes, ready_is}
+use Rattle.moving.proofs.Loops.{close_starts, close_next, close_ends}
+use Rattle.moving.proofs.Steps.{by, BothWithin, the_ready, begins, writes, ready_is}
 use Rattle.moving.proofs.queues.drop_front.Goals as goal
 
 pub overflow_sub-last : goal.overflow_sub-last

@@ -1,15 +1,10 @@
 -- `moving::queues::drop_front` meets its contract. The loop: what is moved up and the rest of the queue are the queue without its front.
 use Prim.Native.Nat.{ℕ, ◌-◌}
-use mathlib.Core.Path.{◌≡◌, refl, ap, ◌∙◌}
+use mathlib.Core.Path.{◌≡◌}
 use mathlib.Core.List.{List}
-use native.Mathlib.Omega.{arith}
-use lib.ListN.{take}
-use borrow.Author.Rules.{rules}
-use Rattle.memory.specs.Rows.{Rows, Roomy}
 use Rattle.memory.specs.Memory.{rows_of}
-use Rattle.memory.proofs.Sizes.{ready_long, same_room}
-use Rattle.moving.proofs.Loops.{Closing, close_starts, close_next, close_ends}
-use Rattle.moving.proofs.Steps.{by, BothWithin, Only, the_ready, begins, writes, ready_is}
+use Rattle.moving.proofs.Loops.{Closing}
+use Rattle.moving.proofs.Steps.{Only, the_ready}
 use Rattle.moving.proofs.queues.drop_front.Given as goal
 
 abbrev pub invariant-loop-i : goal.invariant-loop-i

@@ -4,7 +4,6 @@ use mathlib.Core.Path.{ap, ◌∙◌}
 use mathlib.Core.List.{[], ◌∷◌, ◌++◌}
 use native.Mathlib.Omega.{arith}
 use lib.ListN.{take}
-use borrow.Author.Rules.{rules}
 use Rattle.memory.specs.Rows.{Roomy}
 use Rattle.memory.specs.Memory.{rows_of}
 use Rattle.memory.proofs.Sizes.{clock_long}

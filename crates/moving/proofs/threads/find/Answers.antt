@@ -1,7 +1,6 @@
 -- `moving::threads::find` meets its contract. One thread at most has the name, so the one at the hint is the first.
 use native.Mathlib.Omega.{arith}
 use borrow.Author.Tests.{eq-eqb}
-use borrow.Author.Rules.{rules}
 use Rattle.rules.specs.Tables.{named}
 use Rattle.memory.specs.Rows.{no_thread}
 use Rattle.memory.proofs.Sizes.{threads_long}

@@ -1,11 +1,7 @@
 -- `moving::threads::find_place` meets its contract. The loop: the place is one of those from `low` to `high`.
 use Prim.Native.Nat.{◌-◌}
-use native.Mathlib.Omega.{arith}
-use borrow.Author.Rules.{rules}
-use Rattle.memory.specs.Rows.{no_thread}
 use Rattle.memory.specs.Memory.{rows_of}
-use Rattle.memory.proofs.Sizes.{threads_long}
-use Rattle.moving.proofs.Halving.{Between, anywhere, above, not_above, only_place}
+use Rattle.moving.proofs.Halving.{Between}
 use Rattle.moving.proofs.threads.find_place.Given as goal
 
 abbrev pub invariant-loop-low : goal.invariant-loop-low

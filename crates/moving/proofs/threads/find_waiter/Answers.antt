@@ -1,13 +1,9 @@
 -- `moving::threads::find_waiter` meets its contract. The loop: no thread passed waits for the device.
-use Prim.Native.Nat.{◌-◌}
 use mathlib.Core.Path.{sym, ◌∙◌}
 use native.Mathlib.Omega.{arith}
-use borrow.Author.Rules.{rules}
-use Rattle.rules.specs.States.{waits_for}
 use Rattle.memory.specs.Rows.{no_thread}
-use Rattle.memory.specs.Memory.{rows_of}
 use Rattle.memory.proofs.Sizes.{threads_long}
-use Rattle.moving.proofs.Loops.{Sought, seek_starts, seek_next, seek_finds, seek_ends}
+use Rattle.moving.proofs.Loops.{seek_starts, seek_next, seek_finds, seek_ends}
 use Rattle.moving.proofs.threads.find_waiter.Goals as goal
 
 pub loop-i-init : goal.loop-i-init

@@ -1,15 +1,10 @@
 -- `moving::threads::open_gap` meets its contract. The loop: each thread from i on stands one further, and those before are as they were.
-use Prim.Native.Nat.{◌≤◌}
-use mathlib.Core.Path.{◌≡◌, ap, ◌∙◌}
-use mathlib.Core.List.{List}
+use mathlib.Core.Path.{ap, ◌∙◌}
 use native.Mathlib.Omega.{arith}
-use borrow.Author.Rules.{rules}
-use Rattle.laws.specs.Words.{Thread}
 use Rattle.memory.specs.Rows.{Rows, Roomy, no_thread}
-use Rattle.memory.specs.Memory.{rows_of}
 use Rattle.memory.proofs.Sizes.{threads_long, same_room}
-use Rattle.moving.proofs.Loops.{Shifted, shift_starts, shift_next}
-use Rattle.moving.proofs.Steps.{by, Within, BothWithin, Only, the_threads, begins, writes, filled, threads_left}
+use Rattle.moving.proofs.Loops.{shift_starts, shift_next}
+use Rattle.moving.proofs.Steps.{by, Within, BothWithin, the_threads, begins, writes, filled, threads_left}
 use Rattle.moving.proofs.threads.open_gap.Goals as goal
 
 pub loop-i-init : goal.loop-i-init

@@ -1,7 +1,6 @@
 -- `moving::threads::some_wakes` meets its contract. The thread at the hint is one of the threads.
 use mathlib.Core.Path.{sym, ◌∙◌}
 use native.Mathlib.Omega.{arith}
-use borrow.Author.Rules.{rules}
 use Rattle.rules.specs.States.{wakes_from_outside}
 use Rattle.laws.specs.Words.{Thread}
 use Rattle.memory.specs.Rows.{no_thread}

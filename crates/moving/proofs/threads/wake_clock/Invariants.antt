@@ -1,18 +1,13 @@
 -- `moving::threads::wake_clock` meets its contract. The loop: what is written, and the rest as it is to become, are all threads as they
 -- are to become.
 use Prim.Native.Nat.{◌-◌}
-use mathlib.Core.Path.{refl, sym, ap, ◌∙◌}
 use mathlib.Core.List.{List}
-use native.Mathlib.Omega.{arith}
-use borrow.Author.Rules.{rules}
 use Rattle.rules.specs.Tables.{in_state}
 use Rattle.rules.specs.States.{on_clock}
 use Rattle.laws.specs.Words.{Ready, Result, Thread}
-use Rattle.memory.specs.Rows.{Rows, no_thread}
 use Rattle.memory.specs.Memory.{rows_of}
-use Rattle.memory.proofs.Sizes.{threads_long, same_room}
-use Rattle.moving.proofs.Loops.{Turned, turn_starts, turn_next, turn_by, turn_ends}
-use Rattle.moving.proofs.Steps.{by, Within, Only, the_threads, begins, writes, stays, threads_are}
+use Rattle.moving.proofs.Loops.{Turned}
+use Rattle.moving.proofs.Steps.{Only, the_threads}
 use Rattle.moving.proofs.threads.wake_clock.Given as goal
 
 abbrev pub invariant-loop-i : goal.invariant-loop-i

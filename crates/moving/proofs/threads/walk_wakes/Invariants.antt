@@ -1,14 +1,9 @@
 -- `moving::threads::walk_wakes` meets its contract. The loop: no thread passed waits for clock or device.
 use Prim.Native.Nat.{◌-◌}
-use mathlib.Core.Path.{sym, ◌∙◌}
-use native.Mathlib.Omega.{arith}
-use borrow.Author.Rules.{rules}
 use Rattle.rules.specs.States.{wakes_from_outside}
 use Rattle.laws.specs.Words.{Thread}
-use Rattle.memory.specs.Rows.{no_thread}
 use Rattle.memory.specs.Memory.{rows_of}
-use Rattle.memory.proofs.Sizes.{threads_long}
-use Rattle.moving.proofs.Loops.{Missed, any_starts, any_next, any_finds, any_ends}
+use Rattle.moving.proofs.Loops.{Missed}
 use Rattle.moving.proofs.threads.walk_wakes.Given as goal
 
 abbrev pub invariant-loop-i : goal.invariant-loop-i

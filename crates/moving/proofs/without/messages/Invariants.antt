@@ -1,19 +1,13 @@
 -- `moving::without::messages` meets its contract. The loop: Keeping, of Steps.antt.
-use Prim.Native.Nat.{ℕ, ◌+◌, ◌-◌, ◌<◌, ◌≤◌}
-use mathlib.Core.Path.{◌≡◌, refl, ap, ◌∙◌}
+use Prim.Native.Nat.{ℕ, ◌-◌}
+use mathlib.Core.Path.{◌≡◌}
 use mathlib.Core.Bool.{Bool, ◌||◌}
 use mathlib.Core.List.{List}
-use native.Mathlib.Omega.{arith}
-use lib.ListN.{get_or}
-use borrow.Author.Rules.{rules}
 use Rattle.rules.specs.Lists.{has as has_in}
 use Rattle.laws.specs.Words.{Message}
 use Rattle.memory.specs.Memory.{rows_of}
-use Rattle.memory.specs.Rows.{Rows, Roomy, members, put_letters, no_message}
-use Rattle.memory.proofs.Sizes.{messages_long, same_room}
-use Rattle.moving.proofs.Steps.{by, begins, the_messages, Keeping, keep_drops, keep_holds, messages_are}
-use Rattle.moving.proofs.Loops.{sift_starts, keep_ends}
-use Rattle.moving.specs.Marks.{Marks}
+use Rattle.memory.specs.Rows.{members}
+use Rattle.moving.proofs.Steps.{the_messages, Keeping}
 use Rattle.moving.proofs.without.messages.Given as goal
 
 abbrev pub named : List ℕ → Message → Bool

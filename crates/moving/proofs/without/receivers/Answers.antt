@@ -1,14 +1,11 @@
 -- `moving::without::receivers` meets its contract. The loop: Freeing, of Sets.antt.
-use Prim.Native.Nat.{◌-◌}
-use mathlib.Core.Path.{◌≡◌, ap, ◌∙◌}
+use mathlib.Core.Path.{ap, ◌∙◌}
 use native.Mathlib.Omega.{arith}
-use borrow.Author.Rules.{rules}
 use Rattle.rules.specs.Ending.{told_gone}
-use Rattle.memory.specs.Memory.{rows_of}
 use Rattle.memory.specs.Rows.{Rows, Roomy}
 use Rattle.memory.proofs.Sizes.{threads_long, ready_long, same_room}
 use Rattle.moving.proofs.Steps.{by, Within}
-use Rattle.moving.proofs.Sets.{Listed, Freeing, free_starts, free_tests, free_by, free_room, free_next, free_ends}
+use Rattle.moving.proofs.Sets.{Listed, free_starts, free_tests, free_by, free_room, free_next, free_ends}
 use Rattle.moving.proofs.without.receivers.Goals as goal
 
 pub loop-i-init : goal.loop-i-init

@@ -1,16 +1,11 @@
 -- `devices::devices_right` meets its contract. The loop: no device of those passed has two, and the marks say which have one.
-use Prim.Native.Nat.{ℕ, ◌-◌}
 use mathlib.Core.Path.{sym, ap, ◌∙◌}
 use native.Mathlib.Omega.{arith}
-use borrow.Author.Rules.{rules}
-use Rattle.rules.specs.Lists.{any}
-use Rattle.rules.specs.Interrupt.{held_for}
 use Rattle.laws.specs.Words.{State}
 use Rattle.memory.specs.Rows.{no_thread}
-use Rattle.memory.specs.Memory.{rows_of}
 use Rattle.store.specs.Store.{tables}
 use Rattle.indexing.proofs.Passing.{roomy, threads_whole, thread_reach}
-use Rattle.ranging.proofs.Waiters.{device_of, Waited, wait_starts, wait_skips, wait_next, wait_fails, wait_held, wait_ends, broken}
+use Rattle.ranging.proofs.Waiters.{device_of, wait_starts, wait_skips, wait_next, wait_fails, wait_held, wait_ends, broken}
 use Rattle.ranging.proofs.Waiters.{kept}
 use Rattle.ranging.proofs.devices.devices_right.Goals as goal
 
@@ -82,7 +77,7 @@ loop-i-preserved-then-d-lt-DEVICES c =
       arith,
       c.loop-i-test.true,
       c.count-n.ensures,
-    )) w c.if-d-lt-DEVICES.true (sym c.is_held.ensures ∙ c.if-is_held.false) c.if-marks-d-ne0.false
+    )) w c.if-d-lt-DEVICES.true (sym c.is_held.ensures ∙ c.if-is_held.false) (omega arith)
 
 pub overflow_add-i-else-d-lt-DEVICES : goal.overflow_add-i-else-d-lt-DEVICES
 overflow_add-i-else-d-lt-DEVICES c = omega (arith, c.loop-i-test.true)

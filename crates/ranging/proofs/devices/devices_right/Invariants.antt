@@ -1,17 +1,9 @@
 -- `devices::devices_right` meets its contract. The loop: no device of those passed has two, and the marks say which have one.
 use Prim.Native.Nat.{ℕ, ◌-◌}
-use mathlib.Core.Path.{sym, ap, ◌∙◌}
-use native.Mathlib.Omega.{arith}
-use borrow.Author.Rules.{rules}
 use Rattle.rules.specs.Lists.{any}
 use Rattle.rules.specs.Interrupt.{held_for}
-use Rattle.laws.specs.Words.{State}
-use Rattle.memory.specs.Rows.{no_thread}
 use Rattle.memory.specs.Memory.{rows_of}
-use Rattle.store.specs.Store.{tables}
-use Rattle.indexing.proofs.Passing.{roomy, threads_whole, thread_reach}
-use Rattle.ranging.proofs.Waiters.{device_of, Waited, wait_starts, wait_skips, wait_next, wait_fails, wait_held, wait_ends, broken}
-use Rattle.ranging.proofs.Waiters.{kept}
+use Rattle.ranging.proofs.Waiters.{Waited}
 use Rattle.ranging.proofs.devices.devices_right.Given as goal
 
 abbrev pub invariant-loop-i : goal.invariant-loop-i

@@ -1,7 +1,6 @@
 -- `parents::above` meets its contract, case by case.
 use mathlib.Core.Path.{sym, ◌∙◌}
 use native.Mathlib.Omega.{arith}
-use borrow.Author.Rules.{rules}
 use Rattle.indexing.proofs.Indexing.{look_place}
 use Rattle.ranging.proofs.Raising.{above_top, above_none, above_zero, above_live, above_gone}
 use Rattle.ranging.proofs.parents.above.Goals as goal

@@ -1,7 +1,5 @@
 -- `parents::all_lead` meets its contract. The loop: each place passed leads above all.
-use Prim.Native.Nat.{◌-◌}
-use borrow.Author.Rules.{rules}
-use Rattle.ranging.proofs.Leading.{Led, lead_starts, lead_next, lead_fails, lead_ends}
+use Rattle.ranging.proofs.Leading.{lead_starts, lead_next, lead_fails, lead_ends}
 use Rattle.ranging.proofs.parents.all_lead.Goals as goal
 
 pub loop-i-init : goal.loop-i-init

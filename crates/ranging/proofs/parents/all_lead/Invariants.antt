@@ -1,7 +1,6 @@
 -- `parents::all_lead` meets its contract. The loop: each place passed leads above all.
 use Prim.Native.Nat.{◌-◌}
-use borrow.Author.Rules.{rules}
-use Rattle.ranging.proofs.Leading.{Led, lead_starts, lead_next, lead_fails, lead_ends}
+use Rattle.ranging.proofs.Leading.{Led}
 use Rattle.ranging.proofs.parents.all_lead.Given as goal
 
 abbrev pub invariant-loop-i : goal.invariant-loop-i

@@ -1,10 +1,8 @@
 -- `parents::leads` meets its contract. The loop: the steps so far led to a place, neither before the start nor above all. n + 1 steps are
 -- tried.
-use Prim.Native.Nat.{◌+◌, ◌-◌}
 use mathlib.Core.Logic.{inl, inr}
 use native.Mathlib.Omega.{arith}
-use borrow.Author.Rules.{rules}
-use Rattle.ranging.proofs.Leading.{Gone, go_starts, go_next, go_leads, go_ends}
+use Rattle.ranging.proofs.Leading.{go_starts, go_next, go_leads, go_ends}
 use Rattle.ranging.proofs.parents.leads.Goals as goal
 
 pub loop-k-init : goal.loop-k-init

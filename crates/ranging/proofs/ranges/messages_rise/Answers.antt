@@ -1,12 +1,8 @@
 -- `ranges::messages_rise` meets its contract. The loop: the receivers passed rise.
-use Prim.Native.Nat.{◌-◌}
 use native.Mathlib.Omega.{arith}
-use lib.Dec.{leb}
-use Rattle.laws.specs.Words.{Message}
 use Rattle.memory.specs.Rows.{no_message}
-use Rattle.memory.specs.Memory.{rows_of}
 use Rattle.store.specs.Store.{tables}
-use Rattle.indexing.proofs.Passing.{Along, along_starts, along_next, along_fails, along_ends, up_to, not_up_to, roomy, messages_whole}
+use Rattle.indexing.proofs.Passing.{along_starts, along_next, along_fails, along_ends, up_to, not_up_to, roomy, messages_whole}
 use Rattle.indexing.proofs.Passing.{message_reach}
 use Rattle.ranging.proofs.ranges.messages_rise.Goals as goal
 
@@ -36,7 +32,7 @@ loop-i-smaller c = omega arith
 
 pub loop-i-preserved : goal.loop-i-preserved
 loop-i-preserved c = along_next _ _ _ _ _ no_message c.loop-i.invariant c.loop-i-test.true
-    (up_to c.receiver_at-x.ensures c.receiver_at-y.ensures c.if-x-y.true)
+    (up_to c.receiver_at-x.ensures c.receiver_at-y.ensures (omega arith))
 
 pub returns-else-x-y : goal.returns-else-x-y
 unfolding tables

@@ -1,14 +1,9 @@
 -- `ranges::names_low` meets its contract. The loop: the names passed are names of threads.
-use Prim.Native.Nat.{◌-◌}
 use mathlib.Core.Path.{refl}
 use native.Mathlib.Omega.{arith}
-use lib.Dec.{ltb}
-use Rattle.rules.specs.Numbers.{names}
-use Rattle.laws.specs.Words.{Thread}
 use Rattle.memory.specs.Rows.{no_thread}
-use Rattle.memory.specs.Memory.{rows_of}
 use Rattle.store.specs.Store.{tables}
-use Rattle.indexing.proofs.Passing.{Over, over_starts, over_next, over_fails, over_ends, less, not_less, roomy, threads_whole, thread_reach}
+use Rattle.indexing.proofs.Passing.{over_starts, over_next, over_fails, over_ends, less, not_less, roomy, threads_whole, thread_reach}
 use Rattle.ranging.proofs.ranges.names_low.Goals as goal
 
 pub count-n-requires : goal.count-n-requires

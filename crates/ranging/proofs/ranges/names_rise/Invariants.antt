@@ -1,13 +1,9 @@
 -- `ranges::names_rise` meets its contract. The loop: the names passed rise.
 use Prim.Native.Nat.{◌-◌}
-use native.Mathlib.Omega.{arith}
 use lib.Dec.{ltb}
 use Rattle.laws.specs.Words.{Thread}
-use Rattle.memory.specs.Rows.{no_thread}
 use Rattle.memory.specs.Memory.{rows_of}
-use Rattle.store.specs.Store.{tables}
-use Rattle.indexing.proofs.Passing.{Along, along_starts, along_next, along_fails, along_ends, less, not_less, roomy, threads_whole}
-use Rattle.indexing.proofs.Passing.{thread_reach}
+use Rattle.indexing.proofs.Passing.{Along}
 use Rattle.ranging.proofs.ranges.names_rise.Given as goal
 
 abbrev pub invariant-loop-i : goal.invariant-loop-i

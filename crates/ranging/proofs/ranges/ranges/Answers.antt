@@ -34,7 +34,7 @@ returns-then-not-threads_in_range c = sym (fails_first _ (failed c.threads_in_ra
     ∙ ranges_left c.args.m.now
     (λ k. omega (arith, c.shared_slice_known-1.given k))
     (omega (arith, c.last.ensures, c.if-last-ge-NAMES.false))
-    (omega (arith, c.since.ensures, c.if-since-ge-BEAT.false))
+    (omega (arith, c.since.ensures))
 
 pub held_told-requires : goal.held_told-requires
 held_told-requires c = roomy c.args.m.now
@@ -46,4 +46,4 @@ returns c = sym (and_then (passed c.threads_in_range.ensures c.if-not-threads_in
     ∙ ranges_left c.args.m.now
     (λ k. omega (arith, c.shared_slice_known-1.given k))
     (omega (arith, c.last.ensures, c.if-last-ge-NAMES.false))
-    (omega (arith, c.since.ensures, c.if-since-ge-BEAT.false))
+    (omega (arith, c.since.ensures))

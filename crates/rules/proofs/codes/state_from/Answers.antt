@@ -1,6 +1,5 @@
 -- `rules::codes::state_from` meets its contract: each arm is the rule's own test.
 use borrow.Author.Tests.{ne_eqb}
-use borrow.Author.Rules.{rules}
 use Rattle.rules.proofs.codes.state_from.Goals as goal
 
 pub returns-in-0 : goal.returns-in-0

@@ -2,7 +2,6 @@
 -- mask of src/pick.rt leaves the devices of its class, and the last one that the three masks leave no device out.
 use mathlib.Core.Path.{refl, sym, ap, ◌∙◌}
 use native.Mathlib.Omega.{arith}
-use borrow.Author.Rules.{rules}
 use Rattle.rules.specs.Lists.{any, keep, from_on}
 use Rattle.rules.specs.Pick.{pick as pick_of}
 use Rattle.rules.proofs.Bits.{pick_zero, pick_high}

@@ -5,7 +5,6 @@ use mathlib.Core.Path.{◌≡◌, refl, sym, ap, ◌∙◌}
 use mathlib.Core.Bool.{Bool}
 use native.Mathlib.Nat.{zero-add}
 use native.Mathlib.Omega.{arith}
-use borrow.Author.Rules.{rules}
 use lib.Dec.{T, eqb→eq}
 use Rattle.rules.specs.Lists.{◌==◌}
 use Rattle.rules.specs.Words.{Argument, NoService, Zero, AnyName, ADevice}

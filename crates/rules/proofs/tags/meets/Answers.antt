@@ -1,6 +1,5 @@
 -- `rules::tags::meets` meets its contract: each arm is the rule's own case.
 use mathlib.Core.Path.{sym, ap}
-use borrow.Author.Rules.{rules}
 use Rattle.rules.specs.Words.{Argument}
 use Rattle.rules.specs.Tags.{meets as meets_of}
 use Rattle.rules.proofs.tags.meets.Goals as goal

@@ -1,5 +1,4 @@
 -- `close` meets its contract: a round that adds nobody is the last, and any other leaves fewer threads outside the set.
-use Prim.Native.Nat.{ℕ, ◌<◌}
 use mathlib.Core.Path.{sym, ◌∙◌}
 use native.Mathlib.Omega.{arith}
 use Rattle.laws.proofs.Closure.{falls as joins_fall}

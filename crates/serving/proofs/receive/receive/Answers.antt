@@ -1,7 +1,6 @@
 -- `receive::receive` meets its contract: the message found is handed over, or the runner waits.
 use mathlib.Core.Path.{◌∙◌}
 use Rattle.serving.proofs.Sending.{taken_hands, missing_waits, taken_holds}
-use borrow.Author.Rules.{rules}
 use Rattle.serving.proofs.receive.receive.Goals as goal
 
 pub take_message-t-requires : goal.take_message-t-requires

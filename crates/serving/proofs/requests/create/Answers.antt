@@ -1,7 +1,6 @@
 -- `requests::create` meets its contract: a thread of a name that nobody has, at the tail of the ready queue.
 use mathlib.Core.Path.{refl}
 use Rattle.serving.proofs.Asking.{newcomer_free, newcomer_room, created}
-use borrow.Author.Rules.{rules}
 use Rattle.serving.proofs.requests.create.Goals as goal
 
 pub next_name-name-requires : goal.next_name-name-requires

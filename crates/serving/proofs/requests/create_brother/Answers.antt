@@ -1,6 +1,5 @@
 -- `requests::create_brother` meets its contract: the newcomer has the requester's parent.
 use Rattle.serving.proofs.Asking.{brother}
-use borrow.Author.Rules.{rules}
 use Rattle.serving.proofs.requests.create_brother.Goals as goal
 
 pub parent_of-p-requires : goal.parent_of-p-requires

@@ -1,5 +1,4 @@
 -- `requests::create_son` meets its contract: it is what `create` leaves.
-use borrow.Author.Rules.{rules}
 use Rattle.serving.proofs.requests.create_son.Goals as goal
 
 pub create-requires : goal.create-requires

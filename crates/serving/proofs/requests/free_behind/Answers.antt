@@ -1,9 +1,7 @@
 -- `requests::free_behind` meets its contract. The loop: with the name that the walk has come to, the threads that are left give what all
 -- of them give, and have no lower name.
-use Prim.Native.Nat.{◌-◌}
 use native.Mathlib.Omega.{arith}
-use borrow.Author.Rules.{rules}
-use Rattle.serving.proofs.Naming.{Walks, sets_out, moves_on, is_free, is_last}
+use Rattle.serving.proofs.Naming.{sets_out, moves_on, is_free, is_last}
 use Rattle.serving.proofs.requests.free_behind.Goals as goal
 
 pub thread_count-n-requires : goal.thread_count-n-requires

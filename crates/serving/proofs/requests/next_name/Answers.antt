@@ -1,5 +1,4 @@
 -- `requests::next_name` meets its contract: what is found behind the name given last is the next name, or the walk comes round.
-use borrow.Author.Rules.{rules}
 use mathlib.Core.Path.{◌∙◌}
 use Rattle.serving.proofs.Naming.{found_above, comes_round}
 use Rattle.serving.proofs.requests.next_name.Goals as goal

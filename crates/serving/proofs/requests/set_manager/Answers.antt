@@ -2,7 +2,6 @@
 use mathlib.Core.Path.{refl}
 use Rattle.rules.specs.Requests.{set_over}
 use Rattle.serving.proofs.Asking.{by_entry}
-use borrow.Author.Rules.{rules}
 use Rattle.serving.proofs.requests.set_manager.Goals as goal
 
 pub manager_of-g-requires : goal.manager_of-g-requires

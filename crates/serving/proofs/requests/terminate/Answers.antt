@@ -5,7 +5,6 @@ use Rattle.rules.specs.Requests.{terminate}
 use Rattle.laws.proofs.Tests.{not_false}
 use Rattle.store.specs.Store.{tables}
 use Rattle.serving.proofs.Asking.{by_target}
-use borrow.Author.Rules.{rules}
 use Rattle.serving.proofs.requests.terminate.Goals as goal
 
 pub end-requires : goal.end-requires

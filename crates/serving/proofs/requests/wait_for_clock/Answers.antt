@@ -1,6 +1,5 @@
 -- `requests::wait_for_clock` meets its contract: the runner stops and joins the clock queue.
 use Rattle.serving.proofs.Asking.{clock_room, clocked}
-use borrow.Author.Rules.{rules}
 use Rattle.serving.proofs.requests.wait_for_clock.Goals as goal
 
 pub stop-requires : goal.stop-requires

@@ -2,7 +2,6 @@
 use mathlib.Core.Path.{sym, ◌∙◌}
 use Rattle.handling.proofs.Interrupting.{held_low}
 use Rattle.serving.proofs.Asking.{word_taken, word_missing}
-use borrow.Author.Rules.{rules}
 use Rattle.serving.proofs.requests.wait_for_io.Goals as goal
 
 pub is_held-requires : goal.is_held-requires

@@ -6,7 +6,6 @@ use Rattle.laws.specs.Words.{Message}
 use Rattle.store.specs.Store.{tables}
 use Rattle.handling.proofs.Leaving.{in_words}
 use Rattle.serving.proofs.Sending.{sent_decides, sent_delivers}
-use borrow.Author.Rules.{rules}
 use Rattle.serving.proofs.send.send.Goals as goal
 
 pub decides-requires : goal.decides-requires

@@ -4,7 +4,6 @@ use Rattle.laws.specs.Words.{Unset, Set, Gone}
 use Rattle.store.specs.Store.{tables}
 use Rattle.handling.proofs.Leaving.{in_words}
 use Rattle.serving.proofs.Sending.{trap_by, runner_ends, trapped_holds, trapped_room, trapped_told}
-use borrow.Author.Rules.{rules}
 use Rattle.serving.proofs.trap.trap.Goals as goal
 
 pub manager_of-g-requires : goal.manager_of-g-requires

@@ -1,5 +1,4 @@
 -- `decode::asked` meets its contract: by the test of the argument.
-use borrow.Author.Rules.{rules}
 use Rattle.stepping.proofs.decode.asked.Goals as goal
 
 pub request-requires : goal.request-requires

@@ -3,7 +3,6 @@ use Prim.Native.Nat.{◌+◌, ◌*◌}
 use mathlib.Core.Path.{sym, ◌∙◌}
 use native.Mathlib.Omega.{arith}
 use borrow.Author.Tests.{not-true, not-false}
-use borrow.Author.Rules.{rules}
 use Rattle.stepping.proofs.Fields.{too_short, unknown, Head, wrong_length, wrong_size, whole}
 use Rattle.stepping.proofs.decode.decode.Goals as goal
 

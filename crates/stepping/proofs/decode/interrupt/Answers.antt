@@ -1,6 +1,5 @@
 -- `decode::interrupt` meets its contract: by the refusal of the pick.
 use borrow.Author.Tests.{eq-eqb, ne_eqb}
-use borrow.Author.Rules.{rules}
 use Rattle.rules.specs.Events.{interrupt_of}
 use Rattle.stepping.proofs.decode.interrupt.Goals as goal
 

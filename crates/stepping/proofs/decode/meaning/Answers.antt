@@ -3,7 +3,6 @@ use Prim.Native.Nat.{ℕ, ◌+◌}
 use mathlib.Core.Path.{◌≡◌}
 use native.Mathlib.Omega.{arith}
 use lib.ListN.{length}
-use borrow.Author.Rules.{rules}
 use Rattle.rules.specs.Tags.{tag_facts as facts_of, facts_in}
 use Rattle.stepping.proofs.Fields.{last_tag, size, means_send, means_receive, means_request, means_trap, means_tick, means_interrupt}
 use Rattle.stepping.proofs.decode.meaning.Goals as goal

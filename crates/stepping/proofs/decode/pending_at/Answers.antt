@@ -1,5 +1,4 @@
 -- `decode::pending_at` meets its contract: `eight_at`.
-use borrow.Author.Rules.{rules}
 use Rattle.stepping.proofs.Fields.{eight_at}
 use Rattle.stepping.proofs.decode.pending_at.Goals as goal
 

@@ -1,5 +1,4 @@
 -- `decode::request` meets its contract: each arm is the rule's own test.
-use borrow.Author.Rules.{rules}
 use Rattle.rules.specs.Events.{request as request_of, asked_in}
 use Rattle.stepping.proofs.Fields.{last_service}
 use Rattle.stepping.proofs.decode.request.Goals as goal

@@ -1,5 +1,4 @@
 -- `decode::word_at` meets its contract: `four_at`.
-use borrow.Author.Rules.{rules}
 use Rattle.laws.proofs.Bytes.{four_at}
 use Rattle.stepping.proofs.decode.word_at.Goals as goal
 

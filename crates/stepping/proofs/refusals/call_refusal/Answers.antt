@@ -2,7 +2,6 @@
 use mathlib.Core.Path.{sym, ◌∙◌}
 use borrow.Author.Tests.{eq-eqb, ne_eqb}
 use Rattle.rules.specs.Refusals.{first_of, call_rules}
-use borrow.Author.Rules.{rules}
 use Rattle.stepping.proofs.refusals.call_refusal.Goals as goal
 
 pub send_refusal-requires : goal.send_refusal-requires

@@ -2,7 +2,6 @@
 use mathlib.Core.Path.{ap}
 use mathlib.Core.Bool.{not}
 use Rattle.rules.specs.Refusals.{ends_nobody}
-use borrow.Author.Rules.{rules}
 use Rattle.stepping.proofs.refusals.ends_nobody.Goals as goal
 
 pub is_live-requires : goal.is_live-requires

@@ -1,6 +1,6 @@
 -- `refusals::manager_refusal` meets its contract: the first of its two rules that holds.
 use mathlib.Core.Path.{sym, ◌∙◌}
-use borrow.Author.Tests.{not-true, not-false, eq-eqb, ne_eqb}
+use borrow.Author.Tests.{eq-eqb, ne_eqb}
 use Rattle.rules.specs.Refusals.{first_of}
 use Rattle.stepping.proofs.refusals.manager_refusal.Goals as goal
 

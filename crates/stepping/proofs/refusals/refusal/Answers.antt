@@ -6,7 +6,6 @@ use Rattle.rules.specs.Dispatch.{status}
 use Rattle.rules.specs.Refusals.{first_of, over, is_malformed, needs_runner, own_rules, refusal}
 use Rattle.store.specs.Store.{tables}
 use Rattle.stepping.proofs.Stepping.{runs_now}
-use borrow.Author.Rules.{rules}
 use Rattle.stepping.proofs.refusals.refusal.Goals as goal
 
 pub status-s-requires : goal.status-s-requires

@@ -1,7 +1,7 @@
 -- `refusals::send_refusal` meets its contract: the first of its three rules that holds.
 use mathlib.Core.Path.{◌≡◌, sym, ap, ◌∙◌}
 use mathlib.Core.Bool.{true}
-use borrow.Author.Tests.{not-true, not-false, lt-ltb, le-ltb}
+use borrow.Author.Tests.{lt-ltb, le-ltb}
 use Rattle.rules.specs.Lists.{any}
 use Rattle.rules.specs.Tables.{live}
 use Rattle.rules.specs.Waking.{accepts}
@@ -9,7 +9,6 @@ use Rattle.rules.specs.Send.{message}
 use Rattle.rules.specs.Refusals.{first_of, call_rules}
 use Rattle.laws.specs.Words.{Message}
 use Rattle.store.specs.Store.{tables}
-use borrow.Author.Rules.{rules}
 use Rattle.stepping.proofs.refusals.send_refusal.Goals as goal
 
 pub is_live-requires : goal.is_live-requires

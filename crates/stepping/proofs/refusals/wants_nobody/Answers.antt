@@ -1,7 +1,6 @@
 -- `refusals::wants_nobody` meets its contract: anybody is there, and one is refused who is not live.
 use mathlib.Core.Path.{ap}
 use mathlib.Core.Bool.{not}
-use borrow.Author.Rules.{rules}
 use Rattle.stepping.proofs.refusals.wants_nobody.Goals as goal
 
 pub is_live-requires : goal.is_live-requires

@@ -1,7 +1,6 @@
 -- `start::start` meets its contract: the first thread is put in, and runs.
 use mathlib.Core.Path.{◌∙◌}
 use Rattle.stepping.proofs.Stepping.{first_fits, started}
-use borrow.Author.Rules.{rules}
 use Rattle.stepping.proofs.start.start.Goals as goal
 
 pub clear-requires : goal.clear-requires

@@ -5,7 +5,6 @@ use Rattle.laws.specs.Decoded.{Proper}
 use Rattle.store.specs.Store.{limits, tables}
 use Rattle.handling.proofs.Leaving.{as_it_was, and_hands}
 use Rattle.stepping.proofs.Stepping.{runs_now, never_alone, called_by}
-use borrow.Author.Rules.{rules}
 use Rattle.stepping.proofs.step.act.Goals as goal
 
 pub runner-r-requires : goal.runner-r-requires

@@ -1,5 +1,4 @@
 -- `step::decided` meets its contract: the status and the runner are those of the tables.
-use borrow.Author.Rules.{rules}
 use Rattle.stepping.proofs.step.decided.Goals as goal
 
 pub status-s-requires : goal.status-s-requires

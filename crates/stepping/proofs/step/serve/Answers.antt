@@ -7,7 +7,6 @@ use Rattle.store.specs.Store.{tables}
 use Rattle.store.proofs.Limits.{names_left}
 use Rattle.handling.proofs.Leaving.{as_it_was, and_hands, holds}
 use Rattle.stepping.proofs.Stepping.{message_room, brother_room, son_room, ends_somebody, caller_lives, waiting_room, device_known}
-use borrow.Author.Rules.{rules}
 use Rattle.stepping.proofs.step.serve.Goals as goal
 
 pub send-requires : goal.send-requires

@@ -3,7 +3,6 @@ use mathlib.Core.Path.{refl, sym, ◌∙◌}
 use Rattle.laws.proofs.Decoded.{decode_proper}
 use Rattle.handling.proofs.Leaving.{holds}
 use Rattle.stepping.proofs.Stepping.{acted, accepted, refused}
-use borrow.Author.Rules.{rules}
 use Rattle.stepping.proofs.step.step.Goals as goal
 
 pub refusal-refusal-requires : goal.refusal-refusal-requires

@@ -1,5 +1,4 @@
 -- `ended::begin_ended` meets its contract.
-use Rattle.std.proofs.Common.{rules}
 use Rattle.store.specs.Store.{limits, found}
 use Rattle.store.proofs.Written.{found_are}
 use Rattle.store.proofs.Searched.{roomy}

@@ -1,5 +1,5 @@
 -- `ended::grow_ended` meets its contract.
-use Rattle.std.proofs.Common.{arith, rules}
+use Rattle.std.proofs.Common.{arith}
 use Rattle.store.specs.Store.{limits, tables, Shaped, found}
 use Rattle.memory.proofs.Sizes.{members_count}
 use Rattle.store.proofs.Written.{found_are}

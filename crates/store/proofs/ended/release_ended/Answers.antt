@@ -1,5 +1,5 @@
 -- `ended::release_ended` meets its contract.
-use Rattle.std.proofs.Common.{refl, arith, rules}
+use Rattle.std.proofs.Common.{refl, arith}
 use Rattle.rules.specs.Tables.{in_state}
 use Rattle.store.specs.Store.{limits, tables, Shaped, found}
 use Rattle.store.proofs.Written.{leaves, woken, rising_where}

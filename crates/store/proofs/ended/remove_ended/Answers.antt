@@ -1,5 +1,5 @@
 -- `ended::remove_ended` meets its contract: row by row, and the set stays as it was found.
-use Rattle.std.proofs.Common.{sym, ◌∙◌, rules}
+use Rattle.std.proofs.Common.{sym, ◌∙◌}
 use Rattle.store.specs.Store.{limits, Shaped, found}
 use Rattle.store.proofs.Removed.{kept₁, kept₂, kept₃, kept₄, left₁, left₂, left₃, left₄, removed_idle, removed_stays, removed_ends}
 use Rattle.moving.proofs.Marking.{marks_of}

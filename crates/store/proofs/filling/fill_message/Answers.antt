@@ -1,5 +1,5 @@
 -- `filling::fill_message` meets its contract.
-use Rattle.std.proofs.Common.{arith, rules}
+use Rattle.std.proofs.Common.{arith}
 use Rattle.memory.specs.Rows.{Roomy}
 use Rattle.moving.proofs.Steps.{by}
 use Rattle.store.specs.Store.{limits, Shaped}

@@ -1,5 +1,5 @@
 -- `filling::fill_ready` meets its contract.
-use Rattle.std.proofs.Common.{arith, rules}
+use Rattle.std.proofs.Common.{arith}
 use Rattle.store.specs.Store.{limits, tables}
 use Rattle.store.proofs.Written.{ready_is}
 use Rattle.store.proofs.Searched.{ready_length, roomy}

@@ -1,5 +1,4 @@
 -- `head::set_last` meets its contract.
-use Rattle.std.proofs.Common.{rules}
 use Rattle.store.proofs.Written.{leaves, last_put}
 use Rattle.store.proofs.Searched.{roomy}
 use Rattle.store.proofs.head.set_last.Goals as goal

@@ -1,5 +1,4 @@
 -- `head::set_runner` meets its contract.
-use Rattle.std.proofs.Common.{rules}
 use Rattle.store.proofs.Written.{leaves, runner_put}
 use Rattle.store.proofs.Searched.{roomy}
 use Rattle.store.proofs.head.set_runner.Goals as goal

@@ -1,5 +1,4 @@
 -- `head::set_time` meets its contract.
-use Rattle.std.proofs.Common.{rules}
 use Rattle.memory.specs.Rows.{Roomy}
 use Rattle.moving.proofs.Steps.{by}
 use Rattle.store.proofs.Written.{leaves, time_put}

@@ -1,5 +1,4 @@
 -- `held::clear_held` meets its contract.
-use Rattle.std.proofs.Common.{rules}
 use Rattle.store.specs.Store.{tables, Shaped}
 use Rattle.store.proofs.Written.{leaves, held_put}
 use Rattle.store.proofs.held.clear_held.Goals as goal

@@ -1,5 +1,4 @@
 -- `held::hold` meets its contract.
-use Rattle.std.proofs.Common.{rules}
 use Rattle.store.specs.Store.{tables, Shaped}
 use Rattle.store.proofs.Written.{leaves, held_put}
 use Rattle.store.proofs.held.hold.Goals as goal

@@ -1,5 +1,4 @@
 -- `inboxes::discard_notice` meets its contract.
-use Rattle.std.proofs.Common.{rules}
 use Rattle.store.specs.Store.{tables}
 use Rattle.store.proofs.Written.{leaves, messages_are}
 use Rattle.store.proofs.Searched.{few_messages}

@@ -1,5 +1,5 @@
 -- `inboxes::queue` meets its contract.
-use Rattle.std.proofs.Common.{arith, rules}
+use Rattle.std.proofs.Common.{arith}
 use Rattle.store.specs.Store.{limits}
 use Rattle.store.proofs.Searched.{messages_length, roomy, few_messages}
 use Rattle.store.proofs.Letters.{end_inside, queued}

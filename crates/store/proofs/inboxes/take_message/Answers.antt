@@ -1,5 +1,5 @@
 -- `inboxes::take_message` meets its contract.
-use Rattle.std.proofs.Common.{arith, rules}
+use Rattle.std.proofs.Common.{arith}
 use Rattle.store.specs.Store.{Shaped}
 use Rattle.rules.specs.Receive.{wanted_by}
 use Rattle.store.proofs.Letters.{taken, nothing_taken}

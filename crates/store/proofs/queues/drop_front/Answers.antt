@@ -1,5 +1,5 @@
 -- `queues::drop_front` meets its contract.
-use Rattle.std.proofs.Common.{arith, rules}
+use Rattle.std.proofs.Common.{arith}
 use Rattle.store.specs.Store.{tables, Shaped}
 use Rattle.store.proofs.Written.{leaves, ready_is}
 use Rattle.store.proofs.Searched.{ready_length, roomy}

@@ -1,5 +1,5 @@
 -- `queues::wake_clock` meets its contract: threads, then the ready queue, then nobody waits.
-use Rattle.std.proofs.Common.{◌+◌, ◌≤◌, [], ◌++◌, refl, arith, rules}
+use Rattle.std.proofs.Common.{◌+◌, ◌≤◌, [], ◌++◌, refl, arith}
 use Rattle.rules.specs.Tables.{in_state, with_clock, with_ready}
 use Rattle.memory.specs.Rows.{Rows, Roomy}
 use Rattle.moving.proofs.Steps.{by}

@@ -1,5 +1,5 @@
 -- `threads::add_thread` meets its contract: nobody has the newcomer's name, so at its place the names rise still.
-use Rattle.std.proofs.Common.{arith, rules}
+use Rattle.std.proofs.Common.{arith}
 use Rattle.store.specs.Store.{limits}
 use Rattle.store.proofs.Searched.{threads_length, place_inside, came_in, roomy, can_place}
 use Rattle.store.proofs.threads.add_thread.Goals as goal

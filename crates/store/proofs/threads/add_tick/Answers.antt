@@ -1,5 +1,5 @@
 -- `threads::add_tick` meets its contract.
-use Rattle.std.proofs.Common.{ℕ, get_or, set, refl, ap, ◌∙◌, arith, rules}
+use Rattle.std.proofs.Common.{ℕ, get_or, set, refl, ap, ◌∙◌, arith}
 use Rattle.rules.specs.Tables.{with_ticks}
 use Rattle.memory.specs.Rows.{no_thread, put_threads}
 use Rattle.memory.specs.Memory.{rows_of}

@@ -1,5 +1,5 @@
 -- `threads::set_manager` meets its contract.
-use Rattle.std.proofs.Common.{refl, arith, rules}
+use Rattle.std.proofs.Common.{refl, arith}
 use Rattle.rules.specs.Tables.{with_managers, set_entry}
 use Rattle.store.proofs.Searched.{changed, unchanged, roomy, found_here, can_find}
 use Rattle.store.proofs.threads.set_manager.Goals as goal

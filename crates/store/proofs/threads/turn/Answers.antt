@@ -1,5 +1,5 @@
 -- `threads::turn` meets its contract: a hint changes no row.
-use Rattle.std.proofs.Common.{refl, arith, rules}
+use Rattle.std.proofs.Common.{refl, arith}
 use Rattle.rules.specs.Tables.{in_state}
 use Rattle.store.proofs.Searched.{changed, unchanged, roomy, found_here, can_find, can_hint, changed_hinted}
 use Rattle.store.proofs.threads.turn.Goals as goal

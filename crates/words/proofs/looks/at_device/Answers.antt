@@ -3,7 +3,6 @@ use mathlib.Core.Path.{sym, ap, ◌∙◌}
 use Rattle.rules.specs.States.{at_device}
 use Rattle.words.specs.Saying.{state_in}
 use Rattle.words.proofs.Looking.{no_device}
-use borrow.Author.Rules.{rules}
 use Rattle.words.proofs.looks.at_device.Goals as goal
 
 pub returns-then-s-eq-DEVICE : goal.returns-then-s-eq-DEVICE

@@ -6,7 +6,6 @@ use Rattle.rules.specs.Lists.{◌==◌}
 use Rattle.rules.specs.Words.{by_manager}
 use Rattle.laws.specs.Words.{Manager}
 use Rattle.words.proofs.Looking.{not_trapped, trapped_by, trapped_wrong}
-use borrow.Author.Rules.{rules}
 use Rattle.words.proofs.looks.awaits.Goals as goal
 
 pub returns-then-w-ne-TRAPPED : goal.returns-then-w-ne-TRAPPED

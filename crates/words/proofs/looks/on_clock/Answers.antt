@@ -3,7 +3,6 @@ use mathlib.Core.Path.{sym}
 use Rattle.rules.specs.Lists.{◌==◌}
 use Rattle.words.specs.Saying.{state_in}
 use Rattle.words.proofs.Looking.{no_clock, beat}
-use borrow.Author.Rules.{rules}
 use Rattle.words.proofs.looks.on_clock.Goals as goal
 
 pub returns-then-s-eq-CLOCK : goal.returns-then-s-eq-CLOCK

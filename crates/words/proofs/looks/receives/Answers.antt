@@ -4,7 +4,6 @@ use borrow.Author.Tests.{eq-eqb, ne_eqb}
 use Rattle.rules.specs.States.{receives}
 use Rattle.words.specs.Saying.{state_in}
 use Rattle.words.proofs.Looking.{no_receiver}
-use borrow.Author.Rules.{rules}
 use Rattle.words.proofs.looks.receives.Goals as goal
 
 pub returns-then-s-ne-RECEIVING : goal.returns-then-s-ne-RECEIVING

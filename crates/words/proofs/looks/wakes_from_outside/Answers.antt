@@ -5,7 +5,6 @@ use Rattle.rules.specs.States.{wakes_from_outside, on_clock}
 use Rattle.laws.specs.Words.{Running, Ready}
 use Rattle.words.specs.Saying.{state_in}
 use Rattle.words.proofs.Looking.{detailed, no_trap, others_wake}
-use borrow.Author.Rules.{rules}
 use Rattle.words.proofs.looks.wakes_from_outside.Goals as goal
 
 pub returns-in-0 : goal.returns-in-0

@@ -1,8 +1,7 @@
 -- `answer_from` reads an answer as it is said, kind by kind.
-use borrow.Author.Tests.{eq-eqb, ne_eqb}
+use borrow.Author.Tests.{ne_eqb}
 use Rattle.words.specs.Saying.{answer_in}
 use mathlib.Core.Logic.{⊎_elim}
-use borrow.Author.Rules.{rules}
 use Rattle.words.proofs.saying.answer_from.Goals as goal
 
 pub returns-then-w-eq0 : goal.returns-then-w-eq0

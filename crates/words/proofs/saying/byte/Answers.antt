@@ -1,6 +1,5 @@
 -- `byte` answers the word, or 255 where it is no byte.
 use borrow.Author.Tests.{lt-ltb, le-ltb}
-use borrow.Author.Rules.{rules}
 use Rattle.words.proofs.saying.byte.Goals as goal
 
 pub returns-then-w-lt-PAST_BYTES : goal.returns-then-w-lt-PAST_BYTES

@@ -1,6 +1,5 @@
 -- `four_at` reads the four words.
 use Rattle.words.proofs.Said.{four_said}
-use borrow.Author.Rules.{rules}
 use Rattle.words.proofs.saying.four_at.Goals as goal
 
 pub returns : goal.returns

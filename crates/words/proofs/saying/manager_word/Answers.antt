@@ -1,6 +1,5 @@
 -- `manager_word` gives a word that says the manager.
 use Rattle.words.proofs.Said.{manager_said}
-use borrow.Author.Rules.{rules}
 use Rattle.words.proofs.saying.manager_word.Goals as goal
 
 pub returns-in-Set : goal.returns-in-Set

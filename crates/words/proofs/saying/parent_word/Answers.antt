@@ -1,6 +1,5 @@
 -- `parent_word` gives a word that says the parent.
 use Rattle.words.proofs.Said.{parent_said}
-use borrow.Author.Rules.{rules}
 use Rattle.words.proofs.saying.parent_word.Goals as goal
 
 pub returns-in-ParentIs : goal.returns-in-ParentIs

@@ -1,6 +1,5 @@
 -- `put_four` writes the four words.
 use Rattle.words.proofs.Said.{four_put}
-use borrow.Author.Rules.{rules}
 use Rattle.words.proofs.saying.put_four.Goals as goal
 
 pub returns : goal.returns

@@ -1,6 +1,5 @@
 -- `read_message` reads each field from its words.
 use Rattle.words.specs.Saying.{message_in}
-use borrow.Author.Rules.{rules}
 use Rattle.words.proofs.saying.read_message.Goals as goal
 
 pub returns : goal.returns

@@ -1,6 +1,5 @@
 -- `read_thread` reads each field from its words.
 use Rattle.words.specs.Saying.{thread_in}
-use borrow.Author.Rules.{rules}
 use Rattle.words.proofs.saying.read_thread.Goals as goal
 
 pub returns : goal.returns

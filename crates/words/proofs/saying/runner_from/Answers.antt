@@ -1,8 +1,7 @@
 -- `runner_from` reads the runner as it is said.
-use borrow.Author.Tests.{eq-eqb, ne_eqb}
+use borrow.Author.Tests.{ne_eqb}
 use Rattle.words.specs.Saying.{runner_in}
 use mathlib.Core.Logic.{⊎_elim}
-use borrow.Author.Rules.{rules}
 use Rattle.words.proofs.saying.runner_from.Goals as goal
 
 pub returns-then-s-eq0 : goal.returns-then-s-eq0

@@ -1,6 +1,5 @@
 -- `sender_from` reads a sender as it is said, for both kinds.
 use borrow.Author.Tests.{lt-ltb, le-ltb}
-use borrow.Author.Rules.{rules}
 use Rattle.words.proofs.saying.sender_from.Goals as goal
 
 pub returns-then-w-lt-PAST_BYTES : goal.returns-then-w-lt-PAST_BYTES

@@ -1,7 +1,6 @@
 -- `state_from` reads a state as it is said, word by word.
 use borrow.Author.Tests.{ne_eqb}
 use Rattle.words.specs.Saying.{state_in}
-use borrow.Author.Rules.{rules}
 use Rattle.words.proofs.saying.state_from.Goals as goal
 
 pub returns-then-d-eq0 : goal.returns-then-d-eq0

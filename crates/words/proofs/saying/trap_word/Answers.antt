@@ -1,5 +1,4 @@
 -- `trap_word` gives a word that says the kind of trap.
-use borrow.Author.Rules.{rules}
 use Rattle.words.proofs.saying.trap_word.Goals as goal
 
 pub returns-in-Program : goal.returns-in-Program

@@ -2,7 +2,6 @@
 use lib.ListN.{length-set}
 use Rattle.words.proofs.Said.{turned_said}
 use native.Mathlib.Omega.{arith}
-use borrow.Author.Rules.{rules}
 use Rattle.words.proofs.saying.turn_thread.Goals as goal
 
 pub bounds-w-10 : goal.bounds-w-10

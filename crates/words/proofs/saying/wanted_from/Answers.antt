@@ -1,6 +1,5 @@
 -- `wanted_from` reads who is wanted as it is said.
 use borrow.Author.Tests.{eq-eqb, ne_eqb}
-use borrow.Author.Rules.{rules}
 use Rattle.words.proofs.saying.wanted_from.Goals as goal
 
 pub returns-then-w-eq-PAST_BYTES : goal.returns-then-w-eq-PAST_BYTES

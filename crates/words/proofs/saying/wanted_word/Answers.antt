@@ -1,6 +1,5 @@
 -- `wanted_word` gives a word that says who is wanted.
 use Rattle.words.proofs.Said.{wanted_said}
-use borrow.Author.Rules.{rules}
 use Rattle.words.proofs.saying.wanted_word.Goals as goal
 
 pub returns-in-Only : goal.returns-in-Only

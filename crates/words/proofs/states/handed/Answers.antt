@@ -1,6 +1,5 @@
 -- `handed` gives the answer that the rule gives, for both kinds.
 use Rattle.rules.specs.Waking.{handed_as}
-use borrow.Author.Rules.{rules}
 use Rattle.words.proofs.states.handed.Goals as goal
 
 pub returns-in-Ordinary : goal.returns-in-Ordinary

@@ -1,5 +1,4 @@
 -- `is_set_to` answers whether an entry is set to a name.
-use borrow.Author.Rules.{rules}
 use Rattle.words.proofs.states.is_set_to.Goals as goal
 
 pub returns-in-Set : goal.returns-in-Set

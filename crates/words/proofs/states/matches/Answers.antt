@@ -1,5 +1,4 @@
 -- `matches` answers as the rule, for anybody and for one name.
-use borrow.Author.Rules.{rules}
 use Rattle.words.proofs.states.matches.Goals as goal
 
 pub returns-in-Only : goal.returns-in-Only
