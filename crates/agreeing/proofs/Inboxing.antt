@@ -1,5 +1,6 @@
 -- The rules on messages, message by message. The index gives the place of a name, and names are distinct: the thread there is the only one.
 -- "A receiver's inbox holds no match" is asked of each thread by the rules, and of each message by the code.
+use Rattle.std.proofs.Common.{◌==◌}
 use Prim.Native.Nat.{ℕ, ◌-◌, ◌≤◌, ◌<◌}
 use mathlib.Core.Path.{◌≡◌, refl, sym, ap, ap₂, ◌∙◌}
 use mathlib.Core.Bool.{Bool, true, false, ◌&&◌, not}
@@ -8,7 +9,7 @@ use native.Mathlib.Omega.{arith}
 use lib.Dec.{ltb}
 use lib.ListN.{length, get_or}
 use borrow.Author.Tests.{lt-ltb, ltb-true}
-use Rattle.rules.specs.Lists.{◌==◌, all, any, count}
+use Rattle.rules.specs.Lists.{all, any, count}
 use Rattle.rules.specs.Tables.{named, live}
 use Rattle.rules.specs.States.{receives}
 use Rattle.rules.specs.Waking.{accepts}

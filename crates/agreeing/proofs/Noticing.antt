@@ -1,5 +1,6 @@
 -- The rule on notices by one pass over the messages: marks at the places of senders say how many notices of each were met.
 -- Names are distinct, so that a notice is the one thread's alone.
+use Rattle.std.proofs.Common.{◌==◌}
 use Prim.Native.Nat.{ℕ, zero, suc, ◌+◌, ◌≤◌, ◌<◌}
 use mathlib.Core.Path.{◌≡◌, refl, sym, ap, ◌∙◌}
 use mathlib.Core.Logic.{◌≢◌}
@@ -10,7 +11,7 @@ use lib.Dec.{leb}
 use lib.ListN.{length, take, get_or, set, replicate}
 use lib.Seq.{get_or-take}
 use borrow.Author.Tests.{le-leb, lt-leb}
-use Rattle.rules.specs.Lists.{◌==◌, one_if, all, any, count}
+use Rattle.rules.specs.Lists.{one_if, all, any, count}
 use Rattle.rules.specs.Tables.{named, new_thread}
 use Rattle.rules.specs.States.{awaits}
 use Rattle.rules.specs.Waking.{is_ordinary, notice_of}

@@ -1,7 +1,7 @@
 // A receiver's inbox holds no match; senders and receivers are live; ordinary messages within the limit; notices.
 // Each rule is one pass over the messages: `at` says where the thread of a name stands.
-ghost use Rattle.std.specs.Prelude.{◌≡◌, ℕ, ◌≤◌};
-ghost use Rattle.rules.specs.Lists.{◌==◌, count};
+ghost use Rattle.std.specs.Prelude.{◌≡◌, ℕ, ◌≤◌, ◌==◌};
+ghost use Rattle.rules.specs.Lists.{count};
 ghost use Rattle.rules.specs.TableRules.{inboxes_right as inboxes_right_of, messages_right as messages_right_of};
 ghost use Rattle.rules.specs.TableRules.{notices_right as notices_right_of};
 ghost use Rattle.store.specs.Store.{Shaped, tables, limits};

@@ -1,6 +1,6 @@
 // Names wanted and set are live, and no manager is oneself; a trapped thread's manager is live.
-ghost use Rattle.std.specs.Prelude.{◌≡◌, true, false, ◌&&◌, not, List, ◌<◌, length, get_or};
-ghost use Rattle.rules.specs.Lists.{◌==◌, any};
+ghost use Rattle.std.specs.Prelude.{◌≡◌, true, false, ◌&&◌, not, List, ◌<◌, length, get_or, ◌==◌};
+ghost use Rattle.rules.specs.Lists.{any};
 ghost use Rattle.rules.specs.Words.{by_state, by_wanted, by_manager};
 ghost use Rattle.rules.specs.Tables.{Tables, named};
 ghost use Rattle.rules.specs.TableRules.{names_live as names_live_of, entries_right as entries_right_of, manager_set as manager_set_of};

@@ -1,6 +1,6 @@
 // State, runner, ready queue and clock queue agree, each name once; the runner's slice.
-ghost use Rattle.std.specs.Prelude.{◌≡◌, true, ◌&&◌, List, ℕ, ◌≤◌, ◌<◌, take, get_or, length};
-ghost use Rattle.rules.specs.Lists.{◌==◌, one_if as one_if_of, all, any, times_in};
+ghost use Rattle.std.specs.Prelude.{◌≡◌, true, ◌&&◌, List, ℕ, ◌≤◌, ◌<◌, take, get_or, length, ◌==◌};
+ghost use Rattle.rules.specs.Lists.{one_if as one_if_of, all, any, times_in};
 ghost use Rattle.rules.specs.Words.{by_runner};
 ghost use Rattle.rules.specs.Tables.{named, runs_as};
 ghost use Rattle.rules.specs.States.{is_running, is_ready, on_clock};

@@ -1,10 +1,11 @@
 -- Single calls in order: their decisions, and what they leave.
+use Rattle.std.proofs.Common.{◌==◌}
 use Prim.Native.Nat.{ℕ}
 use mathlib.Core.Path.{◌≡◌, refl, sym, ap, ap₂, ◌∙◌}
 use mathlib.Core.Bool.{Bool, true, false, not}
 use mathlib.Core.List.{List, [], ◌∷◌, ◌++◌, map, map-append}
 use borrow.Author.Tests.{eqb-false, not-true}
-use Rattle.rules.specs.Lists.{◌==◌, all}
+use Rattle.rules.specs.Lists.{all}
 use Rattle.rules.specs.Numbers.{small}
 use Rattle.rules.specs.Tables.{Tables}
 use Rattle.rules.specs.Step.{step}

@@ -1,7 +1,7 @@
 -- A batch on a lent memory of any length and contents.
-use Rattle.std.specs.Prelude.{ℕ, ◌*◌, ◌≤◌, Bool, true, not, ◌≡◌, List, [], ◌∷◌, ◌++◌, map, length, drop}
+use Rattle.std.specs.Prelude.{ℕ, ◌*◌, ◌≤◌, Bool, true, not, ◌≡◌, List, [], ◌∷◌, ◌++◌, map, length, drop, if◌then◌else◌, ◌==◌}
 use Rattle.std.specs.Borrow.{Bor}
-use Rattle.rules.specs.Lists.{if◌then◌else◌, ◌==◌, all}
+use Rattle.rules.specs.Lists.{all}
 use Rattle.rules.specs.Numbers.{small}
 use Rattle.rules.specs.Runs.{Input, run, decisions}
 use Rattle.rules.specs.Batch.{complete, unread, numbers, taken}

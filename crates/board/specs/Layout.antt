@@ -1,7 +1,6 @@
 -- How many bytes the structs take that C code and the library share.
 -- What it says of C is the rule that #[repr(C)] names; that the compiler keeps it is not proved.
-use Rattle.std.specs.Prelude.{ℕ, ◌+◌, ◌-◌, ◌*◌, ◌/◌, List, [], ◌∷◌, leb}
-use Rattle.rules.specs.Lists.{if◌then◌else◌}
+use Rattle.std.specs.Prelude.{ℕ, ◌+◌, ◌-◌, ◌*◌, ◌/◌, List, [], ◌∷◌, leb, if◌then◌else◌}
 use Rattle.board.specs.declared.Sizes.{Sizes}
 
 -- a type in C: its bytes, and the number that its place is a multiple of

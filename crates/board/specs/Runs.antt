@@ -1,6 +1,6 @@
 -- Calls of nucleus_start and nucleus_step, known by what their contracts say alone, and what their reports tell.
-use Rattle.std.specs.Prelude.{ℕ, ◌+◌, ◌&&◌, List, [], ◌∷◌}
-use Rattle.rules.specs.Lists.{◌==◌, one_if}
+use Rattle.std.specs.Prelude.{ℕ, ◌+◌, ◌&&◌, List, [], ◌∷◌, ◌==◌}
+use Rattle.rules.specs.Lists.{one_if}
 use Rattle.rules.specs.Load.{answer_from}
 use Rattle.rules.specs.Events.{decode}
 use Rattle.rules.specs.Runs.{Input}

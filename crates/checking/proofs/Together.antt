@@ -1,10 +1,11 @@
 -- The tests of the table rules together: one that fails is enough, and where ten pass the three on threads are left.
+use Rattle.std.proofs.Common.{◌==◌}
 use Prim.Native.Nat.{ℕ, ◌≤◌}
 use mathlib.Core.Path.{◌≡◌, refl, sym}
 use mathlib.Core.Bool.{Bool, true, false, ◌&&◌, true≢false}
 use mathlib.Core.List.{[], ◌∷◌}
 use lib.ListN.{get_or}
-use Rattle.rules.specs.Lists.{◌==◌, all, count}
+use Rattle.rules.specs.Lists.{all, count}
 use Rattle.rules.specs.Numbers.{Limits}
 use Rattle.rules.specs.Tables.{Tables}
 use Rattle.rules.specs.TableRules.{ranges, names_right, parents_right, places_agree, devices_right, names_live, trapped_right}

@@ -1,6 +1,6 @@
 // All the table rules. Orders, ranges and names come first: later tests rest on them. The index of names is made once, and lent.
-ghost use Rattle.std.specs.Prelude.{◌≡◌, ◌&&◌, ℕ, ◌≤◌};
-ghost use Rattle.rules.specs.Lists.{◌==◌, count};
+ghost use Rattle.std.specs.Prelude.{◌≡◌, ◌&&◌, ℕ, ◌≤◌, ◌==◌};
+ghost use Rattle.rules.specs.Lists.{count};
 ghost use Rattle.rules.specs.TableRules.{names_live, trapped_right, answers_right, inboxes_right, messages_right, notices_right};
 ghost use Rattle.rules.specs.TableRules.{table_rules};
 ghost use Rattle.store.specs.Store.{Shaped, tables, limits};

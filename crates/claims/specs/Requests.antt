@@ -1,12 +1,12 @@
 -- What requests do.
-use Rattle.std.specs.Prelude.{ℕ, ◌%◌, ◌≤◌, ◌<◌, ◌≡◌, true, false, not, ◌≢◌, ◌⊎◌}
+use Rattle.std.specs.Prelude.{ℕ, ◌%◌, ◌≤◌, ◌<◌, ◌≡◌, true, false, not, ◌≢◌, ◌⊎◌, ◌==◌}
 use mathlib.Core.List.{List, Memᴰ}
 use Rattle.rules.specs.Numbers.{Limits, names, wrap}
 use Rattle.rules.specs.Tables.{Tables, start, live, with_held, manager, with_threads}
 use Rattle.rules.specs.Step.{step}
 use Rattle.rules.specs.Runs.{Input, run}
 use Rattle.rules.specs.TableRules.{table_rules}
-use Rattle.rules.specs.Lists.{◌==◌, any, keep, has}
+use Rattle.rules.specs.Lists.{any, keep, has}
 use Rattle.rules.specs.Ending.{ended_set, end}
 use Rattle.rules.specs.Events.{decode}
 use Rattle.laws.specs.Words.{Answer, Result, GetCpuTime, Held, WaitForIo, Device, Nothing, Thread, TrapKind, Set, Gone, Unset, SetManager}

@@ -1,4 +1,5 @@
 -- Words in a dump: those that are right stand there as they are, the others as what they say.
+use Rattle.std.proofs.Common.{if◌then◌else◌, ◌==◌}
 use Prim.Native.Nat.{ℕ, zero, suc, ◌≤◌, ◌<◌}
 use mathlib.Core.Path.{◌≡◌, refl, ap, ◌∙◌}
 use mathlib.Core.Bool.{true, false, ◌&&◌, true≢false, false≢true}
@@ -7,7 +8,7 @@ use mathlib.Core.List.{List, [], ◌∷◌, ◌++◌}
 use native.Mathlib.Omega.{arith}
 use lib.ListN.{length}
 use borrow.Author.Tests.{ne_eqb, ltb-true, ltb-false, le-ltb}
-use Rattle.rules.specs.Lists.{if◌then◌else◌, ◌==◌, four_bytes}
+use Rattle.rules.specs.Lists.{four_bytes}
 use Rattle.rules.specs.Numbers.{nobody, service}
 use Rattle.rules.specs.Codes.{state_numbers, answer_numbers, manager_code, parent_code, trap_code}
 use Rattle.rules.specs.Dump.{field, answer_value, thread_value}

@@ -1,4 +1,5 @@
 -- A table passed part by part: entry by entry, or for held words device by device.
+use Rattle.std.proofs.Common.{◌==◌}
 use Prim.Native.Nat.{ℕ, ◌+◌, ◌≤◌, ◌<◌}
 use mathlib.Core.Path.{◌≡◌, refl, ap, ◌∙◌}
 use mathlib.Core.Logic.{⊎_elim, ◌≢◌}
@@ -10,7 +11,7 @@ use lib.Dec.{ltb}
 use lib.ListN.{length, take, get_or}
 use lib.Seq.{length-take-le, take_all, take-suc}
 use borrow.Author.Tests.{ltb-true, ltb-false, lt-ltb, le-ltb}
-use Rattle.rules.specs.Lists.{◌==◌, all, any, keep, chain}
+use Rattle.rules.specs.Lists.{all, any, keep, chain}
 use Rattle.rules.specs.Numbers.{devices}
 use Rattle.laws.specs.Words.{Held}
 use Rattle.laws.proofs.Tests.{same?, and_left, and_right}

@@ -1,6 +1,6 @@
 -- What the writer of dumps asks of a memory, and the held word of a device.
-use Rattle.std.specs.Prelude.{ℕ, ◌≡◌, true, List, [], ◌∷◌, ltb}
-use Rattle.rules.specs.Lists.{if◌then◌else◌, all, any, chain}
+use Rattle.std.specs.Prelude.{ℕ, ◌≡◌, true, List, [], ◌∷◌, ltb, if◌then◌else◌}
+use Rattle.rules.specs.Lists.{all, any, chain}
 use Rattle.rules.specs.Numbers.{devices}
 use Rattle.laws.specs.Words.{Held}
 use Rattle.rules.specs.Interrupt.{held_for}

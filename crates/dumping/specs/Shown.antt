@@ -1,6 +1,6 @@
 -- Which words are shown in a dump as they stand: those that would be written for what they say.
-use Rattle.std.specs.Prelude.{ℕ, Bool, ◌&&◌, ◌||◌, List, [], ◌∷◌, ◌++◌, ltb}
-use Rattle.rules.specs.Lists.{if◌then◌else◌, ◌==◌, two_bytes}
+use Rattle.std.specs.Prelude.{ℕ, Bool, ◌&&◌, ◌||◌, List, [], ◌∷◌, ◌++◌, ltb, if◌then◌else◌, ◌==◌}
+use Rattle.rules.specs.Lists.{two_bytes}
 use Rattle.rules.specs.Numbers.{nobody, service}
 use Rattle.rules.specs.Tags.{thread_tag, thread_size}
 use Rattle.rules.specs.Codes.{state_numbers, manager_code, parent_code}
@@ -13,15 +13,15 @@ state_value s = let n = state_numbers s in n.state ∷ n.detail ∷ []
 
 -- the words of a state and its detail
 unfoldable pub state_right : ℕ → ℕ → Bool
-state_right s d = if d == 0 then ltb s 6 else if s == 5 then ltb d 3 else (s == 2) || (s == 4)
+state_right s d = if d == 0 then ltb s 6 else (if s == 5 then ltb d 3 else (s == 2) || (s == 4))
 
 -- the words of an answer's kind, sender and word
 unfoldable pub answer_right : ℕ → ℕ → ℕ → Bool
-answer_right k n w = if (n == 0) && (w == 0) then ltb k 5 else if k == 3 then w == 0 else if k == 4 then n == 0 else (k == 1) || (k == 2)
+answer_right k n w = if (n == 0) && (w == 0) then ltb k 5 else (if k == 3 then w == 0 else (if k == 4 then n == 0 else (k == 1) || (k == 2)))
 
 -- "None is 0, 255, 0. .. kind 4 has sender 254."
 unfoldable pub sender_number : ℕ → ℕ → ℕ
-sender_number k n = if k == 0 then nobody else if k == 4 then service else byte n
+sender_number k n = if k == 0 then nobody else (if k == 4 then service else byte n)
 
 -- field 2 up to the managers
 unfoldable pub thread_front : Thread → List ℕ

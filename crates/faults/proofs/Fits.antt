@@ -1,4 +1,5 @@
 -- What the tests of ranges and lengths rest on.
+use Rattle.std.proofs.Common.{◌==◌}
 use Prim.Native.Nat.{ℕ, zero, suc, ◌-◌, ◌<◌}
 use mathlib.Core.Bool.{Bool, true, false, ◌&&◌, not, false≢true}
 use mathlib.Core.List.{List}
@@ -8,7 +9,7 @@ use lib.Dec.{ltb}
 use lib.ListN.{length, take, drop, length-drop}
 use lib.Seq.{take_all}
 use borrow.Author.Tests.{ne_eqb, lt-ltb, le-ltb, eqb-true}
-use Rattle.rules.specs.Lists.{◌==◌, any}
+use Rattle.rules.specs.Lists.{any}
 use Rattle.rules.specs.Numbers.{wrap}
 use Rattle.rules.specs.Tags.{before_value, dump_facts}
 use Rattle.rules.specs.Codes.{status_code, answer_numbers}

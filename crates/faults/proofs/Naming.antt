@@ -1,4 +1,5 @@
 -- The marks of live names: those of the fields before a place are there.
+use Rattle.std.proofs.Common.{◌==◌}
 use Prim.Native.Nat.{ℕ, zero, suc, ◌+◌, ◌≤◌, ◌<◌}
 use mathlib.Core.Bool.{Bool, true, false, ◌||◌}
 use mathlib.Core.List.{List, [], ◌∷◌, map}
@@ -8,7 +9,7 @@ use native.Mathlib.Omega.{arith}
 use lib.ListN.{length, drop, get_or, set, replicate, length-set, length-replicate, drop_of_length-le, length-drop}
 use lib.Seq.{get_or-set_same, get_or-set_other, get_or-take, get_or-drop}
 use borrow.Author.Tests.{eq-eqb, ne_eqb, eqb-true, eqb-false}
-use Rattle.rules.specs.Lists.{◌==◌, any, keep}
+use Rattle.rules.specs.Lists.{any, keep}
 use Rattle.rules.specs.Tables.{named, live}
 use Rattle.rules.specs.Tags.{before_value, thread_tag, dump_facts, dump_facts_in}
 use Rattle.rules.specs.Fields.{field_size, whole, complete}

@@ -1,4 +1,5 @@
 -- A pass: the fields before a place have no fault, and what was kept of them tells their tags.
+use Rattle.std.proofs.Common.{◌==◌}
 use Prim.Native.Nat.{ℕ, ◌+◌, ◌-◌, ◌≤◌, ◌<◌}
 use mathlib.Core.Bool.{Bool, true, false, ◌||◌, false≢true}
 use mathlib.Core.List.{List, [], ◌∷◌, map}
@@ -7,7 +8,7 @@ use native.Mathlib.Omega.{arith}
 use lib.ListN.{length, take, drop, get_or, length-drop, drop_of_length-le}
 use lib.Seq.{length-take-le, drop-drop, get_or-take, get_or-drop}
 use borrow.Author.Tests.{lt-ltb}
-use Rattle.rules.specs.Lists.{◌==◌, keep, any, has}
+use Rattle.rules.specs.Lists.{keep, any, has}
 use Rattle.rules.specs.Fields.{field_size, whole, complete, unread}
 use Rattle.rules.specs.Load.{Field, as_field, fields_of}
 use Rattle.rules.specs.Faults.{Placed, placed_from, placed, offsets, ends_badly}

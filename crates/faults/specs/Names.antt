@@ -1,6 +1,5 @@
 -- The marks of live names.
-use Rattle.std.specs.Prelude.{ℕ, Bool, List, ◌≡◌, length, get_or}
-use Rattle.rules.specs.Lists.{◌==◌}
+use Rattle.std.specs.Prelude.{ℕ, Bool, List, ◌≡◌, length, get_or, ◌==◌}
 use Rattle.rules.specs.Tables.{live}
 use Rattle.rules.specs.Load.{told}
 

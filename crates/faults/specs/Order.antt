@@ -1,6 +1,6 @@
 -- What the code keeps of the fields before one, and what it says by it.
-use Rattle.std.specs.Prelude.{ℕ, Bool, false, ◌&&◌, ◌||◌, not, List, ◌≡◌, ltb}
-use Rattle.rules.specs.Lists.{if◌then◌else◌, ◌==◌, has}
+use Rattle.std.specs.Prelude.{ℕ, Bool, false, ◌&&◌, ◌||◌, not, List, ◌≡◌, ltb, if◌then◌else◌, ◌==◌}
+use Rattle.rules.specs.Lists.{has}
 use Rattle.rules.specs.Tags.{head_tag, ready_tag, clock_tag, dump_facts}
 use Rattle.rules.specs.Faults.{place_before}
 use Rattle.faults.specs.declared.Before.{Before}
@@ -10,7 +10,7 @@ nothing_before = record { place = 0; head = false; ready = false; clock = false 
 
 -- of a tag that stands once
 unfoldable pub seen : Before → ℕ → Bool
-seen b tag = if tag == head_tag then b.head else if tag == ready_tag then b.ready else b.clock
+seen b tag = if tag == head_tag then b.head else (if tag == ready_tag then b.ready else b.clock)
 
 unfoldable pub misplaced_behind : Before → ℕ → Bool
 misplaced_behind b tag = let r = dump_facts tag in not r.known || ltb r.place b.place || (r.once && seen b tag)

@@ -1,6 +1,5 @@
 -- What a pass over the fields promises.
-use Rattle.std.specs.Prelude.{ℕ, Bool, true, false, List, [], ◌∷◌, ◌≡◌}
-use Rattle.rules.specs.Lists.{if◌then◌else◌, ◌==◌}
+use Rattle.std.specs.Prelude.{ℕ, Bool, true, false, List, [], ◌∷◌, ◌≡◌, if◌then◌else◌, ◌==◌}
 use Rattle.rules.specs.Load.{Field}
 use Rattle.rules.specs.Faults.{Placed, placed, offsets, wrong_length, ends_badly, misplaced, out_of_range, names_nobody}
 use Rattle.faults.specs.declared.Before.{Before}

@@ -1,10 +1,11 @@
 -- What is asked of a thread's place, of the runner, of a queue and of a manager, with what was read in place of what stands there.
+use Rattle.std.proofs.Common.{◌==◌}
 use Prim.Native.Nat.{ℕ, ◌<◌}
 use mathlib.Core.Path.{◌≡◌, ap, ap₂, ◌∙◌}
 use mathlib.Core.Bool.{Bool, true, ◌&&◌}
 use mathlib.Core.List.{List}
 use lib.ListN.{take, get_or}
-use Rattle.rules.specs.Lists.{◌==◌, one_if, all, any, times_in}
+use Rattle.rules.specs.Lists.{one_if, all, any, times_in}
 use Rattle.rules.specs.Words.{by_runner}
 use Rattle.rules.specs.Tables.{Tables, named, runs_as}
 use Rattle.rules.specs.States.{is_running, is_ready, on_clock}

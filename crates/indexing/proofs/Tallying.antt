@@ -1,4 +1,5 @@
 -- How often each name stands in a row, by one pass: the count of each so far and that of the rest are its count in all.
+use Rattle.std.proofs.Common.{◌==◌}
 use Prim.Native.Nat.{ℕ, ◌+◌, ◌≤◌, ◌<◌}
 use mathlib.Core.Path.{◌≡◌, refl, sym, subst, ap, ◌∙◌}
 use mathlib.Core.Bool.{Bool, true, false}
@@ -8,7 +9,7 @@ use lib.Dec.{eqb}
 use lib.ListN.{length, take, get_or, set, replicate, length-set, length-replicate, get_or-replicate}
 use lib.Seq.{get_or-set_same, get_or-set_other}
 use borrow.Author.Tests.{eqb-true, eqb-false}
-use Rattle.rules.specs.Lists.{◌==◌, times_in}
+use Rattle.rules.specs.Lists.{times_in}
 use Rattle.moving.proofs.Loops.{Counted, count_starts, count_more, count_skips, count_ends}
 
 module _ (n : ℕ) (r : List ℕ) where

@@ -1,4 +1,5 @@
 -- The words of a memory are below the wrap by their type, and so are the counts and words that it shows.
+use Rattle.std.proofs.Common.{◌==◌}
 use Prim.Native.Nat.{ℕ, zero, suc, ◌+◌, ◌<◌}
 use mathlib.Core.Path.{◌≡◌, refl, ap, ap₂, ◌∙◌}
 use mathlib.Core.Bool.{Bool, true, ◌&&◌}
@@ -7,7 +8,7 @@ use native.Mathlib.Omega.{arith}
 use lib.Dec.{ltb}
 use lib.ListN.{take}
 use borrow.Author.Tests.{lt-ltb}
-use Rattle.rules.specs.Lists.{◌==◌, all, each, from_on}
+use Rattle.rules.specs.Lists.{all, each, from_on}
 use Rattle.rules.specs.Numbers.{names, beat_ticks, devices, wrap}
 use Rattle.rules.specs.TableRules.{state_in_range, ranges}
 use Rattle.laws.specs.Words.{Thread, Message, Held}

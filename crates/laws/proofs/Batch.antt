@@ -1,5 +1,6 @@
 -- A batch of events in one call: how the bytes are cut into complete fields and the unread end, when a batch is refused, that it equals
 -- single calls in order, and that two batches in a row equal one.
+use Rattle.std.proofs.Common.{◌==◌}
 use Prim.Native.Nat.{ℕ, zero, suc, ◌+◌, ◌*◌, ◌-◌, ◌≤◌, ◌<◌}
 use mathlib.Core.Path.{◌≡◌, refl, sym, ap, ap₂, ◌∙◌, subst}
 use mathlib.Core.Bool.{Bool, true, false, false≢true}
@@ -10,7 +11,7 @@ use lib.Dec.{ltb}
 use lib.ListN.{length, take, drop, length-append, length-drop, take-append-drop}
 use lib.Seq.{take-append-le, drop-append-le, length-take-le, take-append_seam, drop-append_seam}
 use borrow.Author.Tests.{leb-true, le-leb, lt-ltb, le-ltb, ltb-true, ltb-false, eq-eqb, eqb-true}
-use Rattle.rules.specs.Lists.{◌==◌, all, each}
+use Rattle.rules.specs.Lists.{all, each}
 use Rattle.rules.specs.Numbers.{Limits, decision_numbers}
 use Rattle.rules.specs.Tables.{Tables}
 use Rattle.rules.specs.Step.{step}

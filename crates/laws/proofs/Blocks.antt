@@ -1,4 +1,5 @@
 -- Blocks: the ordinary messages queued are those received from inboxes, those discarded and those in inboxes now, and the blocks suffice.
+use Rattle.std.proofs.Common.{if◌then◌else◌, ◌==◌}
 use Prim.Native.Nat.{ℕ, zero, suc, ◌+◌, ◌≤◌}
 use mathlib.Core.Path.{◌≡◌, refl, ap, ◌∙◌}
 use mathlib.Core.Logic.{◌↔◌}
@@ -8,7 +9,7 @@ use mathlib.Core.List.{List, [], ◌∷◌}
 use native.Mathlib.Omega.{arith}
 use lib.Dec.{leb}
 use borrow.Author.Tests.{ne_eqb, leb-true, leb-false, le-leb}
-use Rattle.rules.specs.Lists.{if◌then◌else◌, ◌==◌, one_if, any, has, count, Pulled, missing, pulled, pull}
+use Rattle.rules.specs.Lists.{one_if, any, has, count, Pulled, missing, pulled, pull}
 use Rattle.rules.specs.Numbers.{Limits, beat_ticks}
 use Rattle.rules.specs.Words.{by_manager}
 use Rattle.rules.specs.Tables.{Tables, change, me, start}

@@ -1,4 +1,5 @@
 -- What an event other than a tick does to the runner, the ready queue and the time; and the rank of a ready thread from event to event.
+use Rattle.std.proofs.Common.{◌==◌}
 use Prim.Native.Nat.{ℕ, zero, suc, ◌+◌, ◌-◌, ◌*◌, ◌≤◌}
 use mathlib.Core.Path.{◌≡◌, refl, sym, ap, ◌∙◌}
 use mathlib.Core.Logic.{⊎_elim}
@@ -6,7 +7,7 @@ use mathlib.Core.Bool.{Bool, true, false, not, false≢true, true≢false}
 use mathlib.Core.List.{List, [], ◌∷◌}
 use native.Mathlib.Omega.{arith}
 use borrow.Author.Tests.{eqb-true}
-use Rattle.rules.specs.Lists.{◌==◌, Pulled, missing, pulled, any, has}
+use Rattle.rules.specs.Lists.{Pulled, missing, pulled, any, has}
 use Rattle.rules.specs.Numbers.{full_slice, beat_ticks}
 use Rattle.rules.specs.Words.{by_manager, by_runner}
 use Rattle.rules.specs.Tables.{Tables, in_state, named, live, of_thread, change, manager, runs_as, me}

@@ -1,4 +1,5 @@
 -- The ended set is the smallest one: it holds the named thread, holds the dependants of its members, and lies in every set that does.
+use Rattle.std.proofs.Common.{◌==◌}
 use Prim.Native.Nat.{ℕ, zero, suc, ◌+◌, ◌≤◌}
 use mathlib.Core.Path.{◌≡◌, refl, ap, ◌∙◌}
 use mathlib.Core.Logic.{◌⊎◌, inl, inr, ⊎_elim}
@@ -7,7 +8,7 @@ use mathlib.Core.List.{List, [], ◌∷◌, ◌++◌, map, append-nil, Memᴰ}
 use native.Mathlib.Omega.{arith}
 use lib.ListN.{length}
 use borrow.Author.Tests.{eqb-true, eq-eqb}
-use Rattle.rules.specs.Lists.{◌==◌, one_if, any, count, times, has}
+use Rattle.rules.specs.Lists.{one_if, any, count, times, has}
 use Rattle.rules.specs.Words.{by_parent}
 use Rattle.rules.specs.Tables.{named}
 use Rattle.rules.specs.States.{awaits}

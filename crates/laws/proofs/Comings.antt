@@ -1,12 +1,13 @@
 -- Who comes: an accepted request 1 or 2 brings one thread, of the next name, which is then the name given last. Every other event brings
 -- nobody and leaves the name given last, also when that thread ends.
+use Rattle.std.proofs.Common.{◌==◌}
 use Prim.Native.Nat.{ℕ, zero, suc, ◌+◌}
 use mathlib.Core.Path.{◌≡◌, refl, sym, ap, ◌∙◌}
 use mathlib.Core.Logic.{◌⊎◌, inl, inr, ⊎_elim}
 use mathlib.Core.Bool.{Bool, true, false, true≢false, false≢true}
 use mathlib.Core.List.{List, Memᴰ}
 use lib.Dec.{ltb}
-use Rattle.rules.specs.Lists.{◌==◌, any, Pulled, missing, pulled, pull}
+use Rattle.rules.specs.Lists.{any, Pulled, missing, pulled, pull}
 use Rattle.rules.specs.Numbers.{beat_ticks}
 use Rattle.rules.specs.Words.{by_manager}
 use Rattle.rules.specs.Tables.{Tables, in_state, with_managers, with_ticks, named, live, of_thread, change, manager, set_entry, new_thread}

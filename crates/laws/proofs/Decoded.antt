@@ -1,4 +1,5 @@
 -- What an event decoded from bytes has: its words and devices in their ranges.
+use Rattle.std.proofs.Common.{◌==◌}
 use Prim.Native.Nat.{ℕ, ◌+◌, ◌*◌, ◌<◌}
 use mathlib.Core.Path.{◌≡◌, refl, ap, ◌∙◌}
 use mathlib.Core.Bool.{true, ◌&&◌}
@@ -7,7 +8,7 @@ use native.Mathlib.Omega.{arith}
 use lib.Dec.{ltb}
 use lib.ListN.{length, take, drop, get_or, length-drop}
 use borrow.Author.Tests.{eqb-true, ltb-true}
-use Rattle.rules.specs.Lists.{◌==◌, all, is_byte, number}
+use Rattle.rules.specs.Lists.{all, is_byte, number}
 use Rattle.rules.specs.Numbers.{devices, wrap}
 use Rattle.rules.specs.Tags.{facts_in, tag_facts, rule_in, argument_rule, meets}
 use Rattle.rules.specs.Pick.{pick}

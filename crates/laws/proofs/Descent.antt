@@ -1,4 +1,5 @@
 -- The rule of parents as a test and as a type: going up ends in time exactly if every name has a depth.
+use Rattle.std.proofs.Common.{if◌then◌else◌, ◌==◌}
 use Prim.Native.Nat.{ℕ, zero, suc, ◌+◌, ◌≤◌, ◌<◌}
 use mathlib.Core.Path.{◌≡◌, refl, ap, ◌∙◌}
 use mathlib.Core.Logic.{⊎_elim, ◌≢◌, ◌↔◌}
@@ -8,7 +9,7 @@ use native.Mathlib.Omega.{arith}
 use lib.Dec.{ltb}
 use lib.ListN.{length}
 use borrow.Author.Tests.{eqb-true, eqb-false, eq-eqb, ne_eqb, ltb-true, lt-ltb, le-ltb}
-use Rattle.rules.specs.Lists.{if◌then◌else◌, ◌==◌, one_if, any, count}
+use Rattle.rules.specs.Lists.{one_if, any, count}
 use Rattle.rules.specs.Tables.{Tables, named}
 use Rattle.rules.specs.TableRules.{has_parent, climbs, parents_right}
 use Rattle.laws.specs.Words.{Parent, NoParent, ParentIs, Thread}

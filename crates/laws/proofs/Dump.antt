@@ -1,4 +1,5 @@
 -- The dump and its reader: every value comes back, cutting gives the fields, and so reading a dump gives the tables that were written.
+use Rattle.std.proofs.Common.{if◌then◌else◌, ◌==◌}
 use Prim.Native.Nat.{ℕ, ◌<◌}
 use mathlib.Core.Path.{◌≡◌, refl, sym, ap, ap₂, ◌∙◌}
 use mathlib.Core.Logic.{⊎_elim, ◌≢◌, ◌↔◌}
@@ -8,7 +9,7 @@ use native.Mathlib.Omega.{arith}
 use lib.Dec.{ltb}
 use lib.ListN.{length}
 use borrow.Author.Tests.{ne_eqb, eq-eqb, le-leb, ltb-true, lt-ltb}
-use Rattle.rules.specs.Lists.{if◌then◌else◌, ◌==◌, all, any, keep, each, times_in, same, is_byte, number, two_bytes, four_bytes}
+use Rattle.rules.specs.Lists.{all, any, keep, each, times_in, same, is_byte, number, two_bytes, four_bytes}
 use Rattle.rules.specs.Numbers.{Limits, names, service, nobody, devices, wrap}
 use Rattle.rules.specs.Words.{by_state, by_wanted, by_manager, by_parent, by_runner}
 use Rattle.rules.specs.Tables.{Tables, named, manager, me}

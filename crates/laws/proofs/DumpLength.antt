@@ -1,4 +1,5 @@
 -- How long a dump can be: the lengths of queues, messages and held words, and from them the length of the dump.
+use Rattle.std.proofs.Common.{◌==◌}
 use Prim.Native.Nat.{ℕ, ◌+◌, ◌*◌, ◌≤◌}
 use mathlib.Core.Path.{◌≡◌, refl, ap, ◌∙◌}
 use mathlib.Core.Logic.{⊎_elim}
@@ -7,7 +8,7 @@ use mathlib.Core.List.{List, ◌++◌, map}
 use native.Mathlib.Omega.{arith}
 use lib.ListN.{length, length-append, length-map}
 use borrow.Author.Tests.{eqb-true}
-use Rattle.rules.specs.Lists.{◌==◌, keep, count, times_in}
+use Rattle.rules.specs.Lists.{keep, count, times_in}
 use Rattle.rules.specs.Numbers.{Limits, small, names, devices}
 use Rattle.rules.specs.Tables.{Tables, named}
 use Rattle.rules.specs.Waking.{is_ordinary, notice_of}

@@ -1,4 +1,5 @@
 -- What an ending leaves: nothing names a member of the ended set any more, and who is no member is as before.
+use Rattle.std.proofs.Common.{if◌then◌else◌}
 use Prim.Native.Nat.{ℕ}
 use mathlib.Core.Path.{◌≡◌, refl, sym, ap, ◌∙◌, subst}
 use mathlib.Core.Logic.{⊎_elim}
@@ -6,7 +7,7 @@ use mathlib.Core.Bool.{Bool, true, false, ◌||◌, not, false≢true}
 use mathlib.Core.List.Memᴰ
 use mathlib.Core.List.{List, map, Memᴰ}
 use native.Mathlib.Omega.{arith}
-use Rattle.rules.specs.Lists.{if◌then◌else◌, keep, has}
+use Rattle.rules.specs.Lists.{keep, has}
 use Rattle.rules.specs.Words.{by_parent, by_runner}
 use Rattle.rules.specs.Tables.{Tables, in_state, manager}
 use Rattle.rules.specs.States.{awaits}

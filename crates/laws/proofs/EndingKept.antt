@@ -1,4 +1,5 @@
 -- Ending keeps the rules of families, managers, messages and notices; and thread 0 lives as long as any thread does.
+use Rattle.std.proofs.Common.{◌==◌}
 use Prim.Native.Nat.{ℕ, zero, suc, ◌≤◌, ◌<◌}
 use mathlib.Core.Path.{◌≡◌, refl, sym, ap, ◌∙◌, subst}
 use mathlib.Core.Logic.{⊎_elim, ◌≢◌}
@@ -6,7 +7,7 @@ use mathlib.Core.Bool.{true, false, ◌||◌, not, true≢false, false≢true}
 use mathlib.Core.List.{List, map, Memᴰ}
 use native.Mathlib.Omega.{arith}
 use borrow.Author.Tests.{eqb-true, eq-eqb, lt-ltb}
-use Rattle.rules.specs.Lists.{◌==◌, any, count, has}
+use Rattle.rules.specs.Lists.{any, count, has}
 use Rattle.rules.specs.Numbers.{Limits, names}
 use Rattle.rules.specs.Words.{by_manager}
 use Rattle.rules.specs.Tables.{Tables, named, live, manager}

@@ -1,5 +1,6 @@
 -- Manager entries: an entry that named an ended thread is gone, not unset. Otherwise an entry changes only by its thread's own request
 -- 4, 5 or 6, which sets one that is unset.
+use Rattle.std.proofs.Common.{if◌then◌else◌, ◌==◌}
 use Prim.Native.Nat.{ℕ, zero, suc, ◌+◌, ◌<◌}
 use mathlib.Core.Path.{◌≡◌, refl, sym, ap, ap₂, ◌∙◌, subst}
 use mathlib.Core.Logic.{◌⊎◌, inl, inr, ⊎_elim, ◌≢◌}
@@ -8,7 +9,7 @@ use mathlib.Core.List.{List, [], ◌∷◌, map, Memᴰ}
 use native.Mathlib.Omega.{arith}
 use lib.Dec.{ltb}
 use borrow.Author.Tests.{eqb-true, ne_eqb}
-use Rattle.rules.specs.Lists.{if◌then◌else◌, ◌==◌, any, has, keep, insert, Pulled, missing, pulled, pull}
+use Rattle.rules.specs.Lists.{any, has, keep, insert, Pulled, missing, pulled, pull}
 use Rattle.rules.specs.Numbers.{Limits, names, full_slice, beat_ticks}
 use Rattle.rules.specs.Words.{by_manager}
 use Rattle.rules.specs.Tables.{Tables, with_runner, with_ready, in_state, with_ticks, named, live, of_thread, change, manager, new_thread}

@@ -1,4 +1,5 @@
 -- A dump has no fault: none of the four lists of faults of Faults.antt has an offset for the dump of tables that meet the rules.
+use Rattle.std.proofs.Common.{◌==◌}
 use Prim.Native.Nat.{ℕ, ◌≤◌, ◌<◌}
 use mathlib.Core.Path.{◌≡◌, refl, sym, ap, ◌∙◌, subst}
 use mathlib.Core.Logic.{⊎_elim}
@@ -9,7 +10,7 @@ use native.Mathlib.Omega.{arith}
 use lib.Dec.{leb, ltb}
 use lib.ListN.{length}
 use borrow.Author.Tests.{eq-eqb, le-leb, lt-ltb, ltb-true}
-use Rattle.rules.specs.Lists.{◌==◌, all, any, has, times_in, number, four_bytes}
+use Rattle.rules.specs.Lists.{all, any, has, times_in, number, four_bytes}
 use Rattle.rules.specs.Numbers.{Limits, names, full_slice, beat_ticks, devices, wrap}
 use Rattle.rules.specs.Words.{by_state, by_wanted, by_parent, by_runner}
 use Rattle.rules.specs.Tables.{Tables, live, manager, me}

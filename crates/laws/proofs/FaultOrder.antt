@@ -1,11 +1,12 @@
 -- The fields of a dump stand in order: every tag is known, none ranks below the one before it, and those that stand once stand once.
+use Rattle.std.proofs.Common.{◌==◌}
 use Prim.Native.Nat.{ℕ, zero, suc, ◌≤◌, ◌<◌}
 use mathlib.Core.Path.{◌≡◌, refl, sym, ap, ◌∙◌, subst}
 use mathlib.Core.Bool.{true, false, ◌&&◌}
 use mathlib.Core.List.{List, [], ◌∷◌, ◌++◌, map, append_assoc, append-nil, Memᴰ}
 use native.Mathlib.Omega.{arith}
 use borrow.Author.Tests.{ne_eqb, le-ltb}
-use Rattle.rules.specs.Lists.{◌==◌, has}
+use Rattle.rules.specs.Lists.{has}
 use Rattle.rules.specs.Numbers.{Limits}
 use Rattle.rules.specs.Tables.{Tables}
 use Rattle.rules.specs.Tags.{dump_facts_in, dump_facts}

@@ -1,5 +1,6 @@
 -- What bytes tell that have no fault of a number: with none of 15 and 17 every value is in its range, with none of 15 and 18 every name
 -- lives where document 01 asks for a live one. So 18 is given for no range, and 19 for other rules only.
+use Rattle.std.proofs.Common.{◌==◌}
 use Prim.Native.Nat.{ℕ, zero, suc, ◌<◌, ◌+◌}
 use mathlib.Core.Path.{◌≡◌, refl, sym, ap, ap₂, ◌∙◌, subst}
 use mathlib.Core.Bool.{Bool, true, false, ◌&&◌, not}
@@ -9,7 +10,7 @@ use native.Mathlib.Omega.{arith}
 use lib.Dec.{leb, ltb}
 use lib.ListN.{length, take, drop, length-take, get_or-append}
 use borrow.Author.Tests.{eqb-true, eq-eqb, lt-ltb}
-use Rattle.rules.specs.Lists.{◌==◌, all, keep, each, is_byte}
+use Rattle.rules.specs.Lists.{all, keep, each, is_byte}
 use Rattle.rules.specs.Numbers.{Limits, names, full_slice, beat_ticks, devices, wrap}
 use Rattle.rules.specs.Words.{by_state, by_wanted, by_manager, by_parent, by_runner}
 use Rattle.rules.specs.Tables.{live}

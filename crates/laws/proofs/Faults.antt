@@ -1,6 +1,7 @@
 -- Where bytes are bad (document 02, CR 4). Reading accepts exactly the dumps of tables that meet the rules. Other bytes are refused with
 -- 15 to 19: each exactly if its list of faults is the first that has one, at the earliest of them. The offset is that of a complete
 -- field, or the length.
+use Rattle.std.proofs.Common.{if◌then◌else◌}
 use Prim.Native.Nat.{ℕ, ◌≤◌, ◌<◌}
 use mathlib.Core.Path.{◌≡◌, refl, sym, ◌∙◌, subst}
 use mathlib.Core.Logic.{◌↔◌, ◌≢◌, ◌⊎◌, ⊎_elim}
@@ -11,7 +12,7 @@ use native.Mathlib.Omega.{arith}
 use lib.Dec.{ltb}
 use lib.ListN.{length, take}
 use borrow.Author.Tests.{ltb-false}
-use Rattle.rules.specs.Lists.{if◌then◌else◌, any, has}
+use Rattle.rules.specs.Lists.{any, has}
 use Rattle.rules.specs.Numbers.{Limits}
 use Rattle.rules.specs.Tables.{Tables}
 use Rattle.rules.specs.Fields.{field_size, whole, complete, unread}

@@ -1,4 +1,5 @@
 -- When bytes are malformed, in words beside `decode`: exactly if one of a list of plain flaws is there.
+use Rattle.std.proofs.Common.{if◌then◌else◌, ◌==◌}
 use Prim.Native.Nat.{ℕ, zero, suc, ◌+◌, ◌*◌, ◌≤◌, ◌<◌}
 use mathlib.Core.Path.{◌≡◌, refl, sym, ap, ◌∙◌}
 use mathlib.Core.Logic.{◌⊎◌, inl, inr, ⊎_elim, ◌≢◌, ◌↔◌}
@@ -8,7 +9,7 @@ use native.Mathlib.Omega.{arith}
 use lib.Dec.{ltb}
 use lib.ListN.{length, take, drop, get_or}
 use borrow.Author.Tests.{ltb-true, ltb-false, le-ltb, eqb-true, eqb-false, eq-eqb, ne_eqb}
-use Rattle.rules.specs.Lists.{if◌then◌else◌, ◌==◌, all, any, is_byte, from_on, number_from, number}
+use Rattle.rules.specs.Lists.{all, any, is_byte, from_on, number_from, number}
 use Rattle.rules.specs.Tags.{facts_in, tag_facts, Service, services, rule_in, argument_rule, meets}
 use Rattle.rules.specs.Pick.{pending, pick_order, first_pending, pick, no_pick}
 use Rattle.rules.specs.Events.{asked_in, request, trap_of, interrupt_of, meaning, field_of, decode}

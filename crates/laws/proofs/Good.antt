@@ -1,4 +1,5 @@
 -- Every step keeps the rules of families, managers, wanted names, devices, answers, messages and notices.
+use Rattle.std.proofs.Common.{if◌then◌else◌, ◌==◌}
 use Prim.Native.Nat.{ℕ, zero, suc, ◌+◌, ◌≤◌, ◌<◌}
 use mathlib.Core.Path.{◌≡◌, refl, sym, ap, ◌∙◌}
 use mathlib.Core.Logic.{inl, inr, ⊎_elim, ◌≢◌, ◌⊎◌}
@@ -8,7 +9,7 @@ use native.Mathlib.Omega.{arith}
 use native.Mathlib.Nat.{mod-lt}
 use lib.Dec.{leb, ltb}
 use borrow.Author.Tests.{eqb-true, eqb-false, eq-eqb, ne_eqb, leb-false, lt-ltb}
-use Rattle.rules.specs.Lists.{if◌then◌else◌, ◌==◌, one_if, Pulled, missing, pulled, any, keep, count, pull, insert, times_in}
+use Rattle.rules.specs.Lists.{one_if, Pulled, missing, pulled, any, keep, count, pull, insert, times_in}
 use Rattle.rules.specs.Numbers.{Limits, names, beat_ticks, devices, wrap}
 use Rattle.rules.specs.Words.{by_wanted, by_manager}
 use Rattle.rules.specs.Tables.{Tables, in_state, with_managers, with_ticks, named, live, of_thread, change, manager, set_entry, new_thread}

@@ -1,6 +1,7 @@
 -- Whatever is handed over has its cause, kind by kind: a message or notice was sent to this thread in its present life, "sender
 -- gone" was told to one that waited for the ended, and a result is that of this thread's own request in its present life.
 -- A rule that gives a newcomer a word which was meant for an ended thread is refused here: the newcomer has asked for nothing.
+use Rattle.std.proofs.Common.{if◌then◌else◌, ◌==◌}
 use Prim.Native.Nat.{ℕ, zero, suc, ◌+◌, ◌≤◌, ◌<◌}
 use mathlib.Core.Path.{◌≡◌, refl, sym, ap, ◌∙◌, subst}
 use mathlib.Core.Logic.{◌⊎◌, inl, inr, ⊎_elim}
@@ -9,7 +10,7 @@ use mathlib.Core.List.{List, [], ◌∷◌, ◌++◌, map, append-nil, append_as
 use native.Mathlib.Omega.{arith}
 use lib.Dec.{ltb}
 use borrow.Author.Tests.{eqb-true, eq-eqb}
-use Rattle.rules.specs.Lists.{if◌then◌else◌, ◌==◌, one_if, any, count, Pulled, missing, pulled, pull}
+use Rattle.rules.specs.Lists.{one_if, any, count, Pulled, missing, pulled, pull}
 use Rattle.rules.specs.Numbers.{Limits, names, full_slice, beat_ticks}
 use Rattle.rules.specs.Words.{by_manager, by_runner}
 use Rattle.rules.specs.Tables.{Tables, with_time, with_clock, with_messages, in_state, with_ticks, with_managers, named, live, of_thread}

@@ -1,11 +1,12 @@
 -- The four statuses, each exactly when document 01 says; above all idle and panicked.
+use Rattle.std.proofs.Common.{if◌then◌else◌}
 use Prim.Native.Nat.{ℕ, zero, suc, ◌<◌}
 use mathlib.Core.Path.{◌≡◌, refl, sym, ap, ◌∙◌}
 use mathlib.Core.Logic.{◌↔◌}
 use mathlib.Core.Bool.{Bool, true, false, ◌||◌, false≢true}
 use mathlib.Core.List.{List, [], ◌∷◌, map, Memᴰ}
 use native.Mathlib.Omega.{arith}
-use Rattle.rules.specs.Lists.{if◌then◌else◌, one_if, all, any, times_in}
+use Rattle.rules.specs.Lists.{one_if, all, any, times_in}
 use Rattle.rules.specs.Numbers.{Limits, devices}
 use Rattle.rules.specs.Words.{by_runner}
 use Rattle.rules.specs.Tables.{Tables, named, runs, runs_as}

@@ -1,5 +1,6 @@
 -- Inboxes are first in, first out: what joins one joins its end, and a receive takes the oldest that is wanted and leaves the others
 -- in their order. Nothing else changes an inbox, but endings and decisions, which discard.
+use Rattle.std.proofs.Common.{if◌then◌else◌, ◌==◌}
 use Prim.Native.Nat.{ℕ, zero, suc, ◌<◌}
 use mathlib.Core.Path.{◌≡◌, refl, sym, ap, ◌∙◌, subst}
 use mathlib.Core.Logic.{◌⊎◌, inl, inr, ⊎_elim, ◌≢◌}
@@ -8,7 +9,7 @@ use mathlib.Core.List.{List, [], ◌∷◌, ◌++◌, append-nil, append_assoc, 
 use native.Mathlib.Omega.{arith}
 use lib.Dec.{leb}
 use borrow.Author.Tests.{eqb-true, eq-eqb, ne_eqb, leb-true, leb-false, le-leb}
-use Rattle.rules.specs.Lists.{if◌then◌else◌, ◌==◌, any, has, keep, behind, insert, chain, Pulled, missing, pulled, pull}
+use Rattle.rules.specs.Lists.{any, has, keep, behind, insert, chain, Pulled, missing, pulled, pull}
 use Rattle.rules.specs.Numbers.{Limits, names}
 use Rattle.rules.specs.Words.{by_manager, by_runner}
 use Rattle.rules.specs.Tables.{Tables, in_state, named, of_thread, change, manager, me}

@@ -1,4 +1,5 @@
 -- The table rules hold at the start, and every step keeps them: so they hold in every run.
+use Rattle.std.proofs.Common.{◌==◌}
 use Prim.Native.Nat.{ℕ, ◌≤◌, ◌<◌}
 use mathlib.Core.Path.{◌≡◌, refl, ap}
 use mathlib.Core.Logic.{◌⊎◌, inl, inr}
@@ -6,7 +7,7 @@ use mathlib.Core.Bool.{true, false, false≢true}
 use mathlib.Core.List.{List, [], ◌∷◌, Memᴰ}
 use native.Mathlib.Omega.{arith}
 use borrow.Author.Tests.{eqb-true}
-use Rattle.rules.specs.Lists.{◌==◌, any, count, chain}
+use Rattle.rules.specs.Lists.{any, count, chain}
 use Rattle.rules.specs.Numbers.{Limits, names, full_slice}
 use Rattle.rules.specs.Tables.{Tables, new_thread, runs_as, start}
 use Rattle.rules.specs.States.{is_running, is_ready, on_clock, at_device}

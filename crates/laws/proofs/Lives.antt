@@ -1,12 +1,12 @@
 -- The count of a thread in its present life: what GETCPUTIME hands over is the number of ticks accepted while the requester ran, since
 -- it was made, modulo 2^32.
+use Rattle.std.proofs.Common.{if◌then◌else◌, ◌==◌}
 use Prim.Native.Nat.{ℕ, ◌+◌, ◌%◌, ◌≤◌, ◌<◌}
 use mathlib.Core.Path.{◌≡◌, refl, sym, ap, ◌∙◌}
 use mathlib.Core.Logic.{⊎_elim}
 use mathlib.Core.Bool.{Bool, true, false}
 use mathlib.Core.List.{List, [], ◌∷◌, Memᴰ}
 use native.Mathlib.Omega.{arith}
-use Rattle.rules.specs.Lists.{if◌then◌else◌, ◌==◌}
 use Rattle.rules.specs.Numbers.{Limits, names, wrap}
 use Rattle.rules.specs.Tables.{Tables, in_state, named, live, of_thread, change, start}
 use Rattle.rules.specs.Requests.{create}

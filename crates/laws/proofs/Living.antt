@@ -1,6 +1,7 @@
 -- Nothing names an ended thread: whoever a message, a wait, a parent, a manager entry or the runner names is live. The answers already
 -- due are the exception: "An answer already due to a thread stays, even if its sender has ended." The name given last is no such place:
 -- it only says where names go on. And a newcomer is not named yet.
+use Rattle.std.proofs.Common.{◌==◌}
 use Prim.Native.Nat.{ℕ, ◌≤◌, ◌<◌}
 use mathlib.Core.Path.{◌≡◌, refl, sym, ap, ◌∙◌, subst}
 use mathlib.Core.Logic.{⊎_elim, ◌≢◌}
@@ -8,7 +9,7 @@ use mathlib.Core.Bool.{true, false, false≢true}
 use mathlib.Core.List.{List, [], ◌∷◌, Memᴰ}
 use native.Mathlib.Omega.{arith}
 use borrow.Author.Tests.{eq-eqb}
-use Rattle.rules.specs.Lists.{◌==◌, one_if, any, has, count, times_in}
+use Rattle.rules.specs.Lists.{one_if, any, has, count, times_in}
 use Rattle.rules.specs.Numbers.{Limits, names}
 use Rattle.rules.specs.Tables.{Tables, named, live, manager}
 use Rattle.rules.specs.Words.{by_manager}

@@ -1,4 +1,5 @@
 -- Members of lists that were kept, put into or mapped; which numbers a list has; and the end of a list.
+use Rattle.std.proofs.Common.{if◌then◌else◌, ◌==◌}
 use Prim.Native.Nat.{ℕ, zero, suc, ◌+◌, ◌≤◌, ◌<◌}
 use mathlib.Core.Path.{◌≡◌, refl, sym, ap, ap₂, ◌∙◌}
 use mathlib.Core.Logic.{◌⊎◌, inl, inr, ⊎_elim}
@@ -6,7 +7,7 @@ use mathlib.Core.Bool.{Bool, true, false, false≢true}
 use mathlib.Core.List.{List, [], ◌∷◌, ◌++◌, map, Memᴰ}
 use native.Mathlib.Omega.{arith}
 use borrow.Author.Tests.{eqb-true, eq-eqb}
-use Rattle.rules.specs.Lists.{if◌then◌else◌, ◌==◌, any, keep, insert, has, times_in, from_on, same}
+use Rattle.rules.specs.Lists.{any, keep, insert, has, times_in, from_on, same}
 use Rattle.laws.proofs.Tests.{by_if, same?, and_left, and_right, ◌&◌, or_cases, or_left, or_right}
 use Rattle.laws.proofs.Tally.{any_count, count_any, any_append, any_member, member_any}
 

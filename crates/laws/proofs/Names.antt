@@ -1,4 +1,5 @@
 -- The name given to a new thread: the first successor, modulo 254, of the name given last that no live thread has.
+use Rattle.std.proofs.Common.{◌==◌}
 use Prim.Native.Nat.{ℕ, zero, suc, ◌+◌, ◌%◌, ◌≤◌, ◌<◌}
 use mathlib.Core.Path.{◌≡◌, refl, sym, ◌∙◌}
 use mathlib.Core.Logic.{◌≢◌}
@@ -8,7 +9,7 @@ use native.Mathlib.Omega.{arith}
 use native.Mathlib.Nat.{mod-lt}
 use lib.ListN.{length}
 use borrow.Author.Tests.{eqb-true, ne_eqb}
-use Rattle.rules.specs.Lists.{◌==◌, any, keep}
+use Rattle.rules.specs.Lists.{any, keep}
 use Rattle.rules.specs.Numbers.{Limits, names}
 use Rattle.rules.specs.Tables.{Tables, with_threads, named, live}
 use Rattle.rules.specs.Requests.{free_name, next_name}

@@ -1,4 +1,5 @@
 -- The next name by a walk over the threads, which stand by rising name: where the walk stops, and how it comes round behind 253.
+use Rattle.std.proofs.Common.{if◌then◌else◌}
 use Prim.Native.Nat.{ℕ, zero, suc, ◌+◌, ◌-◌, ◌%◌, ◌≤◌, ◌<◌}
 use mathlib.Core.Path.{◌≡◌, refl, sym, ap, ◌∙◌}
 use mathlib.Core.Logic.{⊎_elim, ◌≢◌}
@@ -11,7 +12,7 @@ use lib.Dec.{ltb}
 use lib.ListN.{length, drop, get_or, drop_of_length-le}
 use lib.Seq.{drop-cons}
 use borrow.Author.Tests.{eq-eqb, ne_eqb, ltb-true, ltb-false}
-use Rattle.rules.specs.Lists.{if◌then◌else◌, any, chain}
+use Rattle.rules.specs.Lists.{any, chain}
 use Rattle.rules.specs.Numbers.{names}
 use Rattle.rules.specs.Tables.{Tables, named, live}
 use Rattle.rules.specs.Requests.{free_name, next_name}

@@ -1,5 +1,6 @@
 -- The fields of some bytes at their places: which are listed, at which offsets and with which tags before them. And the offsets of those
 -- that have a fault: which they are, and that they rise.
+use Rattle.std.proofs.Common.{if◌then◌else◌}
 use Prim.Native.Nat.{ℕ, ◌+◌, ◌≤◌, ◌<◌}
 use mathlib.Core.Path.{◌≡◌, refl, sym, ap, ◌∙◌, subst}
 use mathlib.Core.Logic.{◌↔◌, ⊎_elim}
@@ -9,7 +10,7 @@ use mathlib.Core.List.{List, [], ◌∷◌, ◌++◌, map, Memᴰ}
 use native.Mathlib.Omega.{arith}
 use lib.ListN.{length, take, drop, length-drop}
 use lib.Seq.{drop-drop, length-take-le}
-use Rattle.rules.specs.Lists.{if◌then◌else◌, keep}
+use Rattle.rules.specs.Lists.{keep}
 use Rattle.rules.specs.Fields.{field_size, whole, complete}
 use Rattle.rules.specs.Load.{as_field}
 use Rattle.rules.specs.Faults.{Placed, placed_from, placed, offsets}

@@ -2,6 +2,7 @@
 -- there still. This holds over any run, with endings and decisions in it.
 -- Equal messages cannot be told apart, so they are counted: for every test on messages.
 -- What joins, is handed over and is discarded is read off the event, the decision and the tables before it, not off what the tables lose.
+use Rattle.std.proofs.Common.{if◌then◌else◌, ◌==◌}
 use Prim.Native.Nat.{ℕ, zero, suc, ◌+◌, ◌≤◌, ◌<◌}
 use mathlib.Core.Path.{◌≡◌, refl, sym, ap, ◌∙◌, subst}
 use mathlib.Core.Logic.{◌≢◌, ⊎_elim}
@@ -10,7 +11,7 @@ use mathlib.Core.List.{List, [], ◌∷◌, map}
 use native.Mathlib.Omega.{arith}
 use lib.Dec.{leb}
 use borrow.Author.Tests.{eqb-true, eq-eqb, ne_eqb}
-use Rattle.rules.specs.Lists.{if◌then◌else◌, ◌==◌, one_if, any, has, keep, count, times_in, Pulled, missing, pulled, pull}
+use Rattle.rules.specs.Lists.{one_if, any, has, keep, count, times_in, Pulled, missing, pulled, pull}
 use Rattle.rules.specs.Numbers.{Limits, names}
 use Rattle.rules.specs.Words.{by_manager}
 use Rattle.rules.specs.Tables.{Tables, in_state, named, change, manager, runs_as, me, start}

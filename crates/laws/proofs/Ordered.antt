@@ -1,4 +1,5 @@
 -- Lists in order: chains, fewer elements in the same order, and lists whose keys rise.
+use Rattle.std.proofs.Common.{◌==◌}
 use Prim.Native.Nat.{ℕ, suc, ◌+◌, ◌≤◌, ◌<◌}
 use mathlib.Core.Path.{◌≡◌, refl, ap, ap₂, ◌∙◌}
 use mathlib.Core.Logic.{⊎_elim, ◌≢◌}
@@ -8,7 +9,7 @@ use native.Mathlib.Omega.{arith}
 use lib.Dec.{ltb}
 use lib.ListN.{length}
 use borrow.Author.Tests.{ltb-true, ltb-false, lt-ltb, ne_eqb}
-use Rattle.rules.specs.Lists.{◌==◌, one_if, Pulled, missing, pulled, any, keep, count, behind, pull, insert, chain}
+use Rattle.rules.specs.Lists.{one_if, Pulled, missing, pulled, any, keep, count, behind, pull, insert, chain}
 use Rattle.laws.proofs.Tests.{by_if, same?, and_left, and_right, ◌&◌}
 use Rattle.laws.proofs.Tally.{count_cons, count_keep_le, none_count, none_any}
 use Rattle.laws.proofs.Members.{mem_keep, mem_insert}

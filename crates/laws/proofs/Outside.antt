@@ -1,5 +1,6 @@
 -- Ticks and interrupts, were they accepted whatever the status: when they leave the threads as they are, and which series of them wakes
 -- one.
+use Rattle.std.proofs.Common.{if◌then◌else◌, ◌==◌}
 use Prim.Native.Nat.{ℕ, zero, suc, ◌+◌, ◌-◌, ◌/◌, ◌^◌, ◌≤◌, ◌<◌}
 use mathlib.Core.Path.{◌≡◌, refl, sym, ap, ap₂, ◌∙◌}
 use mathlib.Core.Logic.{◌≢◌}
@@ -10,7 +11,7 @@ use lib.Dec.{ltb}
 use lib.ListN.{replicate}
 use lib.Pow.{pow_mono}
 use borrow.Author.Tests.{eqb-true, eq-eqb, ne_eqb, ltb-true, lt-ltb}
-use Rattle.rules.specs.Lists.{if◌then◌else◌, ◌==◌, all, any, keep, from_on, is_byte, number_from, four_bytes}
+use Rattle.rules.specs.Lists.{all, any, keep, from_on, is_byte, number_from, four_bytes}
 use Rattle.rules.specs.Numbers.{Limits, beat_ticks, devices, wrap}
 use Rattle.rules.specs.Words.{by_state}
 use Rattle.rules.specs.Tables.{Tables, with_time, with_clock, in_state, named, live, change}

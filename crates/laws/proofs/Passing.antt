@@ -1,4 +1,5 @@
 -- What a step passes on: every message and every answer after it was there before, or is one that this event gives.
+use Rattle.std.proofs.Common.{if◌then◌else◌, ◌==◌}
 use Prim.Native.Nat.{ℕ, zero, suc, ◌+◌, ◌≤◌, ◌<◌}
 use mathlib.Core.Path.{◌≡◌, refl, sym, ap, ◌∙◌, subst}
 use mathlib.Core.Logic.{⊎_elim}
@@ -6,7 +7,7 @@ use mathlib.Core.Bool.{Bool, true, false, not}
 use mathlib.Core.List.{List, [], ◌∷◌, ◌++◌, map, append-nil, append_assoc, Memᴰ}
 use lib.Dec.{ltb}
 use borrow.Author.Tests.{eqb-true}
-use Rattle.rules.specs.Lists.{if◌then◌else◌, ◌==◌, any, has, keep, Pulled, missing, pulled, pull}
+use Rattle.rules.specs.Lists.{any, has, keep, Pulled, missing, pulled, pull}
 use Rattle.rules.specs.Numbers.{Limits, names, beat_ticks}
 use Rattle.rules.specs.Words.{by_manager}
 use Rattle.rules.specs.Tables.{Tables, with_time, with_clock, with_messages, in_state, with_ticks, with_managers, named, live, of_thread}

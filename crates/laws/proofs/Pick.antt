@@ -1,4 +1,5 @@
 -- The order of the pick, in the words of document 02, CR 1, and refusal 2.
+use Rattle.std.proofs.Common.{if◌then◌else◌}
 use Prim.Native.Nat.{ℕ, zero, suc, ◌+◌, ◌-◌, ◌/◌, ◌%◌, ◌^◌, ◌≤◌, ◌<◌, zero-le}
 use mathlib.Core.Path.{◌≡◌, refl, sym, ap, subst, ◌∙◌}
 use mathlib.Core.Logic.{◌⊎◌, inl, inr, ◌↔◌, ⊎_elim}
@@ -8,7 +9,7 @@ use native.Mathlib.Nat.{eq-or-lt_of_le, eq-zero-or-pos}
 use native.Mathlib.Decide.{dec_lt}
 use native.Mathlib.Omega.{arith}
 use lib.Count.{count_trailing_zeros}
-use Rattle.rules.specs.Lists.{if◌then◌else◌, any, from_on}
+use Rattle.rules.specs.Lists.{any, from_on}
 use Rattle.rules.specs.Numbers.{nobody, devices, line_devices, terminals, pending_bits}
 use Rattle.rules.specs.Pick.{pending, lines, transmitter, receiver, transmitters, receivers, pick_order, no_pick, first_pending, pick}
 use Rattle.rules.proofs.Bits.{no_bit, trailing_lowest, lowest_lt, high_bit, taken, or_else, first_of_three, spare, ordered, pick_zero}

@@ -1,4 +1,5 @@
 -- State, runner, ready queue and clock queue agree: what each move of threads between them must do for that, and which moves do it.
+use Rattle.std.proofs.Common.{if◌then◌else◌, ◌==◌}
 use Prim.Native.Nat.{ℕ, ◌+◌, ◌≤◌}
 use mathlib.Core.Path.{◌≡◌, refl, sym, ap, ap₂, ◌∙◌}
 use mathlib.Core.Logic.{⊎_elim, ◌≢◌}
@@ -6,7 +7,7 @@ use mathlib.Core.Bool.{Bool, true, false, ◌&&◌, not, false≢true}
 use mathlib.Core.List.{List, [], ◌∷◌, ◌++◌, map}
 use native.Mathlib.Omega.{arith}
 use borrow.Author.Tests.{eqb-true, eq-eqb, ne_eqb}
-use Rattle.rules.specs.Lists.{if◌then◌else◌, ◌==◌, one_if, keep, count, insert, has, times_in}
+use Rattle.rules.specs.Lists.{one_if, keep, count, insert, has, times_in}
 use Rattle.rules.specs.Words.{by_state, by_runner}
 use Rattle.rules.specs.Tables.{in_state, named, runs_as}
 use Rattle.rules.specs.States.{is_running, is_ready, on_clock}

@@ -1,4 +1,5 @@
 -- Every step keeps `Inv`: state, runner and queues agree, names are below 254, and there are no more threads than blocks for them.
+use Rattle.std.proofs.Common.{if◌then◌else◌, ◌==◌}
 use Prim.Native.Nat.{ℕ, zero, suc, ◌+◌, ◌<◌}
 use mathlib.Core.Path.{◌≡◌, refl, sym, ap, ◌∙◌}
 use mathlib.Core.Bool.{Bool, true, false, not}
@@ -7,7 +8,7 @@ use native.Mathlib.Omega.{arith}
 use lib.Dec.{ltb}
 use lib.ListN.{length, length-map}
 use borrow.Author.Tests.{eqb-true, leb-false}
-use Rattle.rules.specs.Lists.{if◌then◌else◌, ◌==◌, one_if, Pulled, missing, pulled, any, insert, has}
+use Rattle.rules.specs.Lists.{one_if, Pulled, missing, pulled, any, insert, has}
 use Rattle.rules.specs.Numbers.{Limits, names, full_slice, beat_ticks}
 use Rattle.rules.specs.Words.{by_wanted, by_manager}
 use Rattle.rules.specs.Tables.{Tables, in_state, with_managers, with_ticks, named, live, of_thread, change, manager, set_entry, new_thread}

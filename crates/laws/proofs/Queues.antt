@@ -1,4 +1,5 @@
 -- Queues of names: how often a name stands in one, how many stand before it, and what more behind or fewer before do to that.
+use Rattle.std.proofs.Common.{if◌then◌else◌, ◌==◌}
 use Prim.Native.Nat.{ℕ, suc, ◌+◌, ◌≤◌, ◌<◌}
 use mathlib.Core.Path.{◌≡◌, refl, sym, ap, ◌∙◌}
 use mathlib.Core.Logic.{⊎_elim, ◌≢◌}
@@ -7,7 +8,7 @@ use mathlib.Core.List.{List, [], ◌∷◌, ◌++◌, append-nil, append_assoc}
 use native.Mathlib.Omega.{arith}
 use lib.ListN.{length}
 use borrow.Author.Tests.{eq-eqb, ne_eqb}
-use Rattle.rules.specs.Lists.{if◌then◌else◌, ◌==◌, one_if, any, keep, count, has, times_in}
+use Rattle.rules.specs.Lists.{one_if, any, keep, count, has, times_in}
 use Rattle.laws.proofs.Tests.{by_if, same?}
 use Rattle.laws.proofs.Tally.{count_cons, count_append}
 use Rattle.laws.proofs.Members.{has_left}

@@ -1,4 +1,5 @@
 -- Runs in which a name comes round: all names are given in turn, and then the first that is free again.
+use Rattle.std.proofs.Common.{◌==◌}
 use Prim.Native.Nat.{ℕ, zero, suc, ◌+◌, ◌-◌, ◌%◌, ◌≤◌, ◌<◌}
 use mathlib.Core.Path.{◌≡◌, refl, sym, ap, ◌∙◌, subst}
 use mathlib.Core.Logic.{◌⊎◌, inl, inr, ⊎_elim, ◌≢◌}
@@ -8,7 +9,7 @@ use native.Mathlib.Omega.{arith}
 use lib.Dec.{ltb}
 use lib.ListN.{length, replicate}
 use borrow.Author.Tests.{eq-eqb, ne_eqb, ltb-true, ltb-false}
-use Rattle.rules.specs.Lists.{◌==◌, any, count, each, from_on}
+use Rattle.rules.specs.Lists.{any, count, each, from_on}
 use Rattle.rules.specs.Numbers.{Limits, small, names, full_slice}
 use Rattle.rules.specs.Tables.{Tables, with_last, live, start}
 use Rattle.rules.specs.Requests.{free_name, next_name, create}

@@ -1,4 +1,5 @@
 -- What the requests do, in words of their own: GETCPUTIME, WAITFORIO, the managers, brothers and sons.
+use Rattle.std.proofs.Common.{if◌then◌else◌, ◌==◌}
 use Prim.Native.Nat.{ℕ, ◌≤◌, ◌<◌}
 use mathlib.Core.Path.{◌≡◌, refl, sym, ap, ap₂, ◌∙◌, subst}
 use mathlib.Core.Logic.{◌⊎◌, inl, inr, ⊎_elim, ◌≢◌}
@@ -6,7 +7,7 @@ use mathlib.Core.Bool.{Bool, true, false, ◌||◌, not, false≢true}
 use mathlib.Core.List.{List, [], ◌∷◌, map, Memᴰ}
 use native.Mathlib.Omega.{arith}
 use borrow.Author.Tests.{eqb-true, eq-eqb, ne_eqb}
-use Rattle.rules.specs.Lists.{if◌then◌else◌, ◌==◌, any, has, keep, count, times_in, missing, pulled, behind, pull}
+use Rattle.rules.specs.Lists.{any, has, keep, count, times_in, missing, pulled, behind, pull}
 use Rattle.rules.specs.Numbers.{Limits, names}
 use Rattle.rules.specs.Tables.{Tables, with_threads, with_held, with_managers, in_state, named, live, of_thread, change, manager, set_entry}
 use Rattle.rules.specs.Tables.{new_thread}

@@ -1,4 +1,5 @@
 -- Room in queues, messages and held words: how long each is at most, and where one more has room.
+use Rattle.std.proofs.Common.{◌==◌}
 use Prim.Native.Nat.{ℕ, suc, ◌+◌, ◌≤◌, ◌<◌}
 use mathlib.Core.Path.{◌≡◌, refl, sym, ap, ◌∙◌}
 use mathlib.Core.Logic.{⊎_elim}
@@ -8,7 +9,7 @@ use native.Mathlib.Omega.{arith}
 use lib.Dec.{ltb}
 use lib.ListN.{length, length-map}
 use borrow.Author.Tests.{eqb-true, eqb-false}
-use Rattle.rules.specs.Lists.{◌==◌, one_if, any, keep, count, insert, times_in}
+use Rattle.rules.specs.Lists.{one_if, any, keep, count, insert, times_in}
 use Rattle.rules.specs.Numbers.{Limits, devices}
 use Rattle.rules.specs.Tables.{Tables, named, live, runs, runs_as}
 use Rattle.rules.specs.States.{is_running, is_ready, on_clock, awaits, trapped_on}

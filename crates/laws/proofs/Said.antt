@@ -1,4 +1,5 @@
 -- What well-formed bytes say: for each event, the bytes that document 01 gives it mean it. With Flaws.antt this tells what any bytes mean.
+use Rattle.std.proofs.Common.{if◌then◌else◌}
 use Prim.Native.Nat.{ℕ, ◌+◌, ◌*◌, ◌/◌, ◌%◌, ◌^◌, ◌<◌}
 use mathlib.Core.Path.{◌≡◌, refl, ap, ap₂, ◌∙◌}
 use mathlib.Core.Logic.{◌≢◌}
@@ -6,7 +7,7 @@ use mathlib.Core.Bool.{Bool, true}
 use mathlib.Core.List.{[], ◌∷◌, ◌++◌}
 use native.Mathlib.Omega.{arith}
 use borrow.Author.Tests.{eqb-true, lt-ltb, ne_eqb}
-use Rattle.rules.specs.Lists.{if◌then◌else◌, all, is_byte, number_from, number, four_bytes}
+use Rattle.rules.specs.Lists.{all, is_byte, number_from, number, four_bytes}
 use Rattle.rules.specs.Numbers.{wrap}
 use Rattle.rules.specs.Tags.{facts_in, tag_facts, rule_in, argument_rule, meets}
 use Rattle.rules.specs.Pick.{pick}

@@ -1,5 +1,6 @@
 -- Every message and every notice that is sent is handed over once at most, by any decision: from an inbox, or as the answer that was due to
 -- a thread. One that is discarded, or was due to a thread that ends, is not. Equal messages are counted, as in Once.antt.
+use Rattle.std.proofs.Common.{if◌then◌else◌, ◌==◌}
 use Prim.Native.Nat.{ℕ, zero, suc, ◌+◌, ◌≤◌, ◌<◌}
 use mathlib.Core.Path.{◌≡◌, refl, sym, ap, ◌∙◌, subst}
 use mathlib.Core.Logic.{⊎_elim}
@@ -8,7 +9,7 @@ use mathlib.Core.List.{List, [], ◌∷◌, map, Memᴰ}
 use native.Mathlib.Omega.{arith}
 use lib.Dec.{ltb}
 use borrow.Author.Tests.{eqb-true, eq-eqb, ne_eqb}
-use Rattle.rules.specs.Lists.{if◌then◌else◌, ◌==◌, one_if, any, has, keep, count, insert, Pulled, missing, pulled, pull}
+use Rattle.rules.specs.Lists.{one_if, any, has, keep, count, insert, Pulled, missing, pulled, pull}
 use Rattle.rules.specs.Numbers.{Limits, names, beat_ticks}
 use Rattle.rules.specs.Words.{by_manager, by_runner}
 use Rattle.rules.specs.Tables.{Tables, with_time, with_clock, in_state, with_ticks, named, with_messages, with_managers, of_thread, change}

@@ -1,4 +1,5 @@
 -- One thread by its place: the rules change all threads that pass a test, and where one at most passes, that is the thread at its place.
+use Rattle.std.proofs.Common.{if◌then◌else◌}
 use Prim.Native.Nat.{ℕ, zero, suc, ◌+◌, ◌-◌, ◌≤◌, ◌<◌}
 use mathlib.Core.Path.{◌≡◌, refl, sym, ap, ap₂, ◌∙◌}
 use mathlib.Core.Logic.{◌≢◌}
@@ -7,7 +8,7 @@ use mathlib.Core.List.{List, [], ◌∷◌, ◌++◌, map, Memᴰ}
 use native.Mathlib.Omega.{arith}
 use lib.ListN.{length, get_or, set}
 use borrow.Author.Tests.{eqb-true, eq-eqb, ne_eqb}
-use Rattle.rules.specs.Lists.{if◌then◌else◌, one_if, any, keep, count}
+use Rattle.rules.specs.Lists.{one_if, any, keep, count}
 use Rattle.rules.specs.Numbers.{full_slice, beat_ticks}
 use Rattle.rules.specs.Tables.{Tables, with_runner, with_time, with_threads, with_ready, with_clock, with_messages, with_held, in_state}
 use Rattle.rules.specs.Tables.{with_ticks, named, live, of_thread, change}

@@ -1,11 +1,11 @@
 -- Every step keeps `Steady`: the slice, the beat's numbers, and nobody ready without a runner.
+use Rattle.std.proofs.Common.{◌==◌}
 use Prim.Native.Nat.{ℕ, ◌+◌, ◌-◌, ◌≤◌, ◌<◌}
 use mathlib.Core.Path.{◌≡◌, refl, sym, ◌∙◌}
 use mathlib.Core.List.{List}
 use native.Mathlib.Omega.{arith}
 use native.Mathlib.Nat.{mod-lt}
 use borrow.Author.Tests.{eqb-false}
-use Rattle.rules.specs.Lists.{◌==◌}
 use Rattle.rules.specs.Numbers.{Limits, names, full_slice, beat_ticks, wrap}
 use Rattle.rules.specs.Tables.{Tables, change}
 use Rattle.rules.specs.Waking.{Outcome, wake_those}

@@ -1,11 +1,11 @@
 -- To prove something of a step: of a refused event and of an accepted one, and of each thing that the dispatch can do. And runs in parts.
+use Rattle.std.proofs.Common.{◌==◌}
 use Prim.Native.Nat.{ℕ, zero, suc}
 use mathlib.Core.Path.{◌≡◌, refl, ap}
 use mathlib.Core.Bool.{Bool, true, false, not, true≢false}
 use mathlib.Core.List.{List, [], ◌∷◌, ◌++◌}
 use native.Mathlib.Omega.{arith}
 use borrow.Author.Tests.{ne_eqb}
-use Rattle.rules.specs.Lists.{◌==◌}
 use Rattle.rules.specs.Numbers.{Limits, full_slice}
 use Rattle.rules.specs.Words.{by_runner}
 use Rattle.laws.specs.Words.{Running, Nothing, Runner, NoRunner, Runs, Call, ByRunner}

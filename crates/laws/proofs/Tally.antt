@@ -1,11 +1,12 @@
 -- How many pass, whether any or all do, under every change of a list that the rules make. One law over any list each.
+use Rattle.std.proofs.Common.{if◌then◌else◌}
 use Prim.Native.Nat.{ℕ, zero, suc, ◌+◌, ◌*◌, ◌≤◌, ◌<◌}
 use mathlib.Core.Path.{◌≡◌, refl, sym, ap, ap₂, ◌∙◌}
 use mathlib.Core.Bool.{Bool, true, false, ◌&&◌, ◌||◌, not, true≢false, false≢true}
 use mathlib.Core.List.{List, [], ◌∷◌, ◌++◌, map, append_assoc, Memᴰ}
 use native.Mathlib.Omega.{arith}
 use lib.ListN.{length, length-append, drop}
-use Rattle.rules.specs.Lists.{if◌then◌else◌, one_if, all, any, keep, count, insert, each}
+use Rattle.rules.specs.Lists.{one_if, all, any, keep, count, insert, each}
 use Rattle.laws.proofs.Tests.{by_if, clash, and_left, and_right, ◌&◌, and_true, and_false, or_left, or_right, one_at_most, one_less}
 use Rattle.laws.proofs.Tests.{one_kind}
 

@@ -1,4 +1,5 @@
 -- The tests of the table rules that speak of counts, against the counts: names, places, devices.
+use Rattle.std.proofs.Common.{◌==◌}
 use Prim.Native.Nat.{ℕ, ◌+◌, ◌≤◌, ◌<◌}
 use mathlib.Core.Path.{◌≡◌, refl, sym, ap, ◌∙◌}
 use mathlib.Core.Bool.{Bool, true, false, ◌&&◌}
@@ -6,7 +7,7 @@ use mathlib.Core.List.{List, Memᴰ}
 use native.Mathlib.Omega.{arith}
 use lib.Dec.{ltb}
 use borrow.Author.Tests.{eqb-true, eq-eqb, ne_eqb, leb-true, le-leb, ltb-true, ltb-false}
-use Rattle.rules.specs.Lists.{◌==◌, one_if, all, any, count, times_in, from_on}
+use Rattle.rules.specs.Lists.{one_if, all, any, count, times_in, from_on}
 use Rattle.rules.specs.Numbers.{devices}
 use Rattle.rules.specs.Words.{by_runner}
 use Rattle.rules.specs.Tables.{Tables, named, live, runs_as}

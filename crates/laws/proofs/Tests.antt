@@ -1,11 +1,12 @@
 -- Tests: taken apart, put together, and turned into facts and numbers.
+use Rattle.std.proofs.Common.{if◌then◌else◌, ◌==◌}
 use Prim.Native.Nat.{ℕ, ◌+◌, ◌≤◌}
 use mathlib.Core.Path.{◌≡◌, refl, sym, ◌∙◌}
 use mathlib.Core.Logic.{◌⊎◌, inl, inr, ⊎_elim, ◌≢◌}
 use mathlib.Core.Bool.{Bool, true, false, ◌&&◌, ◌||◌, not, true≢false, false≢true}
 use native.Mathlib.Omega.{arith}
 use borrow.Author.Tests.{eqb-true, eqb-false, ne_eqb}
-use Rattle.rules.specs.Lists.{if◌then◌else◌, ◌==◌, one_if}
+use Rattle.rules.specs.Lists.{one_if}
 use Rattle.rules.specs.Words.{by_runner}
 use Rattle.laws.specs.Words.{Runner, NoRunner, Runs}
 

@@ -1,4 +1,5 @@
 -- Lists of threads: who lives, what changes that keep names leave, and how many threads of a name are in a kind of state.
+use Rattle.std.proofs.Common.{if◌then◌else◌, ◌==◌}
 use Prim.Native.Nat.{ℕ, ◌+◌, ◌≤◌}
 use mathlib.Core.Path.{◌≡◌, refl, sym, ap, ◌∙◌}
 use mathlib.Core.Logic.{◌⊎◌, inl, inr, ⊎_elim}
@@ -6,7 +7,7 @@ use mathlib.Core.Bool.{Bool, true, false, ◌&&◌, not}
 use mathlib.Core.List.{List, [], ◌∷◌, map, Memᴰ}
 use native.Mathlib.Omega.{arith}
 use borrow.Author.Tests.{eqb-true, eq-eqb}
-use Rattle.rules.specs.Lists.{if◌then◌else◌, ◌==◌, one_if, any, keep, count, has, times_in}
+use Rattle.rules.specs.Lists.{one_if, any, keep, count, has, times_in}
 use Rattle.rules.specs.Tables.{in_state, named, of_thread}
 use Rattle.rules.specs.States.{is_running, is_ready, on_clock}
 use Rattle.laws.specs.Words.{State, Running, Ready, Receiving, Clock, Device, Trapped, Answer, Thread}

@@ -1,4 +1,5 @@
 -- What comes of a thread that is made and ended at once: the tables are as before, but for the name given last.
+use Rattle.std.proofs.Common.{if◌then◌else◌, ◌==◌}
 use Prim.Native.Nat.{ℕ, ◌<◌}
 use mathlib.Core.Path.{◌≡◌, refl, sym, ap, ◌∙◌}
 use mathlib.Core.Bool.{Bool, true, false, ◌||◌, not, false≢true, not-eq-not}
@@ -7,7 +8,7 @@ use native.Mathlib.Omega.{arith}
 use lib.Dec.{ltb}
 use lib.ListN.{length}
 use borrow.Author.Tests.{eqb-true, ne_eqb, lt-leb}
-use Rattle.rules.specs.Lists.{if◌then◌else◌, ◌==◌, one_if, any, has, keep, count}
+use Rattle.rules.specs.Lists.{one_if, any, has, keep, count}
 use Rattle.rules.specs.Numbers.{Limits, names}
 use Rattle.rules.specs.Words.{by_parent, by_manager, by_runner}
 use Rattle.rules.specs.Tables.{Tables, with_last, live, new_thread, manager, runs, me}

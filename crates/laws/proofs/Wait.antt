@@ -1,5 +1,6 @@
 -- The wait of a ready thread: it has been given the processor, or has ended, by the tick number 5 × (threads − 1) accepted after it
 -- became ready.
+use Rattle.std.proofs.Common.{◌==◌}
 use Prim.Native.Nat.{ℕ, zero, suc, ◌+◌, ◌-◌, ◌*◌, ◌≤◌, ◌<◌}
 use mathlib.Core.Path.{◌≡◌, refl, ap}
 use mathlib.Core.Bool.{true, false, ◌&&◌, not, false≢true}
@@ -7,7 +8,7 @@ use mathlib.Core.List.{List, [], ◌∷◌, map}
 use native.Mathlib.Omega.{arith}
 use lib.ListN.{length, replicate, length-map}
 use borrow.Author.Tests.{le-leb, ne_eqb}
-use Rattle.rules.specs.Lists.{◌==◌, one_if, any, has, times_in}
+use Rattle.rules.specs.Lists.{one_if, any, has, times_in}
 use Rattle.rules.specs.Numbers.{Limits, small, names, full_slice}
 use Rattle.rules.specs.Tables.{Tables, live, runs_as, start}
 use Rattle.rules.specs.States.{is_running}

@@ -1,6 +1,6 @@
 -- Bytes as complete fields, one behind the other.
-use Rattle.std.specs.Prelude.{ℕ, ◌*◌, Bool, ◌&&◌, List, length, drop}
-use Rattle.rules.specs.Lists.{◌==◌, each}
+use Rattle.std.specs.Prelude.{ℕ, ◌*◌, Bool, ◌&&◌, List, length, drop, ◌==◌}
+use Rattle.rules.specs.Lists.{each}
 use Rattle.rules.specs.Numbers.{decision_numbers}
 use Rattle.rules.specs.Runs.{Input}
 use Rattle.rules.specs.Fields.{field_size, whole}

@@ -1,7 +1,7 @@
 -- What can be wrong with the bytes of an event.
-use Rattle.std.specs.Prelude.{ℕ, ◌+◌, ◌*◌, ◌/◌, ◌%◌, ◌^◌, ◌≤◌, ◌<◌, ◌≡◌, ◌≢◌, length, take, drop, get_or}
+use Rattle.std.specs.Prelude.{ℕ, ◌+◌, ◌*◌, ◌/◌, ◌%◌, ◌^◌, ◌≤◌, ◌<◌, ◌≡◌, ◌≢◌, length, take, drop, get_or, if◌then◌else◌, ◌==◌}
 use mathlib.Core.List.{List, [], ◌∷◌, Memᴰ}
-use Rattle.rules.specs.Lists.{if◌then◌else◌, ◌==◌, number}
+use Rattle.rules.specs.Lists.{number}
 
 abbrev pub tag : List ℕ → ℕ
 tag bytes = get_or bytes 0 0
@@ -29,12 +29,12 @@ bit w n = w / 2 ^ n % 2
 -- 21 interrupt (pending devices 8, ..; status 4)"
 unfoldable pub value_length : ℕ → ℕ
 value_length t =
-    if t == 16 then 5 else
-    if t == 17 then 1 else
-    if t == 18 then 2 else
-    if t == 19 then 5 else
-    if t == 20 then 0 else
-    12
+    if t == 16 then 5 else (
+    if t == 17 then 1 else (
+    if t == 18 then 2 else (
+    if t == 19 then 5 else (
+    if t == 20 then 0 else (
+    12)))))
 
 -- "service not 1 to 9, its argument not 0 where it must be, .. device over 47"
 pub data BadRequest (s a : ℕ) : Type 0 where

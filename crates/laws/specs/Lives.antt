@@ -1,6 +1,5 @@
 -- The ticks of one life of a name.
-use Rattle.std.specs.Prelude.{ℕ, ◌+◌, [], ◌∷◌}
-use Rattle.rules.specs.Lists.{if◌then◌else◌}
+use Rattle.std.specs.Prelude.{ℕ, ◌+◌, [], ◌∷◌, if◌then◌else◌}
 use Rattle.rules.specs.Numbers.{Limits}
 use Rattle.rules.specs.Tables.{Tables, live}
 use Rattle.rules.specs.Step.{step}

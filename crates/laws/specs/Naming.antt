@@ -1,6 +1,5 @@
 -- A walk along threads that stand by rising name.
-use Rattle.std.specs.Prelude.{ℕ, ◌+◌, ◌%◌, List, [], ◌∷◌}
-use Rattle.rules.specs.Lists.{if◌then◌else◌}
+use Rattle.std.specs.Prelude.{ℕ, ◌+◌, ◌%◌, List, [], ◌∷◌, if◌then◌else◌}
 use Rattle.rules.specs.Numbers.{names}
 use Rattle.laws.specs.Words.{Thread}
 use Rattle.rules.specs.Tables.{named}

@@ -1,6 +1,6 @@
 -- Of any kind of message: what is queued, handed over, discarded, and waits.
-use Rattle.std.specs.Prelude.{ℕ, ◌+◌, Bool, true, ◌&&◌, ◌||◌, List, [], ◌∷◌}
-use Rattle.rules.specs.Lists.{if◌then◌else◌, ◌==◌, any, has, keep, count}
+use Rattle.std.specs.Prelude.{ℕ, ◌+◌, Bool, true, ◌&&◌, ◌||◌, List, [], ◌∷◌, if◌then◌else◌, ◌==◌}
+use Rattle.rules.specs.Lists.{any, has, keep, count}
 use Rattle.rules.specs.Numbers.{Limits}
 use Rattle.rules.specs.Words.{by_manager}
 use Rattle.laws.specs.Words.{Answer, Nothing, FromMessage, FromNotice, SenderGone, Result, Message, Send, Receive, CreateBrother}

@@ -1,6 +1,6 @@
 -- Series of ticks and interrupts, as if they were accepted, and what they can wake.
-use Rattle.std.specs.Prelude.{ℕ, ◌-◌, ◌/◌, ◌^◌, Bool, true, false, ◌&&◌, ◌||◌, List, [], ◌∷◌, ◌++◌, ltb, replicate}
-use Rattle.rules.specs.Lists.{if◌then◌else◌, any, four_bytes}
+use Rattle.std.specs.Prelude.{ℕ, ◌-◌, ◌/◌, ◌^◌, Bool, true, false, ◌&&◌, ◌||◌, List, [], ◌∷◌, ◌++◌, ltb, replicate, if◌then◌else◌}
+use Rattle.rules.specs.Lists.{any, four_bytes}
 use Rattle.rules.specs.Numbers.{beat_ticks, devices, wrap}
 use Rattle.rules.specs.Words.{by_state}
 use Rattle.laws.specs.Words.{State, Thread, Event, Malformed, ByRunner, Tick, Interrupt}

@@ -1,6 +1,6 @@
 -- A name given twice, the names between, and how long a name rests.
-use Rattle.std.specs.Prelude.{ℕ, ◌-◌, ◌≡◌, not, List, ◌∷◌, ◌++◌}
-use Rattle.rules.specs.Lists.{◌==◌, count}
+use Rattle.std.specs.Prelude.{ℕ, ◌-◌, ◌≡◌, not, List, ◌∷◌, ◌++◌, ◌==◌}
+use Rattle.rules.specs.Lists.{count}
 use Rattle.rules.specs.Numbers.{Limits, names}
 
 -- Among the names given a name stands twice. Those between are the names of the threads created between the two givings.

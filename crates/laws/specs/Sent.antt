@@ -1,6 +1,6 @@
 -- Of any kind of message: what is sent, handed over by a decision, dropped, and open.
-use Rattle.std.specs.Prelude.{ℕ, ◌+◌, Bool, ◌&&◌, List, [], ◌∷◌}
-use Rattle.rules.specs.Lists.{if◌then◌else◌, any, has, keep, count}
+use Rattle.std.specs.Prelude.{ℕ, ◌+◌, Bool, ◌&&◌, List, [], ◌∷◌, if◌then◌else◌}
+use Rattle.rules.specs.Lists.{any, has, keep, count}
 use Rattle.rules.specs.Numbers.{Limits}
 use Rattle.rules.specs.Words.{by_manager}
 use Rattle.laws.specs.Words.{Thread, Message, Send, Receive, CreateBrother, CreateSon, Terminate, SetManager, GetCpuTime}

@@ -1,6 +1,6 @@
 -- When a thread is served, and by which accepted tick.
-use Rattle.std.specs.Prelude.{ℕ, ◌+◌, ◌-◌, Bool, ◌&&◌, ◌||◌, not, List, [], ◌∷◌, leb}
-use Rattle.rules.specs.Lists.{◌==◌, one_if, has}
+use Rattle.std.specs.Prelude.{ℕ, ◌+◌, ◌-◌, Bool, ◌&&◌, ◌||◌, not, List, [], ◌∷◌, leb, ◌==◌}
+use Rattle.rules.specs.Lists.{one_if, has}
 use Rattle.rules.specs.Numbers.{Limits}
 use Rattle.rules.specs.Tables.{Tables, live, runs_as}
 use Rattle.rules.specs.Events.{decode}

@@ -1,6 +1,5 @@
 -- The public operations on a lent memory, of any length and contents.
-use Rattle.std.specs.Prelude.{ℕ, Bool, true, false, ◌&&◌, ◌≡◌, ◌≢◌, List, ◌++◌, leb, length, drop}
-use Rattle.rules.specs.Lists.{if◌then◌else◌}
+use Rattle.std.specs.Prelude.{ℕ, Bool, true, false, ◌&&◌, ◌≡◌, ◌≢◌, List, ◌++◌, leb, length, drop, if◌then◌else◌}
 use Rattle.rules.specs.Numbers.{small}
 use Rattle.rules.specs.Tables.{start}
 use Rattle.rules.specs.Step.{step}

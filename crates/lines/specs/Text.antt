@@ -1,6 +1,6 @@
 -- Numbers and lines as text, in ASCII.
-use Rattle.std.specs.Prelude.{ℕ, zero, suc, ◌+◌, ◌/◌, ◌%◌, List, [], ◌∷◌, ◌++◌, ltb}
-use Rattle.rules.specs.Lists.{if◌then◌else◌, each}
+use Rattle.std.specs.Prelude.{ℕ, zero, suc, ◌+◌, ◌/◌, ◌%◌, List, [], ◌∷◌, ◌++◌, ltb, if◌then◌else◌}
+use Rattle.rules.specs.Lists.{each}
 use Rattle.rules.specs.Tables.{Tables, me}
 use Rattle.rules.specs.Dispatch.{status}
 use Rattle.rules.specs.Codes.{status_code, slice_code, answer_numbers, state_numbers, manager_code, parent_code, message_code}

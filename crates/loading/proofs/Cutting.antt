@@ -1,4 +1,5 @@
 -- Cutting fields: what `opens` says by places, and the loop that reads a row of fields of one tag and one length.
+use Rattle.std.proofs.Common.{◌==◌}
 use Prim.Native.Nat.{ℕ, ◌+◌, ◌*◌, ◌-◌, ◌≤◌, ◌<◌}
 use mathlib.Core.Path.{◌≡◌, refl, sym, ap, ◌∙◌}
 use mathlib.Core.Bool.{Bool, true, false, ◌&&◌, true≢false}
@@ -9,7 +10,7 @@ use lib.Dec.{leb}
 use lib.ListN.{length, take, drop, get_or, length-append, length-drop}
 use lib.Seq.{take_at, drop_at, drop-drop, get_or-drop, take_all, append_snoc}
 use borrow.Author.Tests.{eq-eqb, leb-true, le-leb}
-use Rattle.rules.specs.Lists.{◌==◌, each}
+use Rattle.rules.specs.Lists.{each}
 use Rattle.rules.specs.Dump.{field}
 use Rattle.laws.proofs.Tests.{three, clash, ◌&◌}
 use Rattle.laws.proofs.Bytes.{two_back}

@@ -1,4 +1,5 @@
 -- Rows filled in: the memory that a stage of reading leaves.
+use Rattle.std.proofs.Common.{if◌then◌else◌, ◌==◌}
 use Prim.Native.Nat.{ℕ, ◌+◌, ◌-◌, ◌≤◌, ◌<◌}
 use mathlib.Core.Path.{◌≡◌, refl, sym, ap, ap₂, ◌∙◌}
 use mathlib.Core.Logic.{⊎_elim}
@@ -11,7 +12,7 @@ use lib.Dec.{ltb}
 use lib.ListN.{length, take, drop, get_or, length-append, length-drop}
 use lib.Seq.{take-suc, take_all, length-take-le}
 use borrow.Author.Tests.{ltb-true, lt-ltb, ne_eqb}
-use Rattle.rules.specs.Lists.{if◌then◌else◌, ◌==◌, all, keep, insert, chain}
+use Rattle.rules.specs.Lists.{all, keep, insert, chain}
 use Rattle.rules.specs.Numbers.{small, devices}
 use Rattle.rules.specs.Tables.{Tables, with_last, with_runner, with_time, with_threads, with_ready, with_clock, with_messages, with_held}
 use Rattle.rules.specs.Interrupt.{held_for, hold}

@@ -1,7 +1,7 @@
 -- What the stages of reading promise: the parts of a dump, put into a memory that is lent.
-use Rattle.std.specs.Prelude.{ℕ, ◌+◌, ◌*◌, ◌≤◌, Bool, true, false, ◌&&◌, ◌≡◌, leb, ltb, length, drop, get_or}
+use Rattle.std.specs.Prelude.{ℕ, ◌+◌, ◌*◌, ◌≤◌, Bool, true, false, ◌&&◌, ◌≡◌, leb, ltb, length, drop, get_or, if◌then◌else◌, ◌==◌}
 use mathlib.Core.List.{List, [], ◌∷◌, ◌++◌, Memᴰ}
-use Rattle.rules.specs.Lists.{if◌then◌else◌, ◌==◌, each, chain}
+use Rattle.rules.specs.Lists.{each, chain}
 use Rattle.rules.specs.Numbers.{small, devices}
 use Rattle.rules.specs.Tables.{Tables, with_last, with_runner, with_time, with_ready, with_clock}
 use Rattle.rules.specs.TableRules.{table_rules}

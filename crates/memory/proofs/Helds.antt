@@ -1,4 +1,5 @@
 -- Held words, each at its device's place: F says of a device whether one is held, W which.
+use Rattle.std.proofs.Common.{if◌then◌else◌, ◌==◌}
 use Prim.Native.Nat.{ℕ, zero, suc, ◌+◌, ◌≤◌, ◌<◌}
 use mathlib.Core.Path.{◌≡◌, refl, sym, ap, ap₂, ◌∙◌}
 use mathlib.Core.Logic.{◌≢◌, ⊎_elim}
@@ -9,7 +10,7 @@ use lib.Dec.{ltb}
 use lib.ListN.{length, set, length-set}
 use lib.Seq.{get_or-set_same, get_or-set_other}
 use borrow.Author.Tests.{eqb-true, eqb-false, eq-eqb, ne_eqb, lt-ltb, le-ltb}
-use Rattle.rules.specs.Lists.{if◌then◌else◌, ◌==◌, each, from_on, all, any, keep, insert}
+use Rattle.rules.specs.Lists.{each, from_on, all, any, keep, insert}
 use Rattle.rules.specs.Numbers.{devices, nobody}
 use Rattle.rules.specs.Interrupt.{held_for, hold}
 use Rattle.laws.specs.Words.{Held}

@@ -1,6 +1,5 @@
 -- What a memory holds: rows, each with as many entries as there is room for, and their counts; and as the rules' tables.
-use Rattle.std.specs.Prelude.{ℕ, suc, ◌+◌, ◌≤◌, ◌<◌, ◌≡◌, Bool, List, [], ◌∷◌, length, take}
-use Rattle.rules.specs.Lists.{if◌then◌else◌}
+use Rattle.std.specs.Prelude.{ℕ, suc, ◌+◌, ◌≤◌, ◌<◌, ◌≡◌, Bool, List, [], ◌∷◌, length, take, if◌then◌else◌}
 use Rattle.rules.specs.Numbers.{Limits, names}
 use Rattle.laws.specs.Words.{Running, NoParent, Ordinary, Thread, Message, Held, Runner, NoRunner}
 use Rattle.rules.specs.Tables.{Tables, new_thread}

@@ -1,5 +1,6 @@
 -- The place of the first that passes, and what the rules say by any, pull, insert, map, keep and of_thread.
 -- That a store below n is a store among the first n, and that these are the array's own: take-set-lt and get_or-take of lib.Seq.
+use Rattle.std.proofs.Common.{if◌then◌else◌}
 use Prim.Native.Nat.{ℕ, zero, suc, ◌+◌, ◌≤◌, ◌<◌}
 use mathlib.Core.Path.{◌≡◌, refl, sym, ◌∙◌, ap}
 use mathlib.Core.Bool.{Bool, true, false, not, ◌||◌, true≢false}
@@ -10,7 +11,7 @@ use lib.Dec.{ltb, leb-suc-suc}
 use lib.ListN.{length, take, drop, get_or, set}
 use lib.Seq.{length-take-le, get_or-take, take-set-lt}
 use borrow.Author.Tests.{lt-ltb, le-ltb, ltb-true, ltb-false}
-use Rattle.rules.specs.Lists.{if◌then◌else◌, one_if, missing, pulled, any, keep, count, behind, pull, insert}
+use Rattle.rules.specs.Lists.{one_if, missing, pulled, any, keep, count, behind, pull, insert}
 use Rattle.rules.specs.Tables.{named, of_thread}
 use Rattle.rules.specs.declared.Thread.{Thread}
 use Rattle.laws.proofs.Tally.{keep_none, none_count, zero_any}

@@ -1,4 +1,5 @@
 -- The place of a name among the first n of a row, which stand by rising name: what a look at one of them tells.
+use Rattle.std.proofs.Common.{if◌then◌else◌}
 use Prim.Native.Nat.{ℕ, zero, suc, ◌+◌, ◌≤◌, ◌<◌}
 use mathlib.Core.Path.{◌≡◌, ap}
 use mathlib.Core.Bool.{Bool, true, false, not}
@@ -8,7 +9,6 @@ use lib.Dec.{ltb}
 use lib.ListN.{length, take, get_or}
 use lib.Seq.{length-take-le, get_or-take}
 use borrow.Author.Tests.{lt-ltb, le-ltb}
-use Rattle.rules.specs.Lists.{if◌then◌else◌}
 use Rattle.laws.specs.Words.{Thread}
 use Rattle.laws.specs.Types.{Rising}
 use Rattle.laws.proofs.Ordered.{chain_tail, up_below}

@@ -1,5 +1,6 @@
 -- Loops over a row: what is written so far, followed by what the rule makes of the rest, is what the rule makes of all.
 -- n counts the row's entries, r₀ is the array as it came, r as it is, i the place in it.
+use Rattle.std.proofs.Common.{if◌then◌else◌}
 use Prim.Native.Nat.{ℕ, suc, ◌+◌, ◌-◌, ◌≤◌, ◌<◌}
 use mathlib.Core.Path.{◌≡◌, refl, sym, ◌∙◌, ap, ap₂, subst}
 use mathlib.Core.Bool.{Bool, true, false, ◌&&◌, ◌||◌}
@@ -9,7 +10,7 @@ use native.Mathlib.Omega.{arith}
 use lib.ListN.{length, take, drop, get_or, set, length-set, drop_of_length-le}
 use lib.Seq.{drop-cons, get_or-take, get_or-drop, get_or-set_same, take-suc-set, take-set-le, take-set-lt, drop-set-lt, length-take-le}
 use lib.Seq.{append_snoc, take-take, drop-drop, set-get_or, set_split}
-use Rattle.rules.specs.Lists.{if◌then◌else◌, keep, count, any, one_if, all}
+use Rattle.rules.specs.Lists.{keep, count, any, one_if, all}
 use Rattle.memory.specs.Rows.{place}
 
 module _ {A : Type 0} where

@@ -1,4 +1,5 @@
 -- The marks beside an ending's set: none at first, then one more name.
+use Rattle.std.proofs.Common.{◌==◌}
 use Prim.Native.Nat.{ℕ, ◌≤◌, ◌<◌}
 use mathlib.Core.Path.{◌≡◌, refl, sym, ap, ◌∙◌, subst}
 use mathlib.Core.Bool.{Bool, true, false, ◌||◌}
@@ -8,7 +9,7 @@ use lib.Dec.{eqb, ltb}
 use lib.ListN.{length, take, get_or, set, replicate, length-set, length-replicate, get_or-replicate, length-append}
 use lib.Seq.{take_all, take-nil, take-append-le, get_or-set_same, get_or-set_other}
 use borrow.Author.Tests.{ltb-true, ltb-false, le-ltb, eqb-true, eqb-false, eq-eqb}
-use Rattle.rules.specs.Lists.{◌==◌, any, has}
+use Rattle.rules.specs.Lists.{any, has}
 use Rattle.laws.proofs.Tally.{any_append}
 use Rattle.moving.specs.Marks.{Marks}
 

@@ -1,4 +1,5 @@
 -- The loops of an ending over the rows of a memory: the set grows, rows are closed up, receivers become ready. All else is as it was.
+use Rattle.std.proofs.Common.{if◌then◌else◌, ◌==◌}
 use Prim.Native.Nat.{ℕ, ◌+◌, ◌≤◌, ◌<◌}
 use mathlib.Core.Path.{◌≡◌, refl, sym, ap, ◌∙◌}
 use mathlib.Core.Bool.{Bool, true, false, not, ◌&&◌, true≢false}
@@ -8,7 +9,7 @@ use lib.Dec.{eqb}
 use lib.ListN.{length, take, drop, get_or, set, length-set, length-append}
 use lib.Seq.{length-take-le, take-take, take-set-le, drop-set-lt, get_or-set_same, set-get_or, set-set}
 use borrow.Author.Tests.{eqb-true, eq-eqb}
-use Rattle.rules.specs.Lists.{if◌then◌else◌, ◌==◌, any, has, keep, count}
+use Rattle.rules.specs.Lists.{any, has, keep, count}
 use Rattle.rules.specs.Words.{by_parent, by_manager}
 use Rattle.rules.specs.Tables.{in_state, manager, with_managers, set_entry}
 use Rattle.rules.specs.States.{awaits}

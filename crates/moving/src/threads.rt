@@ -1,6 +1,6 @@
 // The threads, by rising name.
-ghost use Rattle.std.specs.Prelude.{◌≡◌, true, not, List, ◌∷◌, ◌++◌, map, ◌<◌, ◌≤◌, ltb, get_or, take, drop};
-ghost use Rattle.rules.specs.Lists.{if◌then◌else◌, any, count as count_of};
+ghost use Rattle.std.specs.Prelude.{◌≡◌, true, not, List, ◌∷◌, ◌++◌, map, ◌<◌, ◌≤◌, ltb, get_or, take, drop, if◌then◌else◌};
+ghost use Rattle.rules.specs.Lists.{any, count as count_of};
 ghost use Rattle.rules.specs.Tables.{named, in_state};
 ghost use Rattle.laws.specs.Types.{Rising};
 ghost use Rattle.rules.specs.States.{on_clock, waits_for, wakes_from_outside};

@@ -1,6 +1,6 @@
 // The rows without the members of the ended set: what is left moves up, in order.
-ghost use Rattle.std.specs.Prelude.{◌≡◌, not, ◌||◌, ◌++◌, map, ◌+◌, ◌≤◌};
-ghost use Rattle.rules.specs.Lists.{if◌then◌else◌, has as has_in, keep, count as count_of};
+ghost use Rattle.std.specs.Prelude.{◌≡◌, not, ◌||◌, ◌++◌, map, ◌+◌, ◌≤◌, if◌then◌else◌};
+ghost use Rattle.rules.specs.Lists.{has as has_in, keep, count as count_of};
 ghost use Rattle.rules.specs.Tables.{in_state};
 ghost use Rattle.rules.specs.Ending.{without_managers, misses as Misses_of, told_gone as told_gone_of};
 ghost use Rattle.rules.specs.declared.State.TheVariants.{Ready as ReadyState};

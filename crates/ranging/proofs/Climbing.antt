@@ -1,4 +1,5 @@
 -- Going up by places and the rule of parents: every place leads above all exactly if the rule holds. Names are distinct.
+use Rattle.std.proofs.Common.{if◌then◌else◌, ◌==◌}
 use Prim.Native.Nat.{ℕ, zero, suc, ◌+◌, ◌≤◌, ◌<◌}
 use mathlib.Core.Path.{◌≡◌, refl, sym, ap, subst, ◌∙◌}
 use mathlib.Core.Logic.{◌⊎◌, inl, inr, ⊎_elim, ◌≢◌}
@@ -9,7 +10,7 @@ use native.Mathlib.Omega.{arith}
 use lib.Dec.{ltb}
 use lib.ListN.{length, get_or}
 use borrow.Author.Tests.{eq-eqb, lt-ltb, le-ltb, ltb-true, ltb-false}
-use Rattle.rules.specs.Lists.{if◌then◌else◌, ◌==◌, any, count}
+use Rattle.rules.specs.Lists.{any, count}
 use Rattle.rules.specs.Tables.{Tables, named, new_thread}
 use Rattle.rules.specs.TableRules.{has_parent, climbs, parents_right}
 use Rattle.laws.specs.Words.{Thread, Parent, NoParent, ParentIs, Running}

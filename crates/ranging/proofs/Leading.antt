@@ -1,4 +1,5 @@
 -- Going up by places: steps add up, above all one stays, and the loops that try whether each place leads above all.
+use Rattle.std.proofs.Common.{if◌then◌else◌}
 use Prim.Native.Nat.{ℕ, zero, suc, ◌+◌, ◌≤◌, ◌<◌}
 use mathlib.Core.Path.{◌≡◌, refl, sym, ap, subst, ◌∙◌}
 use mathlib.Core.Logic.{◌⊎◌, ⊎_elim}
@@ -9,7 +10,6 @@ use native.Mathlib.Omega.{arith}
 use lib.Dec.{ltb}
 use lib.ListN.{get_or}
 use borrow.Author.Tests.{lt-ltb, le-ltb, ltb-true, ltb-false}
-use Rattle.rules.specs.Lists.{if◌then◌else◌}
 use Rattle.ranging.specs.Upward.{after, Leads, AllLead}
 
 module _ (up : List ℕ) (n : ℕ) where

@@ -1,4 +1,5 @@
 -- Held words stand at their devices' places, and so by rising device, where each is held for a device.
+use Rattle.std.proofs.Common.{◌==◌}
 use Prim.Native.Nat.{ℕ, zero, suc, ◌≤◌, ◌<◌}
 use mathlib.Core.Path.{◌≡◌, refl}
 use mathlib.Core.Bool.{Bool, true}
@@ -6,7 +7,7 @@ use mathlib.Core.List.{List, [], ◌∷◌, ◌++◌}
 use native.Mathlib.Omega.{arith}
 use lib.Dec.{ltb}
 use borrow.Author.Tests.{lt-ltb, eqb-false}
-use Rattle.rules.specs.Lists.{◌==◌, all, chain, each, from_on}
+use Rattle.rules.specs.Lists.{all, chain, each, from_on}
 use Rattle.rules.specs.Numbers.{devices}
 use Rattle.laws.specs.Words.{Held}
 use Rattle.laws.proofs.Tests.{by_if, ◌&◌}

@@ -1,5 +1,6 @@
 -- The devices' rule by one pass over the threads: marks say for which devices one waits, and no word is held for these.
 -- Held devices rise, so that each is held once.
+use Rattle.std.proofs.Common.{◌==◌}
 use Prim.Native.Nat.{zero, ℕ, suc, ◌+◌, ◌≤◌, ◌<◌}
 use mathlib.Core.Path.{◌≡◌, refl, sym, ap, ◌∙◌}
 use mathlib.Core.Logic.{◌≢◌, ⊎_elim}
@@ -9,7 +10,7 @@ use native.Mathlib.Omega.{arith}
 use lib.Dec.{leb, ltb}
 use lib.ListN.{length, take, get_or, set, replicate}
 use borrow.Author.Tests.{eq-eqb, ne_eqb, le-leb, lt-leb}
-use Rattle.rules.specs.Lists.{◌==◌, one_if, all, any, count, chain, from_on}
+use Rattle.rules.specs.Lists.{one_if, all, any, count, chain, from_on}
 use Rattle.rules.specs.Numbers.{names, beat_ticks, devices, wrap}
 use Rattle.rules.specs.Words.{by_state}
 use Rattle.rules.specs.States.{waits_for, at_device}

@@ -1,6 +1,6 @@
 // Parents are live, without a cycle, 0 alone has none.
-ghost use Rattle.std.specs.Prelude.{◌≡◌, List, ℕ, ◌≤◌, ◌<◌, length};
-ghost use Rattle.rules.specs.Lists.{◌==◌, count};
+ghost use Rattle.std.specs.Prelude.{◌≡◌, List, ℕ, ◌≤◌, ◌<◌, length, ◌==◌};
+ghost use Rattle.rules.specs.Lists.{count};
 ghost use Rattle.rules.specs.TableRules.{parents_right as parents_right_of};
 ghost use Rattle.rules.specs.declared.Thread.{Thread as ThreadIs};
 ghost use Rattle.store.specs.Store.{Shaped, tables};

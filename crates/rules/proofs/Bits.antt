@@ -1,4 +1,5 @@
 -- Trailing zeros and bits: the lowest set bit of a word, over the width, and the first pending one of a list of devices.
+use Rattle.std.proofs.Common.{if◌then◌else◌, ◌==◌}
 use Prim.Native.Nat.{ℕ, zero, suc, ◌+◌, ◌-◌, ◌/◌, ◌%◌, ◌^◌, ◌≤◌, ◌<◌, zero-le}
 use mathlib.Core.Path.{◌≡◌, refl, sym, ap, ◌∙◌}
 use mathlib.Core.Logic.{⊎_elim}
@@ -10,7 +11,7 @@ use native.Mathlib.Omega.{arith}
 use lib.Count.{count_trailing_zeros, under}
 use lib.Pow.{pow_pos, pow_mono, shr_lt, shr-shr}
 use borrow.Author.Tests.{eq-eqb}
-use Rattle.rules.specs.Lists.{if◌then◌else◌, ◌==◌, any, from_on}
+use Rattle.rules.specs.Lists.{any, from_on}
 use Rattle.rules.specs.Numbers.{devices, pending_bits}
 use Rattle.rules.specs.Words.{Picked}
 use Rattle.rules.specs.Pick.{pending, pick_order, no_pick, first_pending, pick}

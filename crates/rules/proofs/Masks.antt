@@ -1,5 +1,6 @@
 -- The pick by masks: the word of each class is cut out of the pending word, and its trailing zeros are the device.
 -- Stated for any masks of the classes; those of src/pick.rt are shown to be such where it is proved, by computing.
+use Rattle.std.proofs.Common.{if◌then◌else◌, ◌==◌}
 use Prim.Native.Nat.{ℕ, zero, suc, ◌+◌, ◌*◌, ◌%◌, ◌/◌, ◌^◌, ◌<◌, zero-le, min}
 use mathlib.Core.Path.{◌≡◌, refl, sym, ap, ◌∙◌}
 use mathlib.Core.Logic.{⊎_elim}
@@ -10,7 +11,7 @@ use native.Mathlib.Omega.{arith}
 use lib.Bits.{bit_and, and_shr, and_step, and_le_l}
 use lib.Count.{count_trailing_zeros}
 use borrow.Author.Tests.{eq-eqb, ne_eqb}
-use Rattle.rules.specs.Lists.{if◌then◌else◌, ◌==◌, any, keep, from_on}
+use Rattle.rules.specs.Lists.{any, keep, from_on}
 use Rattle.rules.specs.Numbers.{devices, pending_bits}
 use Rattle.rules.specs.Words.{Picked}
 use Rattle.rules.specs.Pick.{pending, lines, transmitters, receivers, no_pick, first_pending, pick}

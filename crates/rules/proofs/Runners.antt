@@ -1,10 +1,11 @@
 -- The column "runner needed" of the table of tags, and the events that need one.
+use Rattle.std.proofs.Common.{if◌then◌else◌, ◌==◌}
 use Prim.Native.Nat.{ℕ, ◌+◌, ◌*◌}
 use mathlib.Core.Path.{◌≡◌, refl}
 use mathlib.Core.Bool.{Bool, true, false, ◌&&◌, true≢false}
 use mathlib.Core.List.{List, [], ◌∷◌}
 use lib.ListN.{length, get_or, drop}
-use Rattle.rules.specs.Lists.{if◌then◌else◌, ◌==◌, all, is_byte, number}
+use Rattle.rules.specs.Lists.{all, is_byte, number}
 use Rattle.rules.specs.Words.{Event, Malformed, ByRunner, Picked}
 use Rattle.rules.specs.Tags.{facts_in, tag_facts, Service, services, argument_rule, meets}
 use Rattle.rules.specs.Events.{asked_in, request, trap_of, interrupt_of, meaning, field_of, decode}

@@ -1,6 +1,6 @@
 -- A batch of events in one call (document 02, CR 2): what is run, what is handed back, and what comes of it.
-use Rattle.std.specs.Prelude.{ℕ, ◌*◌, List, [], ltb, length}
-use Rattle.rules.specs.Lists.{if◌then◌else◌, each}
+use Rattle.std.specs.Prelude.{ℕ, ◌*◌, List, [], ltb, length, if◌then◌else◌}
+use Rattle.rules.specs.Lists.{each}
 use Rattle.rules.specs.Numbers.{Limits, decision_numbers}
 use Rattle.rules.specs.Words.{Decision}
 use Rattle.rules.specs.Tables.{Tables}

@@ -1,6 +1,6 @@
 -- Dispatch, and the status that it leaves.
-use Rattle.std.specs.Prelude.{ℕ, List, [], ◌∷◌}
-use Rattle.rules.specs.Lists.{if◌then◌else◌, any}
+use Rattle.std.specs.Prelude.{ℕ, List, [], ◌∷◌, if◌then◌else◌}
+use Rattle.rules.specs.Lists.{any}
 use Rattle.rules.specs.Numbers.{full_slice}
 use Rattle.rules.specs.Words.{Running, Nothing, Thread, Runs, Status, Working, Idle, Halted, Panicked, by_runner}
 use Rattle.rules.specs.Tables.{Tables, with_runner, with_ready, in_state, of_thread, change}

@@ -1,6 +1,6 @@
 -- Ending: the ended set, and the tables without it.
-use Rattle.std.specs.Prelude.{ℕ, Bool, false, ◌&&◌, ◌||◌, not, List, [], ◌∷◌, ◌++◌, map, length}
-use Rattle.rules.specs.Lists.{if◌then◌else◌, any, has, keep, times}
+use Rattle.std.specs.Prelude.{ℕ, Bool, false, ◌&&◌, ◌||◌, not, List, [], ◌∷◌, ◌++◌, map, length, if◌then◌else◌}
+use Rattle.rules.specs.Lists.{any, has, keep, times}
 use Rattle.rules.specs.Words.{State, Answer, Nothing, SenderGone, Manager, Unset, Set, Gone, Thread, NoRunner, Runs, by_state}
 use Rattle.rules.specs.Words.{by_wanted, by_parent, by_runner}
 use Rattle.rules.specs.Tables.{Tables, with_managers}

@@ -1,6 +1,6 @@
 -- Events as bytes: what one field means.
-use Rattle.std.specs.Prelude.{ℕ, ◌+◌, ◌*◌, ◌&&◌, List, [], ◌∷◌, length, take, drop, get_or}
-use Rattle.rules.specs.Lists.{if◌then◌else◌, ◌==◌, all, is_byte, number}
+use Rattle.std.specs.Prelude.{ℕ, ◌+◌, ◌*◌, ◌&&◌, List, [], ◌∷◌, length, take, drop, get_or, if◌then◌else◌, ◌==◌}
+use Rattle.rules.specs.Lists.{all, is_byte, number}
 use Rattle.rules.specs.Numbers.{nobody}
 use Rattle.rules.specs.Words.{Wanted, Anybody, Only, Program, Tlb, SysBp, Send, Receive, Trap, Event, Malformed, ByRunner, Tick}
 use Rattle.rules.specs.Words.{Interrupt, Picked}
@@ -24,10 +24,10 @@ request n a = asked_in services n a
 -- "kinds 0 program, 1 TLB, 2 SYS/Bp"
 unfoldable pub trap_of : ℕ → ℕ → Event
 trap_of k c =
-    if k == 0 then ByRunner (Trap Program c) else
-    if k == 1 then ByRunner (Trap Tlb c) else
-    if k == 2 then ByRunner (Trap SysBp c) else
-    Malformed
+    if k == 0 then ByRunner (Trap Program c) else (
+    if k == 1 then ByRunner (Trap Tlb c) else (
+    if k == 2 then ByRunner (Trap SysBp c) else (
+    Malformed)))
 
 -- "no pending device or one over 47" makes the event malformed
 unfoldable pub interrupt_of : Picked → ℕ → Event
@@ -38,13 +38,13 @@ unfoldable pub meaning : ℕ → List ℕ → Event
 meaning tag v =
     let a = get_or v 0 0 in
     let w = number (drop 1 v) in
-    if tag == send_tag then ByRunner (Send a w) else
-    if tag == receive_tag then ByRunner (Receive (wanted a)) else
-    if tag == request_tag then (if meets (argument_rule a) w then request a w else Malformed) else
-    if tag == trap_tag then trap_of a w else
-    if tag == tick_tag then Tick else
-    if tag == interrupt_tag then interrupt_of (pick (number (take 8 v))) (number (drop 8 v)) else
-    Malformed
+    if tag == send_tag then ByRunner (Send a w) else (
+    if tag == receive_tag then ByRunner (Receive (wanted a)) else (
+    if tag == request_tag then (if meets (argument_rule a) w then request a w else Malformed) else (
+    if tag == trap_tag then trap_of a w else (
+    if tag == tick_tag then Tick else (
+    if tag == interrupt_tag then interrupt_of (pick (number (take 8 v))) (number (drop 8 v)) else (
+    Malformed))))))
 
 -- "A field is a tag byte, a two-byte length, then the value; numbers are big-endian."
 unfoldable pub field_of : List ℕ → Event

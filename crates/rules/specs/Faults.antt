@@ -1,7 +1,7 @@
 -- Where bytes that are no dump are bad (document 02, CR 4): "Split it by cause and give the offset of the first byte of the field at
 -- fault, or the length of the input where a field is missing or cut." A list of offsets for each number, in the order of the bytes.
-use Rattle.std.specs.Prelude.{ℕ, ◌+◌, Bool, true, ◌&&◌, ◌||◌, not, List, [], ◌∷◌, ◌++◌, map, leb, ltb, length}
-use Rattle.rules.specs.Lists.{if◌then◌else◌, ◌==◌, all, any, keep, has}
+use Rattle.std.specs.Prelude.{ℕ, ◌+◌, Bool, true, ◌&&◌, ◌||◌, not, List, [], ◌∷◌, ◌++◌, map, leb, ltb, length, if◌then◌else◌, ◌==◌}
+use Rattle.rules.specs.Lists.{all, any, keep, has}
 use Rattle.rules.specs.Numbers.{Limits, names, full_slice, beat_ticks, devices}
 use Rattle.rules.specs.Words.{State, Manager, Managers, Working, Idle, Halted, Panicked, Verdict, by_state, by_wanted, by_manager}
 use Rattle.rules.specs.Words.{by_parent, by_runner}
@@ -108,13 +108,13 @@ message_fits v = is_name (at v 0) && is_name (at v 1) && kind_fits (at v 2)
 -- the value of a field, by its tag
 unfoldable pub value_fits : ℕ → List ℕ → Bool
 value_fits tag v =
-    if tag == head_tag then head_fits v else
-    if tag == thread_tag then thread_fits v else
-    if tag == ready_tag then all is_name v else
-    if tag == clock_tag then all is_name v else
-    if tag == message_tag then message_fits v else
-    if tag == held_tag then ltb (at v 0) devices else
-    true
+    if tag == head_tag then head_fits v else (
+    if tag == thread_tag then thread_fits v else (
+    if tag == ready_tag then all is_name v else (
+    if tag == clock_tag then all is_name v else (
+    if tag == message_tag then message_fits v else (
+    if tag == held_tag then ltb (at v 0) devices else (
+    true))))))
 
 -- a value of a wrong length is not looked at
 unfoldable pub out_of_range : Field → Bool
@@ -153,12 +153,12 @@ message_lives lives v = lives (at v 0) && lives (at v 1)
 
 unfoldable pub value_lives : (ℕ → Bool) → ℕ → List ℕ → Bool
 value_lives lives tag v =
-    if tag == head_tag then head_lives lives v else
-    if tag == thread_tag then thread_lives lives v else
-    if tag == ready_tag then all lives v else
-    if tag == clock_tag then all lives v else
-    if tag == message_tag then message_lives lives v else
-    true
+    if tag == head_tag then head_lives lives v else (
+    if tag == thread_tag then thread_lives lives v else (
+    if tag == ready_tag then all lives v else (
+    if tag == clock_tag then all lives v else (
+    if tag == message_tag then message_lives lives v else (
+    true)))))
 
 unfoldable pub names_nobody : (ℕ → Bool) → Field → Bool
 names_nobody lives f = not (wrong_length f) && not (value_lives lives f.tag f.value)

@@ -1,7 +1,6 @@
 -- Fields one behind the other: how long the first one of some bytes is, whether it is all there, and all that are. "A field is a tag
 -- byte, a two-byte length, then the value; numbers are big-endian."
-use Rattle.std.specs.Prelude.{ℕ, zero, suc, ◌+◌, ◌*◌, min, Bool, false, List, [], ◌∷◌, leb, length, take, drop}
-use Rattle.rules.specs.Lists.{if◌then◌else◌}
+use Rattle.std.specs.Prelude.{ℕ, zero, suc, ◌+◌, ◌*◌, min, Bool, false, List, [], ◌∷◌, leb, length, take, drop, if◌then◌else◌}
 
 -- "reading goes on behind their length; a field cut off by the end of input is the last": how long the first field of these bytes is
 unfoldable pub field_size : List ℕ → ℕ

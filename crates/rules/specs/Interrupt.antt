@@ -1,6 +1,6 @@
 -- Interrupt.
-use Rattle.std.specs.Prelude.{ℕ, Bool, not, List, ltb}
-use Rattle.rules.specs.Lists.{if◌then◌else◌, ◌==◌, any, keep, insert}
+use Rattle.std.specs.Prelude.{ℕ, Bool, not, List, ltb, if◌then◌else◌, ◌==◌}
+use Rattle.rules.specs.Lists.{any, keep, insert}
 use Rattle.rules.specs.Words.{Result, Held}
 use Rattle.rules.specs.Tables.{Tables, with_held}
 use Rattle.rules.specs.States.{waits_for}

@@ -1,14 +1,5 @@
 -- Tests, lists and big-endian bytes: what the rules are written with. Nothing here is of document 01.
-use Rattle.std.specs.Prelude.{ℕ, zero, suc, ◌+◌, ◌*◌, ◌/◌, ◌%◌, Bool, true, false, ◌&&◌, ◌||◌, List, [], ◌∷◌, ◌++◌, eqb, ltb}
-
-infixr 4 if◌then◌else◌
-abbrev pub if◌then◌else◌ {ℓ} : {A : Type ℓ} → Bool → A → A → A
-if true then a else b = a
-if false then a else b = b
-
-infix 45 ◌==◌
-abbrev pub ◌==◌ : ℕ → ℕ → Bool
-a == b = eqb a b
+use Rattle.std.specs.Prelude.{ℕ, zero, suc, ◌+◌, ◌*◌, ◌/◌, ◌%◌, Bool, true, false, ◌&&◌, ◌||◌, List, [], ◌∷◌, ◌++◌, eqb, ltb, cond, ◌==◌}
 
 -- 1 where a test holds, 0 where not
 abbrev pub one_if : Bool → ℕ
@@ -32,7 +23,7 @@ module _ {ℓ} {A : Type ℓ} where
   -- the elements that pass, in order
   unfoldable pub keep : (A → Bool) → List A → List A
   keep p [] = []
-  keep p (x ∷ xs) = if p x then x ∷ keep p xs else keep p xs
+  keep p (x ∷ xs) = cond (p x) (x ∷ keep p xs) (keep p xs)
 
   -- how many pass
   unfoldable pub count : (A → Bool) → List A → ℕ
@@ -45,12 +36,12 @@ module _ {ℓ} {A : Type ℓ} where
 
   unfoldable pub pull : (A → Bool) → List A → Pulled A
   pull p [] = missing
-  pull p (x ∷ xs) = if p x then pulled x xs else behind x (pull p xs)
+  pull p (x ∷ xs) = cond (p x) (pulled x xs) (behind x (pull p xs))
 
   -- x behind the elements that pass, before the first that does not: into its place in an ordered list
   unfoldable pub insert : (A → Bool) → A → List A → List A
   insert p a [] = a ∷ []
-  insert p a (x ∷ xs) = if p x then x ∷ insert p a xs else a ∷ x ∷ xs
+  insert p a (x ∷ xs) = cond (p x) (x ∷ insert p a xs) (a ∷ x ∷ xs)
 
   -- does r hold of each element and its successor?
   unfoldable pub chain : (A → A → Bool) → List A → Bool

@@ -1,6 +1,6 @@
 -- Reading a dump: the fields are cut, the tables built from them, the table rules tested, the dump written again and compared.
-use Rattle.std.specs.Prelude.{ℕ, ◌&&◌, List, map, take, drop, get_or}
-use Rattle.rules.specs.Lists.{if◌then◌else◌, ◌==◌, keep, each, same, number}
+use Rattle.std.specs.Prelude.{ℕ, ◌&&◌, List, map, take, drop, get_or, if◌then◌else◌, ◌==◌}
+use Rattle.rules.specs.Lists.{keep, each, same, number}
 use Rattle.rules.specs.Numbers.{Limits, nobody, service}
 use Rattle.rules.specs.Words.{TrapKind, Program, Tlb, SysBp, State, Running, Ready, Receiving, Clock, Device, Trapped, Answer}
 use Rattle.rules.specs.Words.{Nothing, FromMessage, FromNotice, SenderGone, Result, Manager, Unset, Set, Gone, Parent, NoParent}
@@ -34,27 +34,27 @@ abbrev pub parent_from : ℕ → Parent
 parent_from n = if n == nobody then NoParent else ParentIs n
 
 abbrev pub manager_from : ℕ → Manager
-manager_from n = if n == nobody then Unset else if n == service then Gone else Set n
+manager_from n = if n == nobody then Unset else (if n == service then Gone else Set n)
 
 abbrev pub trap_kind_from : ℕ → TrapKind
-trap_kind_from n = if n == 0 then Program else if n == 1 then Tlb else SysBp
+trap_kind_from n = if n == 0 then Program else (if n == 1 then Tlb else SysBp)
 
 abbrev pub state_from : ℕ → ℕ → State
 state_from n detail =
-    if n == 0 then Running else
-    if n == 1 then Ready else
-    if n == 2 then Receiving (wanted detail) else
-    if n == 3 then Clock else
-    if n == 4 then Device detail else
-    Trapped (trap_kind_from detail)
+    if n == 0 then Running else (
+    if n == 1 then Ready else (
+    if n == 2 then Receiving (wanted detail) else (
+    if n == 3 then Clock else (
+    if n == 4 then Device detail else (
+    Trapped (trap_kind_from detail))))))
 
 abbrev pub answer_from : ℕ → ℕ → ℕ → Answer
 answer_from kind sender w =
-    if kind == 0 then Nothing else
-    if kind == 1 then FromMessage sender w else
-    if kind == 2 then FromNotice sender w else
-    if kind == 3 then SenderGone sender else
-    Result w
+    if kind == 0 then Nothing else (
+    if kind == 1 then FromMessage sender w else (
+    if kind == 2 then FromNotice sender w else (
+    if kind == 3 then SenderGone sender else (
+    Result w))))
 
 abbrev pub message_kind_from : ℕ → MessageKind
 message_kind_from n = if n == 1 then Ordinary else Notice

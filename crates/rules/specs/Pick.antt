@@ -1,6 +1,6 @@
 -- The pick: which of the pending devices is served.
-use Rattle.std.specs.Prelude.{ℕ, ◌+◌, ◌-◌, ◌*◌, ◌/◌, ◌%◌, ◌^◌, Bool, List, [], ◌∷◌, ◌++◌, map}
-use Rattle.rules.specs.Lists.{if◌then◌else◌, ◌==◌, any, from_on}
+use Rattle.std.specs.Prelude.{ℕ, ◌+◌, ◌-◌, ◌*◌, ◌/◌, ◌%◌, ◌^◌, Bool, List, [], ◌∷◌, ◌++◌, map, if◌then◌else◌, ◌==◌}
+use Rattle.rules.specs.Lists.{any, from_on}
 use Rattle.rules.specs.Numbers.{nobody, devices, line_devices, terminals, pending_bits}
 use Rattle.rules.specs.Words.{Picked}
 

@@ -1,6 +1,6 @@
 -- Receive.
-use Rattle.std.specs.Prelude.{ℕ, Bool, ◌&&◌}
-use Rattle.rules.specs.Lists.{◌==◌, Pulled, missing, pulled, pull}
+use Rattle.std.specs.Prelude.{ℕ, Bool, ◌&&◌, ◌==◌}
+use Rattle.rules.specs.Lists.{Pulled, missing, pulled, pull}
 use Rattle.rules.specs.Words.{Wanted, Receiving, Nothing, Message}
 use Rattle.rules.specs.Tables.{Tables, with_messages}
 use Rattle.rules.specs.States.{matches}

@@ -1,6 +1,6 @@
 -- Refusals: one ordered list of tests, each with its number.
-use Rattle.std.specs.Prelude.{ℕ, Bool, true, false, ◌&&◌, not, List, [], ◌∷◌, leb, ltb, length}
-use Rattle.rules.specs.Lists.{if◌then◌else◌, ◌==◌, any}
+use Rattle.std.specs.Prelude.{ℕ, Bool, true, false, ◌&&◌, not, List, [], ◌∷◌, leb, ltb, length, if◌then◌else◌, ◌==◌}
+use Rattle.rules.specs.Lists.{any}
 use Rattle.rules.specs.Numbers.{Limits}
 use Rattle.rules.specs.Words.{Wanted, Status, Working, Idle, Halted, Panicked, Target, Oneself, Named, Call, Send, Receive}
 use Rattle.rules.specs.Words.{CreateBrother, CreateSon, Terminate, SetManager, GetCpuTime, WaitForClock, WaitForIo, Trap, Event}

@@ -1,6 +1,6 @@
 -- Send, and the decision of a trap's manager.
-use Rattle.std.specs.Prelude.{ℕ, zero, suc, Bool, ◌&&◌, not}
-use Rattle.rules.specs.Lists.{if◌then◌else◌, any, keep}
+use Rattle.std.specs.Prelude.{ℕ, zero, suc, Bool, ◌&&◌, not, if◌then◌else◌}
+use Rattle.rules.specs.Lists.{any, keep}
 use Rattle.rules.specs.Words.{Nothing, Thread, Ordinary, Message}
 use Rattle.rules.specs.Tables.{Tables, with_messages, named}
 use Rattle.rules.specs.States.{awaits}

@@ -1,6 +1,5 @@
 -- What a thread's state says: whom it hears, what it waits for.
-use Rattle.std.specs.Prelude.{ℕ, Bool, true, false, ◌||◌}
-use Rattle.rules.specs.Lists.{◌==◌}
+use Rattle.std.specs.Prelude.{ℕ, Bool, true, false, ◌||◌, ◌==◌}
 use Rattle.rules.specs.Words.{Wanted, State, Running, Ready, Receiving, Clock, Device, Trapped, Managers, Thread, by_state, by_wanted}
 use Rattle.rules.specs.Words.{by_manager}
 use Rattle.rules.specs.Tables.{manager}

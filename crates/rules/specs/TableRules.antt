@@ -1,7 +1,7 @@
 -- The table rules of document 01 ("Table rules: .."), a test for each, in its order.
 -- "Status is what Dispatch says" has none: it is computed and not kept. What a type rules out has none either.
-use Rattle.std.specs.Prelude.{ℕ, zero, suc, ◌+◌, Bool, true, false, ◌&&◌, ◌||◌, not, List, [], ◌∷◌, leb, ltb, length}
-use Rattle.rules.specs.Lists.{if◌then◌else◌, ◌==◌, one_if, all, any, count, chain, times_in, from_on}
+use Rattle.std.specs.Prelude.{ℕ, zero, suc, ◌+◌, Bool, true, false, ◌&&◌, ◌||◌, not, List, [], ◌∷◌, leb, ltb, length, if◌then◌else◌, ◌==◌}
+use Rattle.rules.specs.Lists.{one_if, all, any, count, chain, times_in, from_on}
 use Rattle.rules.specs.Numbers.{Limits, names, full_slice, beat_ticks, devices, wrap}
 use Rattle.rules.specs.Words.{State, Answer, Nothing, FromMessage, FromNotice, SenderGone, Result, Manager, Managers, Parent, Thread}
 use Rattle.rules.specs.Words.{Message, Runner, by_state, by_wanted, by_manager, by_parent, by_runner}

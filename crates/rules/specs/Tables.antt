@@ -1,6 +1,6 @@
 -- The tables, in the order in which the dump shows them, and the start.
-use Rattle.std.specs.Prelude.{ℕ, Bool, true, false, List, [], ◌∷◌, map}
-use Rattle.rules.specs.Lists.{if◌then◌else◌, ◌==◌, any}
+use Rattle.std.specs.Prelude.{ℕ, Bool, true, false, List, [], ◌∷◌, map, if◌then◌else◌, ◌==◌}
+use Rattle.rules.specs.Lists.{any}
 use Rattle.rules.specs.Numbers.{nobody, full_slice}
 use Rattle.rules.specs.Words.{TrapKind, Program, Tlb, SysBp, State, Running, Answer, Nothing, Manager, Unset, Managers, Parent}
 use Rattle.rules.specs.Words.{NoParent, Thread, Message, Held, Runner, Runs, by_runner}

@@ -1,7 +1,6 @@
 -- The one table of document 01 that step and program share: "Event tags", and the services with their argument rules. Then the fields of
 -- a dump. Every tag and every length of a field stands here once.
-use Rattle.std.specs.Prelude.{ℕ, suc, Bool, true, false, List, [], ◌∷◌, ltb}
-use Rattle.rules.specs.Lists.{if◌then◌else◌, ◌==◌}
+use Rattle.std.specs.Prelude.{ℕ, suc, Bool, true, false, List, [], ◌∷◌, ltb, if◌then◌else◌, ◌==◌}
 use Rattle.rules.specs.Numbers.{devices, nobody}
 use Rattle.rules.specs.Words.{Program, Tlb, SysBp, Target, Oneself, Named, Call, CreateBrother, CreateSon, Terminate, SetManager}
 use Rattle.rules.specs.Words.{GetCpuTime, WaitForClock, WaitForIo, TagFacts, DumpFacts, Argument, NoService, Zero, AnyName, ADevice}

@@ -1,6 +1,5 @@
 -- Tick.
-use Rattle.std.specs.Prelude.{ℕ, ◌+◌, ◌-◌, ◌%◌, []}
-use Rattle.rules.specs.Lists.{if◌then◌else◌, ◌==◌}
+use Rattle.std.specs.Prelude.{ℕ, ◌+◌, ◌-◌, ◌%◌, [], if◌then◌else◌, ◌==◌}
 use Rattle.rules.specs.Numbers.{beat_ticks, wrap}
 use Rattle.rules.specs.Words.{Nothing, Result, NoRunner, Runs, by_runner}
 use Rattle.rules.specs.Tables.{Tables, with_runner, with_time, with_clock, with_ticks, change}

@@ -1,6 +1,6 @@
 -- The moves that events share: threads become ready, a message or notice goes to a thread, the runner stops.
-use Rattle.std.specs.Prelude.{ℕ, Bool, true, false, ◌&&◌, not, List, [], ◌∷◌, ◌++◌, map, leb}
-use Rattle.rules.specs.Lists.{if◌then◌else◌, ◌==◌, any, keep, count, insert}
+use Rattle.std.specs.Prelude.{ℕ, Bool, true, false, ◌&&◌, not, List, [], ◌∷◌, ◌++◌, map, leb, if◌then◌else◌, ◌==◌}
+use Rattle.rules.specs.Lists.{any, keep, count, insert}
 use Rattle.rules.specs.Words.{State, Ready, Answer, Nothing, FromMessage, FromNotice, Thread, MessageKind, Ordinary, Notice, Message}
 use Rattle.rules.specs.Words.{NoRunner}
 use Rattle.rules.specs.Tables.{Tables, with_runner, with_threads, with_ready, with_messages, in_state, named, change}

@@ -1,4 +1,5 @@
 -- What the requests leave, in the words of the rules: a newcomer, an ending or a new entry, a runner that waits, a held word that is taken.
+use Rattle.std.proofs.Common.{if◌then◌else◌}
 use Prim.Native.Nat.{ℕ, ◌+◌, ◌≤◌, ◌<◌}
 use mathlib.Core.Path.{◌≡◌, refl, sym, ap, ◌∙◌}
 use mathlib.Core.Bool.{Bool, true, false, ◌||◌, not, false≢true}
@@ -6,7 +7,7 @@ use mathlib.Core.List.{List, [], ◌∷◌, ◌++◌}
 use native.Mathlib.Omega.{arith}
 use lib.Dec.{ltb}
 use lib.ListN.{length}
-use Rattle.rules.specs.Lists.{if◌then◌else◌, one_if, missing, pulled, any, keep, count, behind, pull, insert}
+use Rattle.rules.specs.Lists.{one_if, missing, pulled, any, keep, count, behind, pull, insert}
 use Rattle.rules.specs.Numbers.{names}
 use Rattle.rules.specs.Tables.{Tables, with_last, with_threads, with_ready, with_clock, with_held, live, of_thread, change, manager}
 use Rattle.rules.specs.Tables.{new_thread}

@@ -1,4 +1,5 @@
 -- The bytes of one field: the numbers in them, how long each tag's field is, and what the rules say of each exit of the decoder.
+use Rattle.std.proofs.Common.{if◌then◌else◌, ◌==◌}
 use Prim.Native.Nat.{ℕ, suc, ◌+◌, ◌*◌, ◌≤◌, ◌<◌}
 use mathlib.Core.Path.{◌≡◌, refl, ◌∙◌}
 use mathlib.Core.Logic.{◌≢◌}
@@ -10,7 +11,7 @@ use lib.Seq.{take_all, take-add, drop-drop, get_or-drop, drop-cons, drop-length}
 use mir.Syntax.{w8}
 use mir.Val.{Fits}
 use borrow.Author.Tests.{eqb-true, eq-eqb, ne_eqb, lt-ltb}
-use Rattle.rules.specs.Lists.{if◌then◌else◌, ◌==◌, all, is_byte, number_from, number}
+use Rattle.rules.specs.Lists.{all, is_byte, number_from, number}
 use Rattle.rules.specs.Numbers.{wrap}
 use Rattle.rules.specs.Tags.{facts_in, tag_facts, rule_in, argument_rule, meets}
 use Rattle.rules.specs.Pick.{pick}

@@ -1,6 +1,6 @@
 // Events as bytes: what one field means.
-ghost use Rattle.std.specs.Prelude.{◌≡◌, true, ◌+◌, ◌≤◌, ◌<◌, length, take, drop};
-ghost use Rattle.rules.specs.Lists.{if◌then◌else◌, number};
+ghost use Rattle.std.specs.Prelude.{◌≡◌, true, ◌+◌, ◌≤◌, ◌<◌, length, take, drop, if◌then◌else◌};
+ghost use Rattle.rules.specs.Lists.{number};
 ghost use Rattle.rules.specs.Pick.{pick as pick_of};
 ghost use Rattle.rules.specs.declared.Event.TheVariants.{ByRunner as ByTheRunner, Malformed as Rubbish};
 ghost use Rattle.rules.specs.Events.{request as request_of, trap_of as trap_for, interrupt_of as interrupt_for, meaning as meaning_of};

@@ -1,6 +1,5 @@
 // Refusals: the tests in the order of the list, each with its number; 0 where none refuses.
-ghost use Rattle.std.specs.Prelude.{◌≡◌, not, List, [], ◌∷◌};
-ghost use Rattle.rules.specs.Lists.{◌==◌};
+ghost use Rattle.std.specs.Prelude.{◌≡◌, not, List, [], ◌∷◌, ◌==◌};
 ghost use Rattle.rules.specs.declared.Call.TheVariants.{Send as SendCall, WaitForIo as IoCall};
 ghost use Rattle.rules.specs.Tables.{live};
 ghost use Rattle.rules.specs.Refusals.{over, wants_nobody as wants_nobody_of, ends_nobody as ends_nobody_of, call_rules, first_of};

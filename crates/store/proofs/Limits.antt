@@ -1,7 +1,7 @@
 -- What the store's users know of a memory that is Shaped, and of a search by name.
-use Rattle.std.proofs.Common.{◌≡◌, ℕ, ◌<◌, ◌≤◌, Bool, true, false, not, ◌||◌, ltb, ◌≢◌, List, [], ◌∷◌, length, get_or, sym, refl, ◌∙◌, arith, ltb-false, eq-eqb, ne_eqb}
+use Rattle.std.proofs.Common.{◌≡◌, ℕ, ◌<◌, ◌≤◌, Bool, true, false, not, ◌||◌, ltb, ◌≢◌, List, [], ◌∷◌, length, get_or, sym, refl, ◌∙◌, arith, ltb-false, eq-eqb, ne_eqb, if◌then◌else◌, ◌==◌}
 use borrow.Author.Tests.{not-true, not-false}
-use Rattle.rules.specs.Lists.{if◌then◌else◌, ◌==◌, any}
+use Rattle.rules.specs.Lists.{any}
 use Rattle.rules.specs.Numbers.{names, nobody}
 use Rattle.rules.specs.Tables.{named}
 use Rattle.laws.specs.Words.{Thread}

@@ -1,7 +1,7 @@
 -- The tables without those an ending has found, row by row: m became m₁ without their threads, that became m₂ without them in the ready
 -- queue, m₃ without them in the clock queue, m₄ without their messages; and a runner among them runs no more.
-use Rattle.std.proofs.Common.{◌≡◌, ℕ, ◌≤◌, Bool, true, false, not, ◌||◌, List, map, sym, refl, ap, ◌∙◌}
-use Rattle.rules.specs.Lists.{if◌then◌else◌, has, keep}
+use Rattle.std.proofs.Common.{◌≡◌, ℕ, ◌≤◌, Bool, true, false, not, ◌||◌, List, map, sym, refl, ap, ◌∙◌, if◌then◌else◌}
+use Rattle.rules.specs.Lists.{has, keep}
 use Rattle.rules.specs.Words.{by_runner}
 use Rattle.rules.specs.Tables.{Tables, with_runner, with_threads, with_ready, with_clock, with_messages}
 use Rattle.rules.specs.Ending.{without_managers, remove}

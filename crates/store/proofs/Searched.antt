@@ -1,6 +1,6 @@
 -- What a search of a memory's rows says of its tables.
-use Rattle.std.proofs.Common.{◌≡◌, ℕ, suc, ◌+◌, ◌<◌, ◌≤◌, Bool, true, false, not, ltb, List, [], ◌∷◌, ◌++◌, length, get_or, take, drop, set, sym, refl, ap, ◌∙◌, arith, get_or-take}
-use Rattle.rules.specs.Lists.{if◌then◌else◌, count, insert}
+use Rattle.std.proofs.Common.{◌≡◌, ℕ, suc, ◌+◌, ◌<◌, ◌≤◌, Bool, true, false, not, ltb, List, [], ◌∷◌, ◌++◌, length, get_or, take, drop, set, sym, refl, ap, ◌∙◌, arith, get_or-take, if◌then◌else◌}
+use Rattle.rules.specs.Lists.{count, insert}
 use Rattle.rules.specs.Numbers.{nobody}
 use Rattle.rules.specs.Tables.{with_threads, named, live, of_thread, change}
 use Rattle.laws.specs.Words.{Thread}

@@ -1,7 +1,7 @@
 -- What a memory stands for after a row of it was written.
-use Rattle.std.proofs.Common.{◌≡◌, ℕ, ◌≤◌, Bool, true, false, ltb, List, [], map, take, sym, refl, ap, ◌∙◌, arith}
+use Rattle.std.proofs.Common.{◌≡◌, ℕ, ◌≤◌, Bool, true, false, ltb, List, [], map, take, sym, refl, ap, ◌∙◌, arith, if◌then◌else◌}
 use borrow.Author.Tests.{eqb-false}
-use Rattle.rules.specs.Lists.{if◌then◌else◌, any, keep, count, insert}
+use Rattle.rules.specs.Lists.{any, keep, count, insert}
 use Rattle.rules.specs.Tables.{Tables, with_last, with_runner, with_time, with_threads, with_ready, with_clock, with_messages, with_held}
 use Rattle.rules.specs.Tables.{named}
 use Rattle.laws.specs.Words.{Thread, Message, Held, Runner}

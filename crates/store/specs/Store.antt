@@ -1,7 +1,7 @@
 -- What a memory stands for, in the words of the contracts. All that is above the store speaks of these; none of it looks inside Shaped
 -- and Holding.
-use Rattle.std.specs.Prelude.{◌≡◌, ℕ, ◌≤◌, Bool, List, [], ◌∷◌}
-use Rattle.rules.specs.Lists.{if◌then◌else◌, count, Pulled, missing, pulled}
+use Rattle.std.specs.Prelude.{◌≡◌, ℕ, ◌≤◌, Bool, List, [], ◌∷◌, if◌then◌else◌}
+use Rattle.rules.specs.Lists.{count, Pulled, missing, pulled}
 use Rattle.rules.specs.Numbers.{Limits, nobody}
 use Rattle.laws.specs.Words.{Thread, Message, Answer}
 use Rattle.laws.specs.Types.{Rising}

@@ -1,4 +1,5 @@
 -- A test on the words of a state, by what each word can say.
+use Rattle.std.proofs.Common.{if◌then◌else◌, ◌==◌}
 use Prim.Native.Nat.{ℕ, zero, suc, ◌+◌, ◌<◌, ◌≤◌}
 use mathlib.Core.Path.{◌≡◌, refl, sym}
 use mathlib.Core.Bool.{Bool, true, false, not}
@@ -6,7 +7,6 @@ use mathlib.Core.List.{List}
 use native.Mathlib.Omega.{arith}
 use lib.Dec.{ltb}
 use borrow.Author.Tests.{eqb-true, ne_eqb, lt-ltb}
-use Rattle.rules.specs.Lists.{if◌then◌else◌, ◌==◌}
 use Rattle.rules.specs.Words.{by_manager}
 use Rattle.rules.specs.Tables.{manager}
 use Rattle.rules.specs.States.{on_clock, receives, at_device, wakes_from_outside, trapped_on, awaits}

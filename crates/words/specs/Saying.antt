@@ -1,7 +1,6 @@
 -- What the words of the memory say. Every word says something. A word that would not be written for what it says (a name that is no byte,
 -- a detail where there is none) says something that no table rule allows, so that a flipped bit is found by the table rules alone.
-use Rattle.std.specs.Prelude.{ℕ, ◌+◌, ◌-◌, ◌&&◌, List, [], ◌∷◌, ltb, get_or}
-use Rattle.rules.specs.Lists.{if◌then◌else◌, ◌==◌}
+use Rattle.std.specs.Prelude.{ℕ, ◌+◌, ◌-◌, ◌&&◌, List, [], ◌∷◌, ltb, get_or, if◌then◌else◌, ◌==◌}
 use Rattle.rules.specs.Numbers.{nobody}
 use Rattle.laws.specs.Words.{Wanted, Anybody, Only, Program, Tlb, SysBp, State, Running, Ready, Receiving, Clock, Device, Trapped}
 use Rattle.laws.specs.Words.{Answer, Nothing, FromMessage, FromNotice, SenderGone, Result, Manager, Unset, Set, Gone, Parent}
@@ -27,7 +26,7 @@ parent_in w = if w == past_bytes then NoParent else ParentIs (byte w)
 
 -- "gone" is the word behind "no name"
 abbrev pub manager_in : ℕ → Manager
-manager_in w = if w == past_bytes then Unset else if w == past_bytes + 1 then Gone else Set (byte w)
+manager_in w = if w == past_bytes then Unset else (if w == past_bytes + 1 then Gone else Set (byte w))
 
 abbrev pub wanted_in : ℕ → Wanted
 wanted_in w = if w == past_bytes then Anybody else Only (byte w)
@@ -37,7 +36,7 @@ abbrev pub wrong_state : State
 wrong_state = Device nobody
 
 abbrev pub trapped_in : ℕ → State
-trapped_in d = if d == 0 then Trapped Program else if d == 1 then Trapped Tlb else if d == 2 then Trapped SysBp else wrong_state
+trapped_in d = if d == 0 then Trapped Program else (if d == 1 then Trapped Tlb else (if d == 2 then Trapped SysBp else wrong_state))
 
 -- a state that has no detail is written with the detail 0
 abbrev pub without_detail : State → ℕ → State
@@ -45,13 +44,13 @@ without_detail s d = if d == 0 then s else wrong_state
 
 unfoldable pub state_in : ℕ → ℕ → State
 state_in w d =
-    if w == 0 then without_detail Running d else
-    if w == 1 then without_detail Ready d else
-    if w == 2 then Receiving (wanted_in d) else
-    if w == 3 then without_detail Clock d else
-    if w == 4 then Device (byte d) else
-    if w == 5 then trapped_in d else
-    wrong_state
+    if w == 0 then without_detail Running d else (
+    if w == 1 then without_detail Ready d else (
+    if w == 2 then Receiving (wanted_in d) else (
+    if w == 3 then without_detail Clock d else (
+    if w == 4 then Device (byte d) else (
+    if w == 5 then trapped_in d else (
+    wrong_state))))))
 
 -- no answer has this sender
 abbrev pub wrong_answer : Answer
@@ -59,12 +58,12 @@ wrong_answer = FromMessage nobody 0
 
 unfoldable pub answer_in : ℕ → ℕ → ℕ → Answer
 answer_in k s w =
-    if k == 0 then (if (s == 0) && (w == 0) then Nothing else wrong_answer) else
-    if k == 1 then FromMessage (byte s) w else
-    if k == 2 then FromNotice (byte s) w else
-    if k == 3 then (if w == 0 then SenderGone (byte s) else wrong_answer) else
-    if k == 4 then (if s == 0 then Result w else wrong_answer) else
-    wrong_answer
+    if k == 0 then (if (s == 0) && (w == 0) then Nothing else wrong_answer) else (
+    if k == 1 then FromMessage (byte s) w else (
+    if k == 2 then FromNotice (byte s) w else (
+    if k == 3 then (if w == 0 then SenderGone (byte s) else wrong_answer) else (
+    if k == 4 then (if s == 0 then Result w else wrong_answer) else (
+    wrong_answer)))))
 
 -- the eleven words of a thread: name, parent, state, detail, three managers, ticks, and its answer's kind, sender and word
 unfoldable pub thread_in : List ℕ → Thread
@@ -92,7 +91,7 @@ message_in w = record { to = byte (word w 0); from = sender_in (word w 1); kind 
 
 -- ---- held words: two words for each device, 1 and the word, or 0
 unfoldable pub held_in : ℕ → ℕ → ℕ → List Held
-held_in d f w = if f == 0 then [] else if f == 1 then record { device = d; word = w } ∷ [] else record { device = nobody; word = w } ∷ []
+held_in d f w = if f == 0 then [] else (if f == 1 then record { device = d; word = w } ∷ [] else record { device = nobody; word = w } ∷ [])
 
 -- ---- the runner and its slice; "no name" and 0 where nobody runs
 unfoldable pub runner_in : ℕ → ℕ → Runner

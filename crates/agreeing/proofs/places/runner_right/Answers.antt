@@ -1,8 +1,8 @@
 -- `places::runner_right` meets its contract: by whether anybody runs.
+use Rattle.std.proofs.Common.{◌==◌}
 use Prim.Native.Nat.{ℕ}
 use mathlib.Core.Path.{sym, ap, ◌∙◌}
 use borrow.Author.Tests.{le-leb, lt-leb}
-use Rattle.rules.specs.Lists.{◌==◌}
 use Rattle.memory.proofs.Sizes.{ready_count}
 use Rattle.store.specs.Store.{Shaped, tables}
 use Rattle.indexing.proofs.Passing.{roomy}

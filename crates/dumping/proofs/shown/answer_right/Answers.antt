@@ -1,9 +1,9 @@
 -- `shown::answer_right` meets its contract, test by test.
+use Rattle.std.proofs.Common.{◌==◌}
 use Prim.Native.Nat.{ℕ}
 use mathlib.Core.Path.{◌≡◌}
 use mathlib.Core.Bool.{false, ◌&&◌}
 use mathlib.Core.Logic.{◌⊎◌, ⊎_elim}
-use Rattle.rules.specs.Lists.{◌==◌}
 use borrow.Author.Tests.{eq-eqb, ne_eqb}
 use Rattle.dumping.specs.Shown.{answer_right}
 use Rattle.dumping.proofs.shown.answer_right.Goals as goal

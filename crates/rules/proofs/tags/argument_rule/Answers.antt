@@ -1,12 +1,12 @@
 -- `rules::tags::argument_rule` meets its contract: `at` tests the whole table against the rules' table, and
 -- `throughout` the numbers past it. The table is read off the goal, so it stands in src/ alone.
+use Rattle.std.proofs.Common.{◌==◌}
 use Prim.Native.Nat.{ℕ, zero, suc, ◌<◌}
 use mathlib.Core.Path.{◌≡◌, refl, sym, ap, ◌∙◌}
 use mathlib.Core.Bool.{Bool}
 use native.Mathlib.Nat.{zero-add}
 use native.Mathlib.Omega.{arith}
 use lib.Dec.{T, eqb→eq}
-use Rattle.rules.specs.Lists.{◌==◌}
 use Rattle.rules.specs.Words.{Argument, NoService, Zero, AnyName, ADevice}
 use Rattle.rules.specs.Tags.{argument_rule as rule_of, rule_in}
 use Rattle.rules.proofs.Table.{at, throughout}

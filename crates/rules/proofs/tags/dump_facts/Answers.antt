@@ -1,11 +1,11 @@
 -- `rules::tags::dump_facts` meets its contract: `at` tests the whole table against the rules' table, and
 -- `throughout` the numbers below it and past it. The table is read off the goal, so it stands in src/ alone.
+use Rattle.std.proofs.Common.{◌==◌}
 use Prim.Native.Nat.{◌+◌, ◌-◌, ◌<◌}
 use mathlib.Core.Path.{◌≡◌, refl}
 use mathlib.Core.Bool.{Bool, true, false, beq, ◌&&◌}
 use native.Mathlib.Omega.{arith}
 use lib.Dec.{T, eqb→eq}
-use Rattle.rules.specs.Lists.{◌==◌}
 use Rattle.rules.specs.Words.{DumpFacts}
 use Rattle.rules.specs.Tags.{dump_facts as facts_of, dump_facts_in}
 use Rattle.rules.proofs.Table.{both, at, throughout}

@@ -1,8 +1,8 @@
 -- `looks::awaits` answers as the rule, by the words.
+use Rattle.std.proofs.Common.{◌==◌}
 use mathlib.Core.Path.{sym, ap, ◌∙◌}
 use mathlib.Core.Bool.{false}
 use native.Mathlib.Omega.{arith}
-use Rattle.rules.specs.Lists.{◌==◌}
 use Rattle.rules.specs.Words.{by_manager}
 use Rattle.laws.specs.Words.{Manager}
 use Rattle.words.proofs.Looking.{not_trapped, trapped_by, trapped_wrong}

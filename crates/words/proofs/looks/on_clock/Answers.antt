@@ -1,6 +1,6 @@
 -- `looks::on_clock` answers as the rule, by the words.
+use Rattle.std.proofs.Common.{◌==◌}
 use mathlib.Core.Path.{sym}
-use Rattle.rules.specs.Lists.{◌==◌}
 use Rattle.words.specs.Saying.{state_in}
 use Rattle.words.proofs.Looking.{no_clock, beat}
 use Rattle.words.proofs.looks.on_clock.Goals as goal

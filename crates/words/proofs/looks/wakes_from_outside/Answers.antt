@@ -1,6 +1,6 @@
 -- `looks::wakes_from_outside` answers as the rule, by the words.
+use Rattle.std.proofs.Common.{◌==◌}
 use mathlib.Core.Path.{refl, sym}
-use Rattle.rules.specs.Lists.{◌==◌}
 use Rattle.rules.specs.States.{wakes_from_outside, on_clock}
 use Rattle.laws.specs.Words.{Running, Ready}
 use Rattle.words.specs.Saying.{state_in}
