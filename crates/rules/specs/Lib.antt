@@ -16,6 +16,7 @@ pub mod Pick
 pub mod Tags
 pub mod Events
 pub mod Refusals
+pub mod Refused
 pub mod Codes
 pub mod Step
 pub mod Runs

@@ -1,28 +1,29 @@
 // The vocabulary of document 01, as types. The rules in specs/ speak of lists of these very types.
 // The document's numbers for the cases stand in specs/Codes.antt.
-#![tactic(auto)]
+#![tactic(auto, unfolding(crate::specs::Refused::refusal_number, crate::specs::Refused::refusal_told))]
 
 pub mod codes;
 pub mod numbers;
 pub mod pick;
+pub mod refusal;
 pub mod tags;
 
 // Whom a thread receives from.
-#[derive(Clone, Copy)]
+#[derive(Clone, Copy, PartialEq, Eq)]
 pub enum Wanted {
     Anybody,
     Only(u8),
 }
 
 // The kinds of trap, 0 to 2.
-#[derive(Clone, Copy)]
+#[derive(Clone, Copy, PartialEq, Eq)]
 pub enum TrapKind {
     Program,
     Tlb,
     SysBp,
 }
 
-#[derive(Clone, Copy)]
+#[derive(Clone, Copy, PartialEq, Eq)]
 pub enum State {
     Running,
     Ready,
@@ -33,7 +34,7 @@ pub enum State {
 }
 
 // What is handed to a thread when it runs: a sender and a word, as far as the kind has them.
-#[derive(Clone, Copy)]
+#[derive(Clone, Copy, PartialEq, Eq)]
 pub enum Answer {
     Nothing,
     FromMessage(u8, u32),
@@ -43,7 +44,7 @@ pub enum Answer {
 }
 
 // One of a thread's three manager entries.
-#[derive(Clone, Copy)]
+#[derive(Clone, Copy, PartialEq, Eq)]
 pub enum Manager {
     Unset,
     Set(u8),
@@ -57,7 +58,7 @@ pub struct Managers {
     pub sysbp: Manager,
 }
 
-#[derive(Clone, Copy)]
+#[derive(Clone, Copy, PartialEq, Eq)]
 pub enum Parent {
     NoParent,
     ParentIs(u8),
@@ -73,7 +74,7 @@ pub struct Thread {
     pub answer: Answer,
 }
 
-#[derive(Clone, Copy)]
+#[derive(Clone, Copy, PartialEq, Eq)]
 pub enum MessageKind {
     Ordinary,
     Notice,
@@ -96,13 +97,13 @@ pub struct Held {
 }
 
 // Who runs, with what is left of its slice.
-#[derive(Clone, Copy)]
+#[derive(Clone, Copy, PartialEq, Eq)]
 pub enum Runner {
     NoRunner,
     Runs(u8, u8),
 }
 
-#[derive(Clone, Copy)]
+#[derive(Clone, Copy, PartialEq, Eq)]
 pub enum Status {
     Running,
     Idle,
@@ -111,14 +112,14 @@ pub enum Status {
 }
 
 // Whom request 3 ends.
-#[derive(Clone, Copy)]
+#[derive(Clone, Copy, PartialEq, Eq)]
 pub enum Target {
     Oneself,
     Named(u8),
 }
 
 // What a runner asks for: tags 16 to 19.
-#[derive(Clone, Copy)]
+#[derive(Clone, Copy, PartialEq, Eq)]
 pub enum Call {
     Send(u8, u32),
     Receive(Wanted),
@@ -133,7 +134,7 @@ pub enum Call {
 }
 
 // What the bytes of one field mean. An interrupt has the picked device and its status word.
-#[derive(Clone, Copy)]
+#[derive(Clone, Copy, PartialEq, Eq)]
 pub enum Event {
     Malformed,
     ByRunner(Call),
@@ -185,7 +186,7 @@ pub struct Verdict {
 }
 
 // What a service's argument must be.
-#[derive(Clone, Copy)]
+#[derive(Clone, Copy, PartialEq, Eq)]
 pub enum Argument {
     NoService,
     Zero,
