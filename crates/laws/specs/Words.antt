@@ -33,3 +33,4 @@ pub use Rattle.rules.specs.declared.Picked.{Picked}
 pub use Rattle.rules.specs.declared.TagFacts.{TagFacts}
 pub use Rattle.rules.specs.declared.Argument.{Argument}
 pub use Rattle.rules.specs.declared.Argument.TheVariants.{NoService, Zero, AnyName, ADevice}
+pub use Rattle.rules.specs.declared.numbers.Limits.{Limits}

@@ -4,7 +4,8 @@ use mathlib.Core.Path.{◌≡◌, refl, ap, ◌∙◌}
 use mathlib.Core.Bool.{true, false}
 use mathlib.Core.List.{List}
 use native.Mathlib.Omega.{arith}
-use Rattle.rules.specs.Numbers.{Limits, small}
+use Rattle.rules.specs.Numbers.{small}
+use Rattle.laws.specs.Words.{Limits}
 use Rattle.rules.specs.Tables.{start}
 use Rattle.rules.specs.Step.{step}
 use Rattle.rules.specs.declared.Decision.{Decision}

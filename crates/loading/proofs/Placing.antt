@@ -8,7 +8,8 @@ use native.Mathlib.Omega.{arith}
 use lib.ListN.{length, take, drop, get_or, set, length-set, length-append, length-drop, get_or-append}
 use lib.Seq.{take-suc, take_all, drop-cons, length-take-le, append_snoc, set-append_seam, ext_get_or}
 use Rattle.rules.specs.Lists.{each, from_on}
-use Rattle.rules.specs.Numbers.{Limits, small, devices}
+use Rattle.rules.specs.Numbers.{small, devices}
+use Rattle.laws.specs.Words.{Limits}
 use Rattle.rules.specs.TableRules.{table_rules}
 use Rattle.laws.proofs.Tests.{and_left, and_right, ◌&◌}
 use Rattle.words.specs.Saying.{word, byte, thread_in, message_in, held_in}

@@ -199,7 +199,7 @@ pub fn read_fields(m: &mut [u32], bytes: &[u8]) -> bool
     if !opening::opens(bytes, tags::HEAD, tags::HEAD_SIZE) {
         return false;
     }
-    store::clear(m, numbers::THREADS as u32, numbers::BLOCKS as u32);
+    store::clear(m, numbers::SMALL);
     read_head(m, bytes);
     read_rest(m, bytes)
 }

@@ -13,6 +13,7 @@ ghost use Rattle.memory.specs.Rows.{put_beats, put_count, put_readies, put_clock
 ghost use Rattle.memory.specs.Rows.{put_clock, put_messages, put_held, put_ended};
 ghost use Rattle.memory.specs.Memory.{part, rows_of};
 
+use rules::numbers::Limits;
 use rules::{
     Answer, Manager, Message, MessageKind, Parent, Runner, State, Thread, TrapKind, numbers,
 };
@@ -598,14 +599,14 @@ fn clear_all_held(m: &mut [u32])
 }
 
 // Whatever stood there, the memory has these limits and holds nothing.
-pub fn clear(m: &mut [u32], threads: u32, blocks: u32)
-    requires { Room (record { threads = threads; blocks = blocks }) (length m.old) }
+pub fn clear(m: &mut [u32], l: Limits)
+    requires { Room l (length m.old) }
     ensures { (view (rows_of m.new) ≡ nothing)
-        × ((rows_of m.new).limits ≡ record { threads = threads; blocks = blocks }) × ((rows_of m.new).count ≡ 0)
+        × ((rows_of m.new).limits ≡ l) × ((rows_of m.new).count ≡ 0)
         × ((rows_of m.new).readies ≡ 0) × ((rows_of m.new).clocks ≡ 0) × ((rows_of m.new).letters ≡ 0) }
 {
-    m[LIMIT] = threads;
-    m[BLOCKS] = blocks;
+    m[LIMIT] = l.threads;
+    m[BLOCKS] = l.blocks;
     m[LAST] = 0;
     m[SINCE] = 0;
     m[BEATS] = 0;
@@ -620,31 +621,25 @@ pub fn clear(m: &mut [u32], threads: u32, blocks: u32)
 // ---- a memory of any length and contents
 
 // Is it long enough for these limits, and has it them and counts within them in its head?
-pub fn shaped(m: &[u32], threads: u32, blocks: u32) -> bool
-    requires { (threads < names) × (blocks ≤ most_blocks) }
-    ensures { result ≡ Shaped_of (record { threads = threads; blocks = blocks }) m.now }
+#[tactic(auto, unfolding(crate::specs::Shape::shaped, rules::specs::Lists::all))]
+pub fn shaped(m: &[u32], l: Limits) -> bool
+    requires { (l.threads < names) × (l.blocks ≤ most_blocks) }
+    ensures { result ≡ Shaped_of l m.now }
 {
-    let messages = threads + blocks;
-    let need = THREADS + (threads as usize) * RECORD + (messages as usize) * MESSAGE;
+    let messages = l.threads + l.blocks;
+    let need = THREADS + (l.threads as usize) * RECORD + (messages as usize) * MESSAGE;
     if m.len() < need {
         return false;
     }
-    if m[LIMIT] != threads {
-        return false;
-    }
-    if m[BLOCKS] != blocks {
-        return false;
-    }
-    if m[COUNT] > threads {
-        return false;
-    }
-    if m[READIES] > threads {
-        return false;
-    }
-    if m[CLOCKS] > threads {
-        return false;
-    }
-    m[LETTERS] <= messages
+    let right = [
+        m[LIMIT] == l.threads,
+        m[BLOCKS] == l.blocks,
+        m[COUNT] <= l.threads,
+        m[READIES] <= l.threads,
+        m[CLOCKS] <= l.threads,
+        m[LETTERS] <= messages,
+    ];
+    right.iter().all(|r| *r)
 }
 
 // ---- words as they stand, for a dump

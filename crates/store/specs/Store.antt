@@ -2,7 +2,8 @@
 -- and Holding.
 use Rattle.std.specs.Prelude.{◌≡◌, ℕ, ◌≤◌, Bool, List, [], ◌∷◌, if◌then◌else◌}
 use Rattle.rules.specs.Lists.{count, Pulled, missing, pulled}
-use Rattle.rules.specs.Numbers.{Limits, nobody}
+use Rattle.rules.specs.Numbers.{nobody}
+use Rattle.laws.specs.Words.{Limits}
 use Rattle.laws.specs.Words.{Thread, Message, Answer}
 use Rattle.laws.specs.Types.{Rising}
 use Rattle.rules.specs.Tables.{Tables, named, with_messages}
