@@ -13,7 +13,7 @@ use checking::check;
 use fields::cuts;
 use lending::Tables;
 use lending::step::no_tables;
-use rules::{Decision, codes, numbers};
+use rules::{Decision, numbers};
 use stepping::step;
 
 // How a batch was taken: the refusal, and how many bytes are read.
@@ -32,9 +32,9 @@ fn put_decision(out: &mut [u32], d: Decision) -> usize
     out[0] = d.refusal as u32;
     out[1] = d.status as u32;
     out[2] = d.runner as u32;
-    out[3] = codes::kind_code(a) as u32;
-    out[4] = codes::sender_code(a) as u32;
-    out[5] = codes::word_code(a);
+    out[3] = a.kind() as u32;
+    out[4] = a.sender() as u32;
+    out[5] = a.word();
     numbers::DECISION
 }
 

@@ -14,7 +14,7 @@ ghost use Rattle.dumping.specs.Shown.{thread_front};
 use crate::shown;
 use handling::dispatch;
 use memory::memory as rows;
-use rules::{Message, codes, numbers, tags};
+use rules::{Message, numbers, tags};
 use store;
 use words::saying;
 
@@ -28,9 +28,9 @@ fn write_head(m: &[u32], out: &mut [u8]) -> usize
 {
     let s = dispatch::status(m);
     let r = store::runner(m);
-    let status = codes::status_code(s);
-    let runner = codes::runner_code(r);
-    let slice = codes::slice_code(r);
+    let status = u8::from(s);
+    let runner = r.name();
+    let slice = r.slice();
     let last = store::last(m);
     let since = store::since(m);
     let beats = store::beats(m);
@@ -122,7 +122,7 @@ fn write_message(x: Message, out: &mut [u8]) -> usize
 {
     let kind = x.kind;
     buffer::put_head(out, tags::MESSAGE, tags::MESSAGE_SIZE);
-    buffer::put_three(&mut out[3..], x.to, x.from, codes::message_code(kind));
+    buffer::put_three(&mut out[3..], x.to, x.from, u8::from(kind));
     buffer::put_word(&mut out[6..], x.word);
     tags::MESSAGE_FIELD
 }

@@ -161,14 +161,14 @@ fn thread_lives(names: &[u8; 256], v: &[u8]) -> bool
     if !parent_lives(names, parent) {
         return false;
     }
-    let s = codes::state_from(v[2], v[3]);
+    let s = State::from_numbers(v[2], v[3]);
     if !wanted_lives(names, s) {
         return false;
     }
     let g = Managers {
-        program: codes::manager_from(v[4]),
-        tlb: codes::manager_from(v[5]),
-        sysbp: codes::manager_from(v[6]),
+        program: Manager::from(v[4]),
+        tlb: Manager::from(v[5]),
+        sysbp: Manager::from(v[6]),
     };
     if !entries_live(names, g) {
         return false;

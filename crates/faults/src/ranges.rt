@@ -14,7 +14,7 @@ ghost use Rattle.rules.specs.Faults.{head_fits as head_fits_of, thread_fits as t
 ghost use Rattle.rules.specs.Faults.{value_fits as value_fits_of, out_of_range as out_of_range_of};
 
 use crate::{lengths, values};
-use rules::{Answer, Parent, Runner, State, Wanted, codes, numbers, tags};
+use rules::{Answer, MessageKind, Parent, Runner, State, Wanted, codes, numbers, tags};
 
 // Statuses are 0 to 3.
 const STATUSES: u8 = 4;
@@ -56,7 +56,7 @@ fn runner_fits(n: u8, slice: u8) -> bool
     ensures { result ≡ runner_fits_of n slice }
 {
     let r = values::runner_from(n, slice);
-    if slice != codes::slice_code(r) {
+    if slice != r.slice() {
         return false;
     }
     runner_right(r)
@@ -96,11 +96,11 @@ fn state_right(s: State) -> bool
 fn state_fits(n: u8, detail: u8) -> bool
     ensures { result ≡ state_fits_of n detail }
 {
-    let s = codes::state_from(n, detail);
-    if n != codes::state_code(s) {
+    let s = State::from_numbers(n, detail);
+    if n != s.number() {
         return false;
     }
-    if detail != codes::detail_code(s) {
+    if detail != s.detail() {
         return false;
     }
     state_right(s)
@@ -121,14 +121,14 @@ fn answer_right(a: Answer) -> bool
 fn answer_fits(kind: u8, sender: u8, word: u32) -> bool
     ensures { result ≡ answer_fits_of kind sender word }
 {
-    let a = codes::answer_from(kind, sender, word);
-    if kind != codes::kind_code(a) {
+    let a = Answer::from_numbers(kind, sender, word);
+    if kind != a.kind() {
         return false;
     }
-    if sender != codes::sender_code(a) {
+    if sender != a.sender() {
         return false;
     }
-    if word != codes::word_code(a) {
+    if word != a.word() {
         return false;
     }
     answer_right(a)
@@ -137,7 +137,7 @@ fn answer_fits(kind: u8, sender: u8, word: u32) -> bool
 fn kind_fits(n: u8) -> bool
     ensures { result ≡ kind_fits_of n }
 {
-    n == codes::message_code(codes::message_kind_from(n))
+    n == u8::from(MessageKind::from(n))
 }
 
 // Field 1.

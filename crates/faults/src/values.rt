@@ -4,7 +4,9 @@ ghost use Rattle.std.specs.Prelude.{◌≡◌, ◌+◌, ◌≤◌, ◌<◌, leng
 ghost use Rattle.rules.specs.Tags.{thread_size, message_size, held_size};
 ghost use Rattle.rules.specs.Load.{runner_from, word_at as word_of, thread_from, message_from, held_from};
 
-use rules::{Held, Managers, Message, Runner, Thread, codes, numbers};
+use rules::{
+    Answer, Held, Manager, Managers, Message, MessageKind, Runner, State, Thread, codes, numbers,
+};
 
 fn wide(b: u8) -> u32
     ensures { (result ≡ b) × (result < 256) }
@@ -42,14 +44,14 @@ pub fn read_thread(v: &[u8]) -> Thread
     Thread {
         name: v[0],
         parent: codes::parent_from(v[1]),
-        state: codes::state_from(v[2], v[3]),
+        state: State::from_numbers(v[2], v[3]),
         managers: Managers {
-            program: codes::manager_from(v[4]),
-            tlb: codes::manager_from(v[5]),
-            sysbp: codes::manager_from(v[6]),
+            program: Manager::from(v[4]),
+            tlb: Manager::from(v[5]),
+            sysbp: Manager::from(v[6]),
         },
         ticks: word_at(v, 7),
-        answer: codes::answer_from(v[11], v[12], word_at(v, 13)),
+        answer: Answer::from_numbers(v[11], v[12], word_at(v, 13)),
     }
 }
 
@@ -61,7 +63,7 @@ pub fn read_message(v: &[u8]) -> Message
     Message {
         to: v[0],
         from: v[1],
-        kind: codes::message_kind_from(v[2]),
+        kind: MessageKind::from(v[2]),
         word: word_at(v, 3),
     }
 }

@@ -38,10 +38,10 @@ fn put_head(out: &mut [u8], m: &[u32]) -> usize
     let r = store::runner(m);
     let row = [
         HEAD,
-        codes::status_code(s) as u64,
+        u8::from(s) as u64,
         store::last(m) as u64,
-        codes::runner_code(r) as u64,
-        codes::slice_code(r) as u64,
+        r.name() as u64,
+        r.slice() as u64,
         store::since(m) as u64,
         store::beats(m) as u64,
     ];
@@ -63,15 +63,15 @@ fn put_thread(out: &mut [u8], t: Thread) -> usize
         THREAD,
         t.name as u64,
         codes::parent_code(p) as u64,
-        codes::state_code(s) as u64,
-        codes::detail_code(s) as u64,
-        codes::manager_code(program) as u64,
-        codes::manager_code(tlb) as u64,
-        codes::manager_code(sysbp) as u64,
+        s.number() as u64,
+        s.detail() as u64,
+        u8::from(program) as u64,
+        u8::from(tlb) as u64,
+        u8::from(sysbp) as u64,
         t.ticks as u64,
-        codes::kind_code(a) as u64,
-        codes::sender_code(a) as u64,
-        codes::word_code(a) as u64,
+        a.kind() as u64,
+        a.sender() as u64,
+        a.word() as u64,
     ];
     decimal::put_numbers(out, &row)
 }
@@ -134,7 +134,7 @@ fn put_message(out: &mut [u8], x: Message) -> usize
         MESSAGE,
         x.to as u64,
         x.from as u64,
-        codes::message_code(k) as u64,
+        u8::from(k) as u64,
         x.word as u64,
     ];
     decimal::put_numbers(out, &row)

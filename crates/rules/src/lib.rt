@@ -1,6 +1,6 @@
 // The vocabulary of document 01, as types. The rules in specs/ speak of lists of these very types.
 // The document's numbers for the cases stand in specs/Codes.antt.
-#![tactic(auto, unfolding(crate::specs::Refused::refusal_number, crate::specs::Refused::refusal_told))]
+#![tactic(auto, unfolding(crate::specs::Refused::refusal_number, crate::specs::Refused::refusal_told, crate::specs::Tables::me, crate::specs::Codes::status_code, crate::specs::Codes::manager_code, crate::specs::Codes::trap_code, crate::specs::Codes::message_code, crate::specs::Codes::state_numbers, crate::specs::Codes::answer_numbers))]
 
 pub mod codes;
 pub mod numbers;

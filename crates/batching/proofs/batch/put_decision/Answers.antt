@@ -27,7 +27,7 @@ bounds-out-4 c = let h : 4 < length c.args.out.now =
 pub returns : goal.returns
 unfolding line
 returns c =
-    let kind = c.kind_code.ensures in
-    let sender = c.sender_code.ensures in
-    let word = c.word_code.ensures in
+    let kind = c.kind.ensures in
+    let sender = c.sender.ensures in
+    let word = c.word.ensures in
     rw (sym kind, sym sender, sym word) (puts_six c.args.out.now _ _ _ _ _ _ c.requires)

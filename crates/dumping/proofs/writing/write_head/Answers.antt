@@ -33,13 +33,13 @@ returns c =
     said (counted (behind p8 c.put_word.ensures) 12 refl)
     (head_bytes
     (tables c.args.m.now)
-    (c.status_code-status.ensures
+    (c.from-status.ensures
     ∙ ap status_code
     c.status-s.ensures)
     c.last-last.ensures
-    (c.runner_code-runner.ensures
+    (c.name-runner.ensures
     ∙ ap me c.runner-r.ensures)
-    (c.slice_code-slice.ensures
+    (c.slice-slice.ensures
     ∙ ap slice_code
     c.runner-r.ensures)
     c.since-since.ensures

@@ -10,5 +10,5 @@ returns c =
     let p3 = counted c.put_head.ensures 3
     refl in
     let p6 = counted (behind p3 c.put_three.ensures) 6 refl in
-    rw (← c.message_code.ensures)
+    rw (← c.from.ensures)
     (counted (behind p6 c.put_word.ensures) 10 refl)

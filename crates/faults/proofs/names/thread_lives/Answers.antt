@@ -15,7 +15,7 @@ returns-then-not-wanted_lives c = rw (
   ← c.parent_from-parent.ensures,
   sym c.parent_lives.ensures
       ∙ c.if-not-parent_lives.false,
-  ← c.state_from-s.ensures,
+  ← c.from_numbers-s.ensures,
   sym c.wanted_lives.ensures ∙ c.if-not-wanted_lives.true,
 )
 
@@ -27,12 +27,12 @@ returns-then-not-entries_live c =
       sym c.parent_lives.ensures
           ∙ not-false _
           c.if-not-parent_lives.false-raw,
-      ← c.state_from-s.ensures,
+      ← c.from_numbers-s.ensures,
       sym c.wanted_lives.ensures
           ∙ c.if-not-wanted_lives.false,
-      ← c.manager_from.ensures,
-      ← c.manager_from-2.ensures,
-      ← c.manager_from-3.ensures,
+      ← c.from.ensures,
+      ← c.from-2.ensures,
+      ← c.from-3.ensures,
       sym c.entries_live.ensures ∙ c.if-not-entries_live.true,
     )
 
@@ -43,11 +43,11 @@ returns c =
       ← c.parent_from-parent.ensures,
       sym c.parent_lives.ensures ∙ not-false _
           c.if-not-parent_lives.false-raw,
-      ← c.state_from-s.ensures,
+      ← c.from_numbers-s.ensures,
       sym c.wanted_lives.ensures
           ∙ c.if-not-wanted_lives.false,
-      ← c.manager_from.ensures,
-      ← c.manager_from-2.ensures,
-      ← c.manager_from-3.ensures,
+      ← c.from.ensures,
+      ← c.from-2.ensures,
+      ← c.from-3.ensures,
       sym c.entries_live.ensures ∙ c.if-not-entries_live.false,
     ) c.manager_set.ensures

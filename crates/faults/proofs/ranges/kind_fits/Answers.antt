@@ -4,4 +4,4 @@ use Rattle.rules.specs.Codes.{message_code as message_code_of}
 use Rattle.faults.proofs.ranges.kind_fits.Goals as goal
 
 pub returns : goal.returns
-returns c = rw (c.message_code.ensures ∙ ap message_code_of c.message_kind_from.ensures)
+returns c = rw (c.from-2.ensures ∙ ap message_code_of c.from.ensures)

@@ -4,24 +4,24 @@ use borrow.Author.Tests.{eq-eqb, ne_eqb}
 use Rattle.rules.specs.Faults.{state_fits as state_fits_of}
 use Rattle.faults.proofs.ranges.state_fits.Goals as goal
 
-pub returns-then-n-state_code : goal.returns-then-n-state_code
+pub returns-then-n-number : goal.returns-then-n-number
 unfolding state_fits_of
-returns-then-n-state_code c = rw (← c.state_from-s.ensures, ne_eqb _ _ (λ e. c.if-n-state_code.true (e ∙ sym c.state_code.ensures)))
+returns-then-n-number c = rw (← c.from_numbers-s.ensures, ne_eqb _ _ (λ e. c.if-n-number.true (e ∙ sym c.number.ensures)))
 
-pub returns-then-detail-detail_code : goal.returns-then-detail-detail_code
+pub returns-then-detail : goal.returns-then-detail
 unfolding state_fits_of
-returns-then-detail-detail_code c = rw (
-  ← c.state_from-s.ensures,
-  eq-eqb _ _ (c.if-n-state_code.false
-      ∙ c.state_code.ensures),
-  ne_eqb _ _ (λ e. c.if-detail-detail_code.true (e ∙ sym c.detail_code.ensures)),
+returns-then-detail c = rw (
+  ← c.from_numbers-s.ensures,
+  eq-eqb _ _ (c.if-n-number.false
+      ∙ c.number.ensures),
+  ne_eqb _ _ (λ e. c.if-detail.true (e ∙ sym c.detail.ensures)),
 )
 
 pub returns : goal.returns
 unfolding state_fits_of
 returns c = rw (
-  ← c.state_from-s.ensures,
-  eq-eqb _ _ (c.if-n-state_code.false
-      ∙ c.state_code.ensures),
-  eq-eqb _ _ (c.if-detail-detail_code.false ∙ c.detail_code.ensures),
+  ← c.from_numbers-s.ensures,
+  eq-eqb _ _ (c.if-n-number.false
+      ∙ c.number.ensures),
+  eq-eqb _ _ (c.if-detail.false ∙ c.detail.ensures),
 ) c.state_right.ensures

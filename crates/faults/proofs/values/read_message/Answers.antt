@@ -4,4 +4,4 @@ use Rattle.faults.proofs.values.read_message.Goals as goal
 
 pub returns : goal.returns
 unfolding message_from
-returns c = rw (c.message_kind_from.ensures, c.word_at.ensures)
+returns c = rw (c.from.ensures, c.word_at.ensures)

@@ -7,11 +7,11 @@ unfolding thread_from
 returns c =
     rw (
       c.parent_from.ensures,
-      c.state_from.ensures,
-      c.manager_from.ensures,
-      c.manager_from-2.ensures,
-      c.manager_from-3.ensures,
+      c.from_numbers.ensures,
+      c.from.ensures,
+      c.from-2.ensures,
+      c.from-3.ensures,
       c.word_at.ensures,
-      c.answer_from.ensures,
+      c.from_numbers-2.ensures,
       c.word_at-2.ensures,
     )

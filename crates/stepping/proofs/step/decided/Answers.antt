@@ -9,8 +9,8 @@ runner-r-requires c = c.requires
 
 pub returns : goal.returns
 returns c = rw (
-  c.status_code-status.ensures,
+  c.from-status.ensures,
   c.status-s.ensures,
-  c.runner_code-runner.ensures,
+  c.name-runner.ensures,
   c.runner-r.ensures,
 )
