@@ -1,5 +1,8 @@
 -- What a search of a memory's rows says of its tables.
-use Rattle.std.proofs.Common.{◌≡◌, ℕ, suc, ◌+◌, ◌<◌, ◌≤◌, Bool, true, false, not, ltb, List, [], ◌∷◌, ◌++◌, length, get_or, take, drop, set, sym, refl, ap, ◌∙◌, arith, get_or-take, if◌then◌else◌}
+use Rattle.std.proofs.Common.{◌≡◌, ℕ, suc, ◌+◌, ◌<◌, ◌≤◌, Bool, true, false, not, ltb, List, [], ◌∷◌, ◌++◌, length, get_or, take, drop, set, sym, refl, ap, ◌∙◌, arith, get_or-take, if◌then◌else◌, Option, Some}
+use Rattle.std.specs.List.{position}
+use Rattle.std.specs.Option.{is_some}
+use Rattle.memory.proofs.Listing.{found, nowhere, position_is, is_none, some_if}
 use Rattle.rules.specs.Lists.{count, insert}
 use Rattle.rules.specs.Numbers.{nobody}
 use Rattle.rules.specs.Tables.{with_threads, named, live, of_thread, change}
@@ -105,6 +108,15 @@ module _ (m : List ℕ) (s : Shaped m) where
 
 -- ---- the first thread that passes stands at i
 
+module _ (m : List ℕ) (s : Shaped m) (p : Thread → Bool) {r : Option ℕ} (f : r ≡ position p (view (rows_of m)).threads) where
+  pub first_at : {i : ℕ} → r ≡ Some i → (i ≡ place p (view (rows_of m)).threads) × (i < (rows_of m).count)
+  unfolding tables
+  first_at e = let h = found p _ (view (rows_of m)).threads (sym f ∙ e) in (h.0, omega (arith, h.1, threads_length m s))
+
+  pub first_none : ((i : ℕ) → r ≡ Some i → ⊥) → (rows_of m).count ≤ place p (view (rows_of m)).threads
+  unfolding tables
+  first_none e = omega (arith, nowhere p (view (rows_of m)).threads (is_none (λ i h. e i (f ∙ h))), threads_length m s)
+
 pub name_at : (p : Thread → Bool) (ts : List Thread) (d : Thread) → place p ts < length ts → (get_or ts (place p ts) d).name ≡ name_where p ts
 unfolding place name_where
 name_at p [] d h = absurd (omega arith)
@@ -140,13 +152,16 @@ module _ (m : List ℕ) (s : Shaped m) (p : Thread → Bool) (i : ℕ) (f : i �
 
 -- ---- the thread of a name stands at i
 
-module _ (m : List ℕ) (H : Holding m) (k i : ℕ) (f : i ≡ place (named k) (view (rows_of m)).threads) where
-  pub live_found : ltb i (rows_of m).count ≡ live k (tables m)
-  unfolding tables
-  live_found =
-      ap (λ (j : ℕ). ltb i j) (threads_length m H.shaped)
-      ∙ (ap (λ (j : ℕ). ltb j (length (tables m).threads)) f ∙ sym (any_place (named k) (tables m).threads))
+-- is there one?
+pub live_found : (m : List ℕ) → Holding m → (k : ℕ) {r : Option ℕ} → r ≡ position (named k) (view (rows_of m)).threads →
+    is_some r ≡ live k (tables m)
+unfolding tables
+live_found m H k f =
+    let ts = (tables m).threads in
+    ap is_some (f ∙ position_is (named k) ts) ∙ some_if (ltb (place (named k) ts) (length ts)) (place (named k) ts)
+    ∙ sym (any_place (named k) ts)
 
+module _ (m : List ℕ) (H : Holding m) (k i : ℕ) (f : i ≡ place (named k) (view (rows_of m)).threads) where
   module _ {B : Type 0} (other : B) (g : Thread → B) where
     pub of_found : i < (rows_of m).count → g (get_or (rows_of m).threads i no_thread) ≡ of_thread other g k (tables m).threads
     unfolding tables Shaped

@@ -61,7 +61,7 @@ pub fn is_live(m: &[u32], name: u8) -> bool
     requires { Holding m.now }
     ensures { result ≡ live name (tables m.now) }
 {
-    threads::find(m, name) < rows::count(m)
+    threads::find(m, name).is_some()
 }
 
 // ---- something of the thread of a name; what is said of a name that no thread has is never asked for
@@ -71,8 +71,7 @@ pub fn receives_from(m: &[u32], name: u8, sender: u8) -> bool
     requires { Holding m.now }
     ensures { result ≡ of_thread false (λ t. receives sender t.state) name (tables m.now).threads }
 {
-    let i = threads::find(m, name);
-    if i < rows::count(m) {
+    if let Some(i) = threads::find(m, name) {
         rows::receives_at(m, i, sender)
     } else {
         false
@@ -84,8 +83,7 @@ pub fn trapped_on(m: &[u32], name: u8, n: u8) -> bool
     requires { Holding m.now }
     ensures { result ≡ of_thread false (awaits n) name (tables m.now).threads }
 {
-    let i = threads::find(m, name);
-    if i < rows::count(m) {
+    if let Some(i) = threads::find(m, name) {
         rows::trapped_on_at(m, i, n)
     } else {
         false
@@ -96,8 +94,7 @@ pub fn parent_of(m: &[u32], name: u8) -> Parent
     requires { Holding m.now }
     ensures { result ≡ of_thread Parentless (λ t. t.parent) name (tables m.now).threads }
 {
-    let i = threads::find(m, name);
-    if i < rows::count(m) {
+    if let Some(i) = threads::find(m, name) {
         rows::parent_at(m, i)
     } else {
         Parent::NoParent
@@ -108,8 +105,7 @@ pub fn manager_of(m: &[u32], name: u8, k: TrapKind) -> Manager
     requires { Holding m.now }
     ensures { result ≡ of_thread NoManager (λ t. manager_in k t.managers) name (tables m.now).threads }
 {
-    let i = threads::find(m, name);
-    if i < rows::count(m) {
+    if let Some(i) = threads::find(m, name) {
         rows::manager_at(m, i, k)
     } else {
         Manager::Unset
@@ -120,8 +116,7 @@ pub fn ticks_of(m: &[u32], name: u8) -> u32
     requires { Holding m.now }
     ensures { result ≡ of_thread 0 (λ t. t.ticks) name (tables m.now).threads }
 {
-    let i = threads::find(m, name);
-    if i < rows::count(m) {
+    if let Some(i) = threads::find(m, name) {
         rows::ticks_at(m, i)
     } else {
         0
@@ -132,8 +127,7 @@ pub fn answer_of(m: &[u32], name: u8) -> Answer
     requires { Holding m.now }
     ensures { result ≡ of_thread NoAnswer (λ t. t.answer) name (tables m.now).threads }
 {
-    let i = threads::find(m, name);
-    if i < rows::count(m) {
+    if let Some(i) = threads::find(m, name) {
         rows::answer_at(m, i)
     } else {
         Answer::Nothing
@@ -145,8 +139,7 @@ pub fn waiter(m: &[u32], d: u8) -> u8
     requires { Shaped m.now }
     ensures { result ≡ name_where (waits_for d) (tables m.now).threads }
 {
-    let i = threads::find_waiter(m, d);
-    if i < rows::count(m) {
+    if let Some(i) = threads::find_waiter(m, d) {
         rows::name_at(m, i)
     } else {
         numbers::NOBODY
@@ -168,8 +161,7 @@ pub fn turn(m: &mut [u32], name: u8, s: State, a: Answer)
     requires { Holding m.old }
     ensures { Leaves m.old m.new (change name (in_state s a) (tables m.old)) }
 {
-    let i = threads::find(m, name);
-    if i < rows::count(m) {
+    if let Some(i) = threads::find(m, name) {
         rows::turn(m, i, s, a);
         if states::wakes_from_outside(s) {
             rows::hint_waiter(m, i);
@@ -183,8 +175,7 @@ pub fn add_tick(m: &mut [u32], name: u8)
     ensures { Leaves m.old m.new
         (change name (λ t. with_ticks (one_more t.ticks) t) (tables m.old)) }
 {
-    let i = threads::find(m, name);
-    if i < rows::count(m) {
+    if let Some(i) = threads::find(m, name) {
         let n = std::num::wrapping_add_u32(rows::ticks_at(m, i), 1);
         rows::set_ticks(m, i, n);
     }
@@ -196,8 +187,7 @@ pub fn set_manager(m: &mut [u32], name: u8, k: TrapKind, g: Manager)
     ensures { Leaves m.old m.new
         (change name (λ t. with_managers (set_entry k g t.managers) t) (tables m.old)) }
 {
-    let i = threads::find(m, name);
-    if i < rows::count(m) {
+    if let Some(i) = threads::find(m, name) {
         rows::set_manager(m, i, k, g);
     }
 }

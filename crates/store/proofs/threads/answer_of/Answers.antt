@@ -1,23 +1,22 @@
 -- `threads::answer_of` meets its contract.
-use Rattle.std.proofs.Common.{◌∙◌, arith}
-use Rattle.store.proofs.Searched.{of_found, of_nobody, roomy, found_here, can_find}
+use Rattle.std.proofs.Common.{◌∙◌}
+use Rattle.std.proofs.Common.{refl}
+use Rattle.rules.specs.Tables.{named}
+use Rattle.store.proofs.Searched.{first_at, first_none, of_found, of_nobody, found_here, can_find}
 use Rattle.store.proofs.threads.answer_of.Goals as goal
 
-pub find-i-requires : goal.find-i-requires
-find-i-requires c = can_find c.args.m.now c.requires c.args.name
-
-pub count-requires : goal.count-requires
-count-requires c = roomy c.args.m.now c.requires.shaped
+pub find-requires : goal.find-requires
+find-requires c = can_find c.args.m.now c.requires c.args.name
 
 pub answer_at-requires : goal.answer_at-requires
 answer_at-requires c =
-    found_here c.args.m.now c.requires.shaped (omega (arith, c.if-i-count.true, c.count.ensures))
+    found_here c.args.m.now c.requires.shaped (first_at c.args.m.now c.requires.shaped (named c.args.name) c.find.ensures c.in-Some.is).1
 
-pub returns-then-i-count : goal.returns-then-i-count
-returns-then-i-count c =
-    c.answer_at.ensures ∙ of_found c.args.m.now c.requires _ _ c.find-i.ensures _ (λ t. t.answer)
-    (omega (arith, c.if-i-count.true, c.count.ensures))
+pub returns-in-Some : goal.returns-in-Some
+returns-in-Some c =
+    c.answer_at.ensures ∙ of_found c.args.m.now c.requires _ _ (first_at c.args.m.now c.requires.shaped (named c.args.name) c.find.ensures c.in-Some.is).0 _ (λ t. t.answer)
+    (first_at c.args.m.now c.requires.shaped (named c.args.name) c.find.ensures c.in-Some.is).1
 
-pub returns-else-i-count : goal.returns-else-i-count
-returns-else-i-count c =
-    of_nobody c.args.m.now c.requires _ _ c.find-i.ensures _ _ (omega (arith, c.if-i-count.false, c.count.ensures))
+pub returns-in_default : goal.returns-in_default
+returns-in_default c =
+    of_nobody c.args.m.now c.requires _ _ refl _ _ (first_none c.args.m.now c.requires.shaped (named c.args.name) c.find.ensures c.in_default.not-Some)
