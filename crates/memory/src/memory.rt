@@ -111,9 +111,9 @@ pub fn set_runner(m: &mut [u32], r: Runner)
     requires { Roomy (rows_of m.old) }
     ensures { rows_of m.new ≡ put_runner r (rows_of m.old) }
 {
-    let w = saying::runner_words(r);
-    m[RUNNER] = w.name;
-    m[SLICE] = w.slice;
+    let (name, slice) = saying::runner_words(r);
+    m[RUNNER] = name;
+    m[SLICE] = slice;
 }
 
 // Ticks since the beat.
