@@ -15,7 +15,7 @@ use Rattle.laws.specs.Words.{Held}
 use Rattle.laws.proofs.Tally.{each_append, length_each}
 use Rattle.store.specs.Store.{word_for}
 use Rattle.buffer.specs.Puts.{Puts}
-use Rattle.buffer.proofs.Putting.{rest, back, behind, counted, over, said, at_the_front, one_more, room, stays_long, puts_none}
+use Rattle.buffer.proofs.Putting.{rest, back, behind, counted, over, said, at_the_front, one_more, room, stays_long, puts_none, short_length}
 use Rattle.dumping.specs.Dumping.{held_at}
 use Rattle.dumping.proofs.Walks.{Walk}
 
@@ -105,6 +105,10 @@ module _ (d : ℕ) (hs : List Held) where
   one_word e i p = rw e (said p (ap (λ (v : ℕ). 6 ∷ 0 ∷ 5 ∷ d ∷ four_bytes v) i))
 
 -- ---- names, a byte each, behind the head of their field
+
+-- the head of such a field: a length of one byte
+pub named_head : {tag n : ℕ} {b before : List ℕ} {k : ℕ} → Puts (tag ∷ 0 ∷ n ∷ []) b before k → n < 256 → Puts (tag ∷ two_bytes n) b before k
+named_head {tag} {n} p h = said p (ap (λ (l : List ℕ). tag ∷ l) (sym (short_length n h)))
 
 pub record Named (tag n : ℕ) (row before now : List ℕ) (i : ℕ) : Type 0 where
   pub whole : n ≡ length row

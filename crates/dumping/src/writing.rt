@@ -9,7 +9,6 @@ ghost use Rattle.words.specs.Saying.{thread_in};
 ghost use Rattle.store.specs.Store.{tables, Shaped};
 ghost use Rattle.buffer.specs.Puts.{Puts};
 ghost use Rattle.dumping.specs.Dumping.{Dumpable, held_at};
-ghost use Rattle.dumping.specs.Shown.{thread_front};
 
 use crate::shown;
 use handling::dispatch;
@@ -34,28 +33,21 @@ fn write_head(m: &[u32], out: &mut [u8]) -> usize
     let last = store::last(m);
     let since = store::since(m);
     let beats = store::beats(m);
-    buffer::put_head(out, tags::HEAD, tags::HEAD_SIZE);
-    buffer::put_three(&mut out[3..], status, last, runner);
-    buffer::put_two(&mut out[6..], slice, since);
+    buffer::put_bytes(
+        out,
+        &[
+            tags::HEAD,
+            0,
+            tags::HEAD_SIZE,
+            status,
+            last,
+            runner,
+            slice,
+            since,
+        ],
+    );
     buffer::put_word(&mut out[8..], beats);
     tags::HEAD_FIELD
-}
-
-// Field 2 up to the managers, from a thread's words.
-fn write_front(w: &[u32], out: &mut [u8]) -> usize
-    requires { (length w.now ≡ 11) × (before_value + thread_size ≤ length out.old) }
-    ensures { Puts (thread_front (thread_in w.now)) out.old out.new result }
-{
-    buffer::put_head(out, tags::THREAD, tags::THREAD_SIZE);
-    buffer::put_two(&mut out[3..], saying::byte(w[0]), saying::byte(w[1]));
-    shown::write_state(w[2], w[3], &mut out[5..]);
-    buffer::put_three(
-        &mut out[7..],
-        shown::manager_number(w[4]),
-        shown::manager_number(w[5]),
-        shown::manager_number(w[6]),
-    );
-    10
 }
 
 // Field 2, from a thread's words.
@@ -63,7 +55,27 @@ fn write_thread(w: &[u32], out: &mut [u8]) -> usize
     requires { (length w.now ≡ 11) × (before_value + thread_size ≤ length out.old) }
     ensures { Puts (field thread_tag (thread_value (thread_in w.now))) out.old out.new result }
 {
-    write_front(w, out);
+    let name = saying::byte(w[0]);
+    let parent = saying::byte(w[1]);
+    let [state, detail] = shown::state_bytes(w[2], w[3]);
+    let program = shown::manager_number(w[4]);
+    let tlb = shown::manager_number(w[5]);
+    let sysbp = shown::manager_number(w[6]);
+    buffer::put_bytes(
+        out,
+        &[
+            tags::THREAD,
+            0,
+            tags::THREAD_SIZE,
+            name,
+            parent,
+            state,
+            detail,
+            program,
+            tlb,
+            sysbp,
+        ],
+    );
     buffer::put_word(&mut out[10..], w[7]);
     shown::write_answer(w[8], w[9], w[10], &mut out[14..]);
     tags::THREAD_FIELD
@@ -91,7 +103,7 @@ fn write_ready(m: &[u32], out: &mut [u8]) -> usize
     ensures { Puts (field ready_tag (tables m.now).ready) out.old out.new result }
 {
     let n = store::ready_count(m);
-    buffer::put_head(out, tags::READY, n as u8);
+    buffer::put_bytes(out, &[tags::READY, 0, n as u8]);
     let mut i = 0;
     while i < n {
         out[tags::BEFORE_VALUE + i] = store::ready_at(m, i);
@@ -106,7 +118,7 @@ fn write_clock(m: &[u32], out: &mut [u8]) -> usize
     ensures { Puts (field clock_tag (tables m.now).clock) out.old out.new result }
 {
     let n = store::clock_count(m);
-    buffer::put_head(out, tags::CLOCK, n as u8);
+    buffer::put_bytes(out, &[tags::CLOCK, 0, n as u8]);
     let mut i = 0;
     while i < n {
         out[tags::BEFORE_VALUE + i] = store::clock_at(m, i);
@@ -120,9 +132,11 @@ fn write_message(x: Message, out: &mut [u8]) -> usize
     requires { before_value + message_size ≤ length out.old }
     ensures { Puts (field message_tag (message_value x)) out.old out.new result }
 {
-    let kind = x.kind;
-    buffer::put_head(out, tags::MESSAGE, tags::MESSAGE_SIZE);
-    buffer::put_three(&mut out[3..], x.to, x.from, u8::from(kind));
+    let kind = u8::from(x.kind);
+    buffer::put_bytes(
+        out,
+        &[tags::MESSAGE, 0, tags::MESSAGE_SIZE, x.to, x.from, kind],
+    );
     buffer::put_word(&mut out[6..], x.word);
     tags::MESSAGE_FIELD
 }
@@ -154,7 +168,7 @@ fn write_word(m: &[u32], d: u8, out: &mut [u8]) -> usize
         return 0;
     }
     let word = store::held_word(m, d);
-    buffer::put_four(out, tags::HELD, 0, tags::HELD_SIZE, d);
+    buffer::put_bytes(out, &[tags::HELD, 0, tags::HELD_SIZE, d]);
     buffer::put_word(&mut out[4..], word);
     tags::HELD_FIELD
 }

@@ -2,7 +2,7 @@
 use Rattle.std.proofs.Common.{◌==◌}
 use Prim.Native.Nat.{ℕ, ◌+◌, ◌*◌, ◌-◌, ◌≤◌, ◌<◌}
 use mathlib.Core.Path.{◌≡◌, refl, sym, ap, ◌∙◌}
-use mathlib.Core.Bool.{Bool, true, false, ◌&&◌, true≢false}
+use mathlib.Core.Bool.{Bool, true, false, true≢false}
 use mathlib.Core.List.Memᴰ
 use mathlib.Core.List.{List, [], ◌∷◌, ◌++◌, Memᴰ, append_assoc, append-nil}
 use native.Mathlib.Omega.{arith}
@@ -17,21 +17,6 @@ use Rattle.laws.proofs.Bytes.{two_back}
 use Rattle.loading.specs.Reading.{starts, opens, RowRead, NamesCounted, NamesRead}
 
 -- ---- the head of a field
-
-pub opened : (tag size : ℕ) (s : List ℕ) → 3 ≤ length s →
-    opens tag size s ≡ ((get_or s 0 0 == tag) && (get_or s 1 0 * 256 + get_or s 2 0 == size) && leb size (length s - 3))
-unfolding opens
-opened tag size [] h = absurd (omega arith)
-opened tag size (a ∷ []) h = absurd (omega arith)
-opened tag size (a ∷ b ∷ []) h = absurd (omega arith)
-opened tag size (a ∷ b ∷ c ∷ s) h = ap (λ (n : ℕ). (a == tag) && (b * 256 + c == size) && leb size n) (omega arith)
-
-pub unopened : (tag size : ℕ) (s : List ℕ) → length s < 3 → opens tag size s ≡ false
-unfolding opens
-unopened tag size [] h = refl
-unopened tag size (a ∷ []) h = refl
-unopened tag size (a ∷ b ∷ []) h = refl
-unopened tag size (a ∷ b ∷ c ∷ s) h = absurd (omega arith)
 
 -- what opens has the tag in front, and is as long as it says
 pub opens_room : (tag size : ℕ) (s : List ℕ) → opens tag size s ≡ true → (starts tag s ≡ true) × (size + 3 ≤ length s)

@@ -3,7 +3,7 @@ use mathlib.Core.Path.{◌∙◌}
 use Rattle.store.proofs.Limits.{names_left}
 use Rattle.store.proofs.Lengths.{ready_limit}
 use Rattle.buffer.proofs.Putting.{stays_long}
-use Rattle.dumping.proofs.Puttings.{name_starts, named_long, name_there, name_room, name_next, name_ends}
+use Rattle.dumping.proofs.Puttings.{name_starts, named_long, name_there, name_room, name_next, name_ends, named_head}
 use native.Mathlib.Omega.{arith}
 use Rattle.dumping.proofs.writing.write_ready.Goals as goal
 
@@ -19,7 +19,7 @@ overflow_cast-n c = omega (
 )
 
 pub loop-i-init : goal.loop-i-init
-loop-i-init c = name_starts c.put_head.ensures c.ready_count-n.ensures
+loop-i-init c = name_starts (named_head c.put_bytes.ensures (omega (arith, ready_limit c.args.m.now c.requires.0, names_left c.args.m.now c.requires.0, c.ready_count-n.ensures))) c.ready_count-n.ensures
     c.requires.1
 
 pub ready_at-requires : goal.ready_at-requires
@@ -43,8 +43,8 @@ overflow_add-result c = omega (arith, c.loop-i.invariant.whole, c.loop-i.invaria
 
 pub shape_of-out : goal.shape_of-out
 shape_of-out c = named_long c.loop-i.invariant
-    ∙ stays_long c.put_head.ensures
+    ∙ stays_long c.put_bytes.ensures
     (omega (arith, c.requires.1))
 
 pub returns : goal.returns
-returns c = name_ends c.loop-i.invariant c.put_head.ensures c.loop-i-test.false
+returns c = name_ends c.loop-i.invariant (named_head c.put_bytes.ensures (omega (arith, ready_limit c.args.m.now c.requires.0, names_left c.args.m.now c.requires.0, c.ready_count-n.ensures))) c.loop-i-test.false

@@ -21,8 +21,8 @@ returns-then-not-is_held c = no_word _ _ (sym c.is_held.ensures ∙ c.if-not-is_
 pub held_word-word-requires : goal.held_word-word-requires
 held_word-word-requires c = (c.requires.0, c.requires.1)
 
-pub put_four-requires : goal.put_four-requires
-put_four-requires c =
+pub put_bytes-requires : goal.put_bytes-requires
+put_bytes-requires c =
     let held-now : any (held_for c.args.d) (tables c.args.m.now).held ≡ true = sym c.is_held.ensures ∙ c.if-not-is_held.false in
     let fits_word : 8 ≤ length c.args.out.now = omega (
       arith,
@@ -81,5 +81,5 @@ returns c =
     let held-now : any (held_for c.args.d) (tables c.args.m.now).held ≡ true = sym c.is_held.ensures ∙ c.if-not-is_held.false in
     one_word _ _ (held-now)
     c.held_word-word.ensures
-    (counted (behind (counted c.put_four.ensures 4 refl)
+    (counted (behind (counted c.put_bytes.ensures 4 refl)
     c.put_word.ensures) 8 refl)
