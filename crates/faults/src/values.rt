@@ -1,6 +1,6 @@
 // The values of fields, read from their bytes. What a number stands for is not tested here: ranges.rt does that of a dump that is
 // refused, and of one that is accepted the comparison with the writer.
-ghost use Rattle.std.specs.Prelude.{◌≡◌, ◌+◌, ◌≤◌, ◌<◌, length};
+ghost use Rattle.std.specs.Prelude.{◌≡◌, ◌+◌, ◌≤◌, length};
 ghost use Rattle.rules.specs.Tags.{thread_size, message_size, held_size};
 ghost use Rattle.rules.specs.Load.{runner_from, word_at as word_of, thread_from, message_from, held_from};
 
@@ -8,21 +8,12 @@ use rules::{
     Answer, Held, Manager, Managers, Message, MessageKind, Runner, State, Thread, codes, numbers,
 };
 
-fn wide(b: u8) -> u32
-    ensures { (result ≡ b) × (result < 256) }
-{
-    b as u32
-}
-
 // A big-endian number of four bytes.
 pub fn word_at(v: &[u8], at: usize) -> u32
     requires { at + 4 ≤ length v.now }
     ensures { result ≡ word_of v.now at }
 {
-    let a = wide(v[at]);
-    let b = a * 256 + wide(v[at + 1]);
-    let c = b * 256 + wide(v[at + 2]);
-    c * 256 + wide(v[at + 3])
+    u32::from_be_bytes([v[at], v[at + 1], v[at + 2], v[at + 3]])
 }
 
 // The runner of field 1.

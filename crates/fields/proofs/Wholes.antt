@@ -1,5 +1,5 @@
 -- The whole fields of some bytes, one after the other.
-use Rattle.std.proofs.Common.{ℕ, ◌-◌, ◌≡◌, ◌≤◌, List, [], ◌∷◌, true, false, sym, ap₂, ◌∙◌, length, length-drop, take, drop, arith}
+use Rattle.std.proofs.Common.{ℕ, ◌+◌, ◌-◌, ◌≡◌, ◌≤◌, List, [], ◌∷◌, true, false, sym, ap₂, ◌∙◌, length, length-drop, take, drop, arith}
 use lib.Seq.{drop-drop}
 use Rattle.rules.specs.Fields.{field_size, complete}
 use Rattle.laws.proofs.Batch.{whole_within, complete_none, complete_first}
@@ -15,6 +15,10 @@ first_whole s at w =
     let size : (cut s at).end - at ≡ field_size (drop at s) = omega arith in
     (complete_first (drop at s) w).0
     ∙ ap₂ (λ (n : ℕ) (l : List ℕ). take n (drop at s) ∷ complete l) (sym size) (drop-drop (field_size (drop at s)) at s)
+
+-- it has a tag and a length, and ends within the bytes
+pub ends_behind : (s : List ℕ) (at : ℕ) → (cut s at).whole ≡ true → at + 3 ≤ (cut s at).end
+ends_behind s at w = let i = whole_within (drop at s) w in omega (arith, i.0, i.1)
 
 pub ends_within : (s : List ℕ) (at : ℕ) → (cut s at).whole ≡ true → (cut s at).end ≤ length s
 ends_within s at w = let i = whole_within (drop at s) w in omega (arith, i.0, i.1, length-drop at s)
