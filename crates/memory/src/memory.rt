@@ -470,6 +470,15 @@ pub fn put_clock(m: &mut [u32], i: usize, name: u8)
     m[THREADS + i * RECORD + CLOCK] = name as u32;
 }
 
+// The name at one place of the clock queue is written at another, as the word stands.
+pub fn move_clock(m: &mut [u32], from: usize, to: usize)
+    requires { Roomy (rows_of m.old) × (from < (rows_of m.old).limits.threads) × (to < (rows_of m.old).limits.threads) }
+    ensures { rows_of m.new ≡ put_clock
+        (set (rows_of m.old).clock to (get_or (rows_of m.old).clock from 0)) (rows_of m.old) }
+{
+    m[THREADS + to * RECORD + CLOCK] = m[THREADS + from * RECORD + CLOCK];
+}
+
 pub fn put_ended(m: &mut [u32], i: usize, name: u8)
     requires { Roomy (rows_of m.old) × (i < (rows_of m.old).limits.threads) }
     ensures { rows_of m.new ≡ put_ended (set (rows_of m.old).ended i name) (rows_of m.old) }
