@@ -2,10 +2,9 @@
 ghost use Rattle.std.specs.Prelude.{◌≡◌, ◌+◌, ◌*◌, ◌<◌, ◌≤◌, length};
 ghost use Rattle.rules.specs.Lists.{each};
 ghost use Rattle.rules.specs.Numbers.{devices};
-ghost use Rattle.rules.specs.Tags.{before_value, head_tag, head_size, thread_tag, thread_size, ready_tag, clock_tag, message_tag};
+ghost use Rattle.rules.specs.Tags.{before_value, head_tag, head_size, thread_tag, thread_size, message_tag};
 ghost use Rattle.rules.specs.Tags.{message_size, held_tag, held_size};
 ghost use Rattle.rules.specs.Dump.{field, head_value, thread_value, message_value, held_value, dump};
-ghost use Rattle.words.specs.Saying.{thread_in};
 ghost use Rattle.store.specs.Store.{tables, Shaped};
 ghost use Rattle.buffer.specs.Puts.{Puts};
 ghost use Rattle.dumping.specs.Dumping.{Dumpable, held_at};
@@ -13,6 +12,7 @@ ghost use Rattle.dumping.specs.Dumping.{Dumpable, held_at};
 use crate::shown;
 use handling::dispatch;
 use memory::memory as rows;
+use memory::records::{self, NameWalk, ThreadWords};
 use rules::{Message, numbers, tags};
 use store;
 use words::saying;
@@ -50,11 +50,12 @@ fn write_head(m: &[u32], out: &mut [u8]) -> usize
     tags::HEAD_FIELD
 }
 
-// Field 2, from a thread's words.
-fn write_thread(w: &[u32], out: &mut [u8]) -> usize
-    requires { (length w.now ≡ 11) × (before_value + thread_size ≤ length out.old) }
-    ensures { Puts (field thread_tag (thread_value (thread_in w.now))) out.old out.new result }
+// Field 2. The words of a thread stand in it as they are, or as what they say.
+fn write_thread(t: ThreadWords<'_>, out: &mut [u8]) -> usize
+    requires { before_value + thread_size ≤ length out.old }
+    ensures { Puts (field thread_tag (thread_value t.entry)) out.old out.new result }
 {
+    let w = t.words();
     let name = saying::byte(w[0]);
     let parent = saying::byte(w[1]);
     let [state, detail] = shown::state_bytes(w[2], w[3]);
@@ -86,45 +87,25 @@ fn write_threads(m: &[u32], out: &mut [u8]) -> usize
     ensures { Puts (each (λ t. field thread_tag (thread_value t)) (tables m.now).threads) out.old
         out.new result }
 {
-    let n = store::thread_count(m);
     let mut at = 0;
-    let mut i = 0;
-    while i < n {
-        let w = rows::thread_words(m, i);
-        at += write_thread(w, &mut out[at..]);
-        i += 1;
+    for t in records::threads(m) {
+        at += write_thread(t, &mut out[at..]);
     }
     at
 }
 
-// Field 3: the ready names, front first.
-fn write_ready(m: &[u32], out: &mut [u8]) -> usize
-    requires { Shaped m.now × (before_value + length (tables m.now).ready ≤ length out.old) }
-    ensures { Puts (field ready_tag (tables m.now).ready) out.old out.new result }
+// A field of names, in order: its length is how many. Field 3 has the ready ones, front first, and 4 those who wait for the clock.
+fn write_names(tag: u8, names: NameWalk<'_>, out: &mut [u8]) -> usize
+    requires { (length names < 256) × (before_value + length names ≤ length out.old) }
+    ensures { Puts (field tag names.entry) out.old out.new result }
 {
-    let n = store::ready_count(m);
-    buffer::put_bytes(out, &[tags::READY, 0, n as u8]);
-    let mut i = 0;
-    while i < n {
-        out[tags::BEFORE_VALUE + i] = store::ready_at(m, i);
-        i += 1;
+    let mut at = tags::BEFORE_VALUE;
+    for name in names {
+        out[at] = name;
+        at += 1;
     }
-    tags::BEFORE_VALUE + n
-}
-
-// Field 4: who waits for the clock, in order.
-fn write_clock(m: &[u32], out: &mut [u8]) -> usize
-    requires { Shaped m.now × (before_value + length (tables m.now).clock ≤ length out.old) }
-    ensures { Puts (field clock_tag (tables m.now).clock) out.old out.new result }
-{
-    let n = store::clock_count(m);
-    buffer::put_bytes(out, &[tags::CLOCK, 0, n as u8]);
-    let mut i = 0;
-    while i < n {
-        out[tags::BEFORE_VALUE + i] = store::clock_at(m, i);
-        i += 1;
-    }
-    tags::BEFORE_VALUE + n
+    buffer::put_bytes(out, &[tag, 0, (at - tags::BEFORE_VALUE) as u8]);
+    at
 }
 
 // Field 5.
@@ -146,13 +127,9 @@ fn write_messages(m: &[u32], out: &mut [u8]) -> usize
     ensures { Puts (each (λ x. field message_tag (message_value x)) (tables m.now).messages) out.old
         out.new result }
 {
-    let n = store::message_count(m);
     let mut at = 0;
-    let mut i = 0;
-    while i < n {
-        let x = store::message_at(m, i);
-        at += write_message(x, &mut out[at..]);
-        i += 1;
+    for x in records::messages(m) {
+        at += write_message(x.message(), &mut out[at..]);
     }
     at
 }
@@ -164,10 +141,9 @@ fn write_word(m: &[u32], d: u8, out: &mut [u8]) -> usize
     ensures { Puts (each (λ h. field held_tag (held_value h)) (held_at d (tables m.now).held)) out.old
         out.new result }
 {
-    if !store::is_held(m, d) {
+    let Some(word) = rows::held(m, d) else {
         return 0;
-    }
-    let word = store::held_word(m, d);
+    };
     buffer::put_bytes(out, &[tags::HELD, 0, tags::HELD_SIZE, d]);
     buffer::put_word(&mut out[4..], word);
     tags::HELD_FIELD
@@ -180,20 +156,10 @@ fn write_held(m: &[u32], out: &mut [u8]) -> usize
         result }
 {
     let mut at = 0;
-    let mut d = 0;
-    while d < numbers::DEVICES {
+    for d in 0..numbers::DEVICES {
         at += write_word(m, d, &mut out[at..]);
-        d += 1;
     }
     at
-}
-
-// 1 if a word is held for the device, 0 if none.
-fn count_word(m: &[u32], d: u8) -> usize
-    requires { Shaped m.now × (d < devices) }
-    ensures { result ≡ length (held_at d (tables m.now).held) }
-{
-    if store::is_held(m, d) { 1 } else { 0 }
 }
 
 // How many words are held.
@@ -202,15 +168,14 @@ fn count_held(m: &[u32]) -> usize
     ensures { result ≡ length (tables m.now).held }
 {
     let mut n = 0;
-    let mut d = 0;
-    while d < numbers::DEVICES {
-        n += count_word(m, d);
-        d += 1;
+    for d in 0..numbers::DEVICES {
+        n += usize::from(rows::held(m, d).is_some());
     }
     n
 }
 
 // How long a buffer has to be.
+#[tactic(auto, using(crate::proofs::Parts::short, laws::proofs::DumpLength::dump_length))]
 pub fn dump_length(m: &[u32]) -> usize
     requires { Dumpable m.now }
     ensures { result ≡ length (dump (tables m.now)) }
@@ -235,8 +200,8 @@ pub fn write_dump(m: &[u32], out: &mut [u8]) -> usize
 {
     let mut at = write_head(m, out);
     at += write_threads(m, &mut out[at..]);
-    at += write_ready(m, &mut out[at..]);
-    at += write_clock(m, &mut out[at..]);
+    at += write_names(tags::READY, records::ready(m), &mut out[at..]);
+    at += write_names(tags::CLOCK, records::clock(m), &mut out[at..]);
     at += write_messages(m, &mut out[at..]);
     at += write_held(m, &mut out[at..]);
     at
