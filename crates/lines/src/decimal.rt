@@ -3,20 +3,6 @@ ghost use Rattle.std.specs.Prelude.{◌≡◌, ◌+◌, ◌*◌, ◌≤◌, ◌�
 ghost use Rattle.buffer.specs.Puts.{Puts};
 ghost use Rattle.lines.specs.Text.{decimal, numbers_line};
 
-// How many digits a number has.
-fn digits(n: u64) -> usize
-    ensures { (result ≡ length (decimal n)) × (result ≤ 20) }
-{
-    // The library has no ilog10 with a contract.
-    let mut k = 1;
-    let mut rest = n / 10;
-    while 0 < rest {
-        rest /= 10;
-        k += 1;
-    }
-    k
-}
-
 // From the last digit to the first. Most numbers of a line have one digit, so that case goes by itself.
 pub fn put_decimal(out: &mut [u8], n: u64) -> usize
     requires { 20 ≤ length out.old }
@@ -26,7 +12,7 @@ pub fn put_decimal(out: &mut [u8], n: u64) -> usize
         out[0] = b'0' + n as u8;
         return 1;
     }
-    let k = digits(n);
+    let k = n.ilog10() as usize + 1;
     let mut rest = n;
     for i in (0..k).rev() {
         out[i] = b'0' + (rest % 10) as u8;
