@@ -82,11 +82,9 @@ fn put_threads(out: &mut [u8], m: &[u32]) -> usize
 {
     let n = store::thread_count(m);
     let mut at = 0;
-    let mut i = 0;
-    while i < n {
+    for i in 0..n {
         let t = store::thread_at(m, i);
         at += put_thread(&mut out[at..], t);
-        i += 1;
     }
     at
 }
@@ -98,14 +96,11 @@ fn put_ready(out: &mut [u8], m: &[u32]) -> usize
 {
     let n = store::ready_count(m);
     let mut row = [READY; 21];
-    let mut i = 0;
-    while i < n {
+    for i in 0..n {
         let name = store::ready_at(m, i);
-        i += 1;
-        row[i] = name as u64;
+        row[i + 1] = name as u64;
     }
-    let end = n + 1;
-    decimal::put_numbers(out, &row[..end])
+    decimal::put_numbers(out, &row[..n + 1])
 }
 
 // Who waits for the clock, behind their tag.
@@ -115,14 +110,11 @@ fn put_clock(out: &mut [u8], m: &[u32]) -> usize
 {
     let n = store::clock_count(m);
     let mut row = [CLOCK; 21];
-    let mut i = 0;
-    while i < n {
+    for i in 0..n {
         let name = store::clock_at(m, i);
-        i += 1;
-        row[i] = name as u64;
+        row[i + 1] = name as u64;
     }
-    let end = n + 1;
-    decimal::put_numbers(out, &row[..end])
+    decimal::put_numbers(out, &row[..n + 1])
 }
 
 fn put_message(out: &mut [u8], x: Message) -> usize
@@ -146,11 +138,9 @@ fn put_messages(out: &mut [u8], m: &[u32]) -> usize
 {
     let n = store::message_count(m);
     let mut at = 0;
-    let mut i = 0;
-    while i < n {
+    for i in 0..n {
         let x = store::message_at(m, i);
         at += put_message(&mut out[at..], x);
-        i += 1;
     }
     at
 }
@@ -174,10 +164,8 @@ fn put_held(out: &mut [u8], m: &[u32]) -> usize
     ensures { Puts (each held_line (tables m.now).held) out.old out.new result }
 {
     let mut at = 0;
-    let mut d = 0;
-    while d < numbers::DEVICES {
+    for d in 0..numbers::DEVICES {
         at += put_word(&mut out[at..], m, d);
-        d += 1;
     }
     at
 }

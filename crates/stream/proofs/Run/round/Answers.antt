@@ -2,7 +2,7 @@
 use mathlib.Core.Path.{refl}
 use native.Mathlib.Omega.{arith}
 use Rattle.stream.proofs.Placed.{serves_right}
-use Rattle.stream.proofs.round.Goals as goal
+use Rattle.stream.proofs.Run.round.Goals as goal
 
 pub returns-then-v-gt0 : goal.returns-then-v-gt0
 returns-then-v-gt0 g c =

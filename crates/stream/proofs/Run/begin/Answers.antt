@@ -1,7 +1,7 @@
 -- `begin` meets its contract: a started memory stands.
 use mathlib.Core.Path.{refl}
 use Rattle.lending.proofs.Standing.{checked}
-use Rattle.stream.proofs.begin.Goals as goal
+use Rattle.stream.proofs.Run.begin.Goals as goal
 
 pub returns : goal.returns
 returns c =
