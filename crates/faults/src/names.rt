@@ -49,8 +49,8 @@ fn parent_lives(names: &[u8; 256], p: Parent) -> bool
     ensures { result ≡ by_parent true (lives_in names.now) p }
 {
     match p {
-        Parent::NoParent => true,
-        Parent::ParentIs(n) => lives(names, n),
+        None => true,
+        Some(n) => lives(names, n),
     }
 }
 

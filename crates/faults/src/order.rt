@@ -7,6 +7,9 @@ ghost use Rattle.faults.specs.Order.{missing as missing_of};
 use crate::Before;
 use rules::tags;
 
+// The place of a field that no dump has: behind them all.
+const BEHIND_ALL: u8 = 6;
+
 pub fn nothing_before() -> Before
     ensures { result ≡ nothing_of }
 {
@@ -31,26 +34,24 @@ fn seen(b: Before, tag: u8) -> bool
     b.clock
 }
 
+#[tactic(auto, unfolding(crate::specs::Order::misplaced_behind, rules::specs::Tags::dump_field))]
 pub fn misplaced(b: Before, tag: u8) -> bool
     ensures { result ≡ misplaced_behind b tag }
 {
-    let facts = tags::dump_facts(tag);
-    if !facts.known {
-        return true;
+    match tags::dump_facts(tag) {
+        None => true,
+        Some(field) => field.place < b.place || field.once && seen(b, tag),
     }
-    if facts.place < b.place {
-        return true;
-    }
-    if !facts.once {
-        return false;
-    }
-    seen(b, tag)
 }
 
+#[tactic(auto, unfolding(rules::specs::Tags::dump_field, rules::specs::Tags::dump_facts, rules::specs::Tags::dump_facts_in))]
 fn place_of(tag: u8) -> u8
     ensures { result ≡ (dump_facts tag).place }
 {
-    tags::dump_facts(tag).place
+    match tags::dump_facts(tag) {
+        None => BEHIND_ALL,
+        Some(field) => field.place,
+    }
 }
 
 // What stands before the next field.

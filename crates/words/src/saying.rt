@@ -31,11 +31,7 @@ pub fn byte(w: u32) -> u8
 pub fn parent_from(w: u32) -> Parent
     ensures { result ≡ parent_in w }
 {
-    if w == PAST_BYTES {
-        Parent::NoParent
-    } else {
-        Parent::ParentIs(byte(w))
-    }
+    if w == PAST_BYTES { None } else { Some(byte(w)) }
 }
 
 pub fn manager_from(w: u32) -> Manager
@@ -214,8 +210,8 @@ fn parent_word(p: Parent) -> u32
     ensures { parent_in result ≡ p }
 {
     match p {
-        Parent::NoParent => PAST_BYTES,
-        Parent::ParentIs(n) => n as u32,
+        None => PAST_BYTES,
+        Some(n) => n as u32,
     }
 }
 

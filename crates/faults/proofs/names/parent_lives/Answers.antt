@@ -1,5 +1,5 @@
 -- `names::parent_lives` meets its contract: each arm is the rule's own case.
 use Rattle.faults.proofs.names.parent_lives.Goals as goal
 
-pub returns-in-ParentIs : goal.returns-in-ParentIs
-returns-in-ParentIs c = rw c.in-ParentIs.is c.lives.ensures
+pub returns-in-Some : goal.returns-in-Some
+returns-in-Some c = rw c.in-Some.is c.lives.ensures
