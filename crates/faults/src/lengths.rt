@@ -3,13 +3,17 @@ ghost use Rattle.std.specs.Prelude.{◌≡◌};
 ghost use Rattle.rules.specs.Faults.{wrong_length as wrong_length_of};
 
 use crate::placed::Field;
-use rules::tags;
+use rules::{DumpField, tags};
 
 // Has the value another length than its tag has?
-#[tactic(auto, unfolding(rules::specs::Faults::wrong_length))]
+#[tactic(auto, unfolding(rules::specs::Faults::wrong_length, rules::specs::Tags::dump_field, rules::specs::Tags::dump_facts, rules::specs::Tags::dump_facts_in))]
 pub fn wrong_length(field: &Field) -> bool
     ensures { result ≡ wrong_length_of field.now }
 {
-    let facts = tags::dump_facts(field.tag());
-    facts.sized && field.value().len() != usize::from(facts.length)
+    match tags::dump_facts(field.tag()) {
+        Some(DumpField {
+            length: Some(n), ..
+        }) => field.value().len() != usize::from(n),
+        _ => false,
+    }
 }

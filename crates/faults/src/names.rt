@@ -66,8 +66,8 @@ impl Living {
         ensures { result ≡ by_parent true (lives_in self.now) p }
     {
         match p {
-            Parent::NoParent => true,
-            Parent::ParentIs(n) => self.lives(n),
+            None => true,
+            Some(n) => self.lives(n),
         }
     }
 

@@ -1,8 +1,22 @@
 // "Unknown tag, tags out of order, or a second 1, 3 or 4" (16), and which of these three is missing (15).
 ghost use Rattle.std.specs.Prelude.{◌≡◌};
+ghost use Rattle.rules.specs.Tags.{dump_facts};
 ghost use Rattle.faults.specs.Order.{nothing_before, seen as seen_of, misplaced_behind, after as after_of, missing as missing_of};
 
 use rules::tags;
+
+// The place of a field that no dump has: behind them all.
+const BEHIND_ALL: u8 = 6;
+
+#[tactic(auto, unfolding(rules::specs::Tags::dump_field, rules::specs::Tags::dump_facts, rules::specs::Tags::dump_facts_in))]
+fn place_of(tag: u8) -> u8
+    ensures { result ≡ (dump_facts tag).place }
+{
+    match tags::dump_facts(tag) {
+        None => BEHIND_ALL,
+        Some(field) => field.place,
+    }
+}
 
 // What stood before a field: the place of the nearest one in the order of a dump, and whether a field 1, 3 and 4 was among them.
 #[derive(Clone, Copy)]
@@ -13,7 +27,7 @@ pub struct Before {
     clock: bool,
 }
 
-#[tactic(auto, unfolding(crate::specs::Order::seen, crate::specs::Order::misplaced_behind, crate::specs::Order::after, crate::specs::Order::missing))]
+#[tactic(auto, unfolding(crate::specs::Order::seen, crate::specs::Order::misplaced_behind, crate::specs::Order::after, crate::specs::Order::missing, rules::specs::Tags::dump_field))]
 impl Before {
     pub fn nothing() -> Before
         ensures { result ≡ nothing_before }
@@ -40,8 +54,10 @@ impl Before {
     pub fn misplaces(&self, tag: u8) -> bool
         ensures { result ≡ misplaced_behind self.now tag }
     {
-        let facts = tags::dump_facts(tag);
-        !facts.known || facts.place < self.place || facts.once && self.seen(tag)
+        match tags::dump_facts(tag) {
+            None => true,
+            Some(field) => field.place < self.place || field.once && self.seen(tag),
+        }
     }
 
     // What stands before the next field.
@@ -49,7 +65,7 @@ impl Before {
         ensures { result ≡ after_of self.now tag }
     {
         Before {
-            place: tags::dump_facts(tag).place,
+            place: place_of(tag),
             head: tag == tags::HEAD || self.head,
             ready: tag == tags::READY || self.ready,
             clock: tag == tags::CLOCK || self.clock,

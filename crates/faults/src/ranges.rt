@@ -58,8 +58,8 @@ fn parent_right(p: Parent) -> bool
     ensures { result ≡ by_parent true is_name_of p }
 {
     match p {
-        Parent::NoParent => true,
-        Parent::ParentIs(n) => is_name(n),
+        None => true,
+        Some(n) => is_name(n),
     }
 }
 

@@ -80,8 +80,8 @@ fn is_child(marks: &[u8; 256], n: usize, p: Parent) -> bool
     ensures { (xs : List ℕ) → Marks xs marks.now → result ≡ by_parent false (λ k. has_in k (take n xs)) p }
 {
     match p {
-        Parent::NoParent => false,
-        Parent::ParentIs(name) => has(marks, n, name),
+        None => false,
+        Some(name) => has(marks, n, name),
     }
 }
 

@@ -1,4 +1,6 @@
 // The document's numbers for statuses, states, managers, parents, runners, kinds and answers, and back.
+#![tactic(auto, unfolding(crate::specs::Tables::me, crate::specs::Codes::status_code, crate::specs::Codes::manager_code, crate::specs::Codes::trap_code, crate::specs::Codes::message_code, crate::specs::Codes::state_numbers, crate::specs::Codes::answer_numbers))]
+
 ghost use Rattle.std.specs.Prelude.{◌≡◌};
 ghost use Rattle.rules.specs.Codes.{status_code, slice_code, parent_code as parent_code_of, manager_code, trap_code, message_code};
 ghost use Rattle.rules.specs.Codes.{state_numbers, answer_numbers};
@@ -17,11 +19,7 @@ use crate::{
 pub fn parent_from(n: u8) -> Parent
     ensures { result ≡ parent_for n }
 {
-    if n == numbers::NOBODY {
-        Parent::NoParent
-    } else {
-        Parent::ParentIs(n)
-    }
+    (n != numbers::NOBODY).then_some(n)
 }
 
 impl From<u8> for Manager {
@@ -88,10 +86,7 @@ impl From<Status> for u8 {
 pub fn parent_code(p: Parent) -> u8
     ensures { result ≡ parent_code_of p }
 {
-    match p {
-        Parent::NoParent => numbers::NOBODY,
-        Parent::ParentIs(n) => n,
-    }
+    p.unwrap_or(numbers::NOBODY)
 }
 
 impl From<Manager> for u8 {

@@ -120,10 +120,9 @@ pub fn decode(s: &[u8]) -> Event
         return Event::Malformed;
     }
     let tag = s[0];
-    let f = tags::tag_facts(tag);
-    if !f.known {
+    let Some(f) = tags::tag_facts(tag) else {
         return Event::Malformed;
-    }
+    };
     let length = (wide(s[1]) * 256 + wide(s[2])) as usize;
     if length != f.length as usize {
         return Event::Malformed;

@@ -4,7 +4,7 @@ ghost use Rattle.rules.specs.Tables.{start as start_of};
 ghost use Rattle.store.specs.Store.{limits, tables, Holding, Room};
 
 use rules::numbers::Limits;
-use rules::{Parent, Runner, State, numbers};
+use rules::{Runner, State, numbers};
 use serving::requests;
 use store;
 
@@ -14,7 +14,7 @@ pub fn start(m: &mut [u32], l: Limits)
     ensures { (tables m.new ≡ start_of) × (limits m.new ≡ l) × Holding m.new }
 {
     store::clear(m, l);
-    let first = requests::new_thread(0, Parent::NoParent, State::Running);
+    let first = requests::new_thread(0, None, State::Running);
     store::add_thread(m, first);
     store::set_runner(m, Runner::Runs(0, numbers::SLICE));
 }

@@ -54,8 +54,8 @@ pub fn parent_from(w: u32) -> Parent
     ensures { result ≡ parent_in w }
 {
     match w {
-        PAST_BYTES => Parent::NoParent,
-        _ => Parent::ParentIs(byte(w)),
+        PAST_BYTES => None,
+        _ => Some(byte(w)),
     }
 }
 
@@ -183,8 +183,8 @@ fn parent_word(p: Parent) -> u32
     ensures { parent_in result ≡ p }
 {
     match p {
-        Parent::NoParent => PAST_BYTES,
-        Parent::ParentIs(n) => u32::from(n),
+        None => PAST_BYTES,
+        Some(n) => u32::from(n),
     }
 }
 
