@@ -1,5 +1,5 @@
 -- `moving::row::close_gap` meets its contract. The loop: what is moved up and the rest are the row without the entry that goes.
-use Rattle.std.proofs.Common.{◌≡◌, ℕ, ◌+◌, ◌-◌, ◌<◌, ◌≤◌, length, take, refl, sym, ap, ◌∙◌, arith}
+use Rattle.std.proofs.Common.{◌≡◌, ℕ, ◌-◌, ◌<◌, length, take, refl, ap, ◌∙◌, arith}
 use Rattle.memory.specs.Memory.{rows_of}
 use Rattle.memory.specs.Rows.{Rows}
 use Rattle.memory.proofs.Sizes.{same_room}
@@ -18,10 +18,11 @@ pub shift-requires : goal.shift-requires
 shift-requires g c =
     let w = g.R.Row.row in
     let n : w.limit (rows_of c.loop-i.m).limits ≡ w.limit (rows_of c.args.m.now).limits = only_limit w c.loop-i.invariant.only in
-    let e : c.count-last.result ≡ w.count (rows_of c.args.m.now) = c.count-last.ensures in
-    (only_roomy w c.loop-i.invariant.only c.requires.0,
-    omega (arith, n, e, c.requires.2, c.loop-i-test.true),
-    omega (arith, n, e, c.requires.2, c.loop-i-test.true))
+    let e : c.count-last.result ≡ w.count (rows_of c.args.m.now) = c.count-last.ensures in (
+      only_roomy w c.loop-i.invariant.only c.requires.0,
+      omega (arith, n, e, c.requires.2, c.loop-i-test.true),
+      omega (arith, n, e, c.requires.2, c.loop-i-test.true),
+    )
 
 pub loop-i-preserved : goal.loop-i-preserved
 loop-i-preserved g c =

@@ -1,5 +1,4 @@
 -- `moving::row::close_gap` meets its contract. The loop: what is moved up and the rest are the row without the entry that goes.
-use Rattle.std.proofs.Common.{List}
 use Rattle.memory.specs.Memory.{rows_of}
 use Rattle.moving.proofs.Loops.{Closing}
 use Rattle.moving.proofs.Steps.{Only}

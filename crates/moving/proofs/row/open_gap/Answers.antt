@@ -1,5 +1,5 @@
 -- `moving::row::open_gap` meets its contract. The loop: each entry from i on stands one further, and those before are as they were.
-use Rattle.std.proofs.Common.{◌≡◌, ℕ, ◌+◌, ◌-◌, ◌<◌, ◌≤◌, length, take, refl, sym, ap, ◌∙◌, arith}
+use Rattle.std.proofs.Common.{◌≡◌, ◌+◌, ◌-◌, ◌<◌, length, ap, ◌∙◌, arith}
 use Rattle.memory.specs.Memory.{rows_of}
 use Rattle.memory.specs.Rows.{Rows}
 use Rattle.memory.proofs.Sizes.{same_room}
@@ -21,10 +21,11 @@ pub shift-requires : goal.shift-requires
 shift-requires g c =
     let w = g.R.Row.row in
     let n : w.limit (rows_of c.loop-i.m).limits ≡ w.limit (rows_of c.args.m.now).limits = only_limit w c.loop-i.invariant.moved.only in
-    let e : c.count-n.result ≡ w.count (rows_of c.args.m.now) = c.count-n.ensures in
-    (only_roomy w c.loop-i.invariant.moved.only c.requires.0,
-    omega (arith, n, e, c.requires.2, c.loop-i-test.true),
-    omega (arith, n, e, c.requires.2, c.loop-i-test.true))
+    let e : c.count-n.result ≡ w.count (rows_of c.args.m.now) = c.count-n.ensures in (
+      only_roomy w c.loop-i.invariant.moved.only c.requires.0,
+      omega (arith, n, e, c.requires.2, c.loop-i-test.true),
+      omega (arith, n, e, c.requires.2, c.loop-i-test.true),
+    )
 
 pub loop-i-preserved : goal.loop-i-preserved
 loop-i-preserved g c =

@@ -1,5 +1,5 @@
 -- `moving::row::sift` meets its contract. The loop: Keeping, of Steps.antt, whatever the test is.
-use Rattle.std.proofs.Common.{◌≡◌, ℕ, ◌+◌, ◌<◌, ◌≤◌, length, take, refl, sym, ap, ◌∙◌, arith}
+use Rattle.std.proofs.Common.{◌≡◌, ◌<◌, length, refl, ap, ◌∙◌, arith}
 use Rattle.memory.specs.Memory.{rows_of}
 use Rattle.memory.specs.Rows.{Rows}
 use Rattle.memory.proofs.Sizes.{same_room}
@@ -29,10 +29,11 @@ pub shift-requires : goal.shift-requires
 shift-requires g c =
     let w = g.R.Row.row in
     let n : w.limit (rows_of c.loop-i.m).limits ≡ w.limit (rows_of c.args.m.now).limits = only_limit w c.loop-i.invariant.left.only in
-    let e : c.count-n.result ≡ w.count (rows_of c.args.m.now) = c.count-n.ensures in
-    (only_roomy w c.loop-i.invariant.left.only c.requires.0,
-    omega (arith, n, e, c.requires.1, c.loop-i-test.true),
-    omega (arith, n, e, c.requires.1, c.loop-i-test.true, c.loop-i.invariant.behind))
+    let e : c.count-n.result ≡ w.count (rows_of c.args.m.now) = c.count-n.ensures in (
+      only_roomy w c.loop-i.invariant.left.only c.requires.0,
+      omega (arith, n, e, c.requires.1, c.loop-i-test.true),
+      omega (arith, n, e, c.requires.1, c.loop-i-test.true, c.loop-i.invariant.behind),
+    )
 
 pub overflow_add-k : goal.overflow_add-k
 overflow_add-k g c = omega (arith, c.loop-i.invariant.behind, c.loop-i-test.true)
