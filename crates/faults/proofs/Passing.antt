@@ -1,13 +1,19 @@
 -- A pass finds the first of the rules' offsets.
 use Rattle.std.proofs.Common.{ℕ, ◌+◌, ◌≡◌, Bool, true, false, ◌||◌, ◌&&◌, not, cond, if◌then◌else◌, ◌==◌, List, [], ◌∷◌, ◌++◌, map, refl, sym, ap, ◌∙◌, length, Option, Some, None, find, option_map}
 use mathlib.Core.Bool.{true≢false}
+use Rattle.std.specs.Bool.{⊤}
 use lib.Dec.{ltb}
 use Rattle.std.specs.Borrow.{Bor}
 use Rattle.std.proofs.lemmas.Iterator.{YieldsList}
+use Rattle.std.proofs.lemmas.Iterator.Search.{find_from_yields_List}
+use Rattle.std.specs.Iterator.{YieldsThen}
+use Rattle.std.specs.Fn.{CalledAt}
+use denote.Param.Members.{Mut}
+use Rattle.std.specs.List.{FoldsTo}
 use Rattle.std.proofs.lemmas.Iterator.Consumers.{YieldsList-from_shown}
 use Rattle.std.proofs.lemmas.Iterator.Adapters.{option_map_id}
 use Rattle.std.specs.Bool.{then_some}
-use Rattle.std.specs.Option.{is_some}
+use Rattle.std.specs.Option.{is_some, MatchOption}
 use Rattle.rules.specs.Lists.{keep, any, has}
 use Rattle.rules.specs.Fields.{complete, unread}
 use Rattle.rules.specs.Tags.{dump_rows}
@@ -47,11 +53,17 @@ module _ (fault : PlacedIs → Bool) (test : Placed → Bool)
       option_map (λ f. f.at) (find test (standing 0 nothing_before (complete bytes))) ≡ earliest_of (offsets fault (placed bytes))
   first_fault bytes = first_at 0 [] nothing_before (complete bytes) nothing_tells
 
-  -- as the library's search finds it
-  pub first_found : (bytes : Bor (List ℕ)) (s : Fields) (r : Option Placed) → s ≡ fields_from bytes →
-      option_map (λ f. f) r ≡ find test (left s) → option_map (λ f. f.at) r ≡ earliest_of (offsets fault (placed bytes.now))
-  first_found bytes s r e h =
-      ap (option_map (λ f. f.at)) (sym (option_map_id r) ∙ (h ∙ ap (λ (x : Fields). find test (left x)) e)) ∙ first_fault bytes.now
+  -- as the library's search finds it, by a closure that is the test
+  pub first_found : {F : Type 0} {g : Mut F (Bor Placed × Unit {0}) Bool} (bytes : Bor (List ℕ)) (s u : Fields) (closure : F) (r : Option Placed)
+      → s ≡ fields_from bytes
+      → (xs : List Placed) × (j : F) × YieldsThen Gives s xs r u × FoldsTo (λ p x q. CalledAt g p x false q) closure xs j
+      × MatchOption r ⊤ (λ x. (h : F) × CalledAt g j x true h)
+      → ((x : Placed) (b : Bool) (q : F) → CalledAt g closure x b q → (q ≡ closure) × (b ≡ test x))
+      → option_map (λ f. f.at) r ≡ earliest_of (offsets fault (placed bytes.now))
+  first_found bytes s u closure r e ran k =
+      ap (option_map (λ f. f.at)) (sym (option_map_id r)
+      ∙ (find_from_yields_List test u closure r ran (yields s) k ∙ ap (λ (x : Fields). find test (left x)) e))
+      ∙ first_fault bytes.now
 
 -- ---- the end
 

@@ -62,6 +62,7 @@ impl Living {
         self.marks[usize::from(n)]
     }
 
+    // A test for each type of the rules that can hold a name: each is a `match` of two arms, as their words in the contracts are.
     fn parent_lives(&self, p: Parent) -> bool
         ensures { result ≡ by_parent true (lives_in self.now) p }
     {

@@ -1,7 +1,7 @@
 // "Unknown tag, tags out of order, or a second 1, 3 or 4" (16), and which of these three is missing (15).
 ghost use Rattle.std.specs.Prelude.{◌≡◌};
 ghost use Rattle.rules.specs.Tags.{dump_facts};
-ghost use Rattle.faults.specs.Order.{nothing_before, seen as seen_of, misplaced_behind, after as after_of, missing as missing_of};
+ghost use Rattle.faults.specs.Order.{seen as seen_of, misplaced_behind, after as after_of, missing as missing_of};
 
 use rules::tags;
 
@@ -18,8 +18,9 @@ fn place_of(tag: u8) -> u8
     }
 }
 
-// What stood before a field: the place of the nearest one in the order of a dump, and whether a field 1, 3 and 4 was among them.
-#[derive(Clone, Copy)]
+// What stood before a field, by default nothing: the place of the nearest one in the order of a dump, and whether a field 1, 3 and 4 was
+// among them.
+#[derive(Clone, Copy, Default)]
 pub struct Before {
     place: u8,
     head: bool,
@@ -29,17 +30,6 @@ pub struct Before {
 
 #[tactic(auto, unfolding(crate::specs::Order::seen, crate::specs::Order::misplaced_behind, crate::specs::Order::after, crate::specs::Order::missing, rules::specs::Tags::dump_field))]
 impl Before {
-    pub fn nothing() -> Before
-        ensures { result ≡ nothing_before }
-    {
-        Before {
-            place: 0,
-            head: false,
-            ready: false,
-            clock: false,
-        }
-    }
-
     // Was a field of this tag, 1, 3 or 4, among those before?
     fn seen(&self, tag: u8) -> bool
         ensures { result ≡ seen_of self.now tag }

@@ -62,7 +62,7 @@ impl<'a> Fields<'a> {
         Fields {
             bytes,
             at: 0,
-            before: Before::nothing(),
+            before: Before::default(),
         }
     }
 

@@ -3,9 +3,7 @@ ghost use Rattle.std.specs.Prelude.{◌≡◌};
 ghost use Rattle.fields.specs.Fields.{cut, EndOf};
 
 use crate::Cut;
-
-// A tag byte and a length of two bytes stand before a value.
-const BEFORE_VALUE: usize = 3;
+use rules::tags;
 
 // The field at a place.
 #[tactic(auto, unfolding(crate::specs::Fields::field_size, crate::specs::Fields::whole))]
@@ -17,7 +15,7 @@ pub fn cut_at(input: &[u8], place: usize) -> Cut
         let size = usize::from(u16::from_be_bytes([*high, *low]));
         if size <= value.len() {
             return Cut {
-                end: place + BEFORE_VALUE + size,
+                end: place + tags::BEFORE_VALUE + size,
                 whole: true,
             };
         }
