@@ -1,5 +1,6 @@
 -- Cutting fields: what `opens` says by places, and the loop that reads a row of fields of one tag and one length.
-use Rattle.std.proofs.Common.{◌==◌}
+use Rattle.std.proofs.lemmas.Option.{none-some, same_Some}
+use Rattle.std.proofs.Common.{Option, None, Some, ◌==◌}
 use Prim.Native.Nat.{ℕ, ◌+◌, ◌*◌, ◌-◌, ◌≤◌, ◌<◌}
 use mathlib.Core.Path.{◌≡◌, refl, sym, ap, ◌∙◌}
 use mathlib.Core.Bool.{Bool, true, false, true≢false}
@@ -169,42 +170,45 @@ module _ {A : Type 0} (most tag size : ℕ) (value : A → List ℕ) (back : Lis
 -- ---- a field of names
 
 module _ (tag : ℕ) (bytes : List ℕ) (from : ℕ) where
-  -- a field of names tells how many
-  many : (q rest : List ℕ) → length q ≤ 20 → drop from bytes ≡ field tag q ++ rest → get_or bytes (from + 2) 0 ≡ length q
-  many q rest l e = omega (arith, ap (λ (s : List ℕ). get_or s 2 0) e, get_or-drop from bytes 2 0)
-
   -- bytes that start with no such field
-  pub names_short : length bytes - from < 3 → NamesCounted tag bytes from 255
-  names_short h =
-      record { whole = λ k. absurd (omega arith); counts = λ q rest l e. absurd (omega (arith, ap length e, length-drop from bytes)) }
+  no_names : ((q rest : List ℕ) → length q ≤ 20 → drop from bytes ≡ field tag q ++ rest → ⊥) → NamesCounted tag bytes from None
+  no_names never = record { whole = λ n e. absurd (none-some _ e); counts = λ q rest l e. absurd (never q rest l e) }
 
-  pub names_many : 20 < get_or bytes (from + 2) 0 → NamesCounted tag bytes from 255
-  names_many h = record { whole = λ k. absurd (omega arith); counts = λ q rest l e. absurd (omega (arith, many q rest l e)) }
+  -- the third byte tells how many, where the slice from the place on has one
+  module _ (size : ℕ) (z : (d : ℕ) → size ≡ get_or (take (length bytes - from) (drop from bytes)) 2 d) where
+    many : (q rest : List ℕ) → length q ≤ 20 → drop from bytes ≡ field tag q ++ rest → size ≡ length q
+    many q rest l e =
+        let k : length (drop from bytes) ≤ length bytes - from = omega (arith, length-drop from bytes) in
+        z 0 ∙ ap (λ (s : List ℕ). get_or s 2 0) (take_all (length bytes - from) (drop from bytes) k ∙ e) ∙ omega arith
 
-  pub names_shut : opens tag (get_or bytes (from + 2) 0) (drop from bytes) ≡ false → NamesCounted tag bytes from 255
-  names_shut o = record {
-    whole = λ k. absurd (omega arith);
-    counts = λ q rest l e.
-        absurd (clash (field_opens tag q rest (omega arith))
-        (ap (λ (n : ℕ). opens tag n (field tag q ++ rest)) (sym (many q rest l e)) ∙ ap (opens tag (get_or bytes (from + 2) 0)) (sym e) ∙ o));
-  }
+    pub names_many : 20 < size → NamesCounted tag bytes from None
+    names_many h = no_names (λ q rest l e. omega (arith, many q rest l e))
 
-  pub names_open : opens tag (get_or bytes (from + 2) 0) (drop from bytes) ≡ true → NamesCounted tag bytes from (get_or bytes (from + 2) 0)
-  names_open o = record { whole = λ k. omega (arith, field_within tag (get_or bytes (from + 2) 0) bytes from o); counts = many }
+    pub names_shut : opens tag size (drop from bytes) ≡ false → NamesCounted tag bytes from None
+    names_shut o = no_names (λ q rest l e. clash (field_opens tag q rest (omega arith))
+        (ap (λ (n : ℕ). opens tag n (field tag q ++ rest)) (sym (many q rest l e)) ∙ ap (opens tag size) (sym e) ∙ o))
 
-  module _ (n : ℕ) (C : NamesCounted tag bytes from n) (names : List ℕ) where
-    pub names_none : 20 < n → NamesRead tag (drop from bytes) false names (drop from bytes)
-    names_none h = record { reads = λ q rest l e. absurd (omega (arith, C.counts q rest l e)) }
-
-    pub names_read : names ≡ take (from + 3 + n - (from + 3)) (drop (from + 3) bytes) →
-        NamesRead tag (drop from bytes) true names (drop (from + 3 + n) bytes)
-    names_read k = record {
-      reads = λ q rest l e.
-          let long : length q ≡ n = sym (C.counts q rest l e) in
-          let size : from + 3 + n - (from + 3) ≡ n = omega arith in
-          let f : drop (from + 3) bytes ≡ q ++ rest = sym (drop-drop 3 from bytes) ∙ ap (drop 3) e in (
-            refl,
-            k ∙ ap (λ (j : ℕ). take j (drop (from + 3) bytes)) size ∙ ap (take n) f ∙ take_at q rest n long,
-            sym (drop-drop n (from + 3) bytes) ∙ ap (drop n) f ∙ drop_at q rest n long,
-          );
+    pub names_open : size ≤ 20 → opens tag size (drop from bytes) ≡ true → NamesCounted tag bytes from (Some size)
+    names_open h o = record {
+      whole = λ n e. (omega (arith, same_Some _ _ e), omega (arith, same_Some _ _ e, field_within tag size bytes from o));
+      counts = λ q rest l e. ap Some (many q rest l e);
     }
+
+  pub names_none : (names : List ℕ) → NamesCounted tag bytes from None → NamesRead tag bytes from None names
+  names_none names C =
+      record { within = λ n e. absurd (none-some _ e); reads = λ q rest l e. absurd (none-some _ (C.counts q rest l e)) }
+
+  pub names_read : (n : ℕ) (names : List ℕ) → NamesCounted tag bytes from (Some n) → names ≡ take (from + 3 + n - (from + 3)) (drop (from + 3) bytes) →
+      NamesRead tag bytes from (Some (from + 3 + n)) names
+  names_read n names C k = record {
+    within = λ p e. omega (arith, same_Some _ _ e, (C.whole n refl).1);
+    reads = λ q rest l e.
+        let long : length q ≡ n = sym (same_Some _ _ (C.counts q rest l e)) in
+        let size : from + 3 + n - (from + 3) ≡ n = omega arith in
+        let f : drop (from + 3) bytes ≡ q ++ rest = sym (drop-drop 3 from bytes) ∙ ap (drop 3) e in (
+          from + 3 + n,
+          refl,
+          k ∙ ap (λ (j : ℕ). take j (drop (from + 3) bytes)) size ∙ ap (take n) f ∙ take_at q rest n long,
+          sym (drop-drop n (from + 3) bytes) ∙ ap (drop n) f ∙ drop_at q rest n long,
+        );
+  }

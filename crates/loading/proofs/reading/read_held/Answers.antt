@@ -56,12 +56,6 @@ fill_held-requires c = (
   c.loop-n.invariant.holds,
 )
 
-pub overflow_add-n : goal.overflow_add-n
-overflow_add-n c = omega (arith, c.loop-n-test.true)
-
-pub loop-n-smaller : goal.loop-n-smaller
-loop-n-smaller c = omega (arith, c.loop-n-test.true)
-
 pub loop-n-preserved : goal.loop-n-preserved
 loop-n-preserved c =
     let more : opens 6 5 (drop c.loop-n.at c.args.bytes.now) ≡ true = seen 6 5 c.args.bytes.now

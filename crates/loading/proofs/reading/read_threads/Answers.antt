@@ -42,12 +42,6 @@ pub fill_thread-requires : goal.fill_thread-requires
 fill_thread-requires c = thread_room c.loop-n.invariant
     c.loop-n-test.true
 
-pub overflow_add-n : goal.overflow_add-n
-overflow_add-n c = omega (arith, c.loop-n-test.true)
-
-pub loop-n-smaller : goal.loop-n-smaller
-loop-n-smaller c = omega (arith, c.loop-n-test.true)
-
 pub loop-n-preserved : goal.loop-n-preserved
 loop-n-preserved c =
     let more : opens 2 17 (drop c.loop-n.at c.args.bytes.now) ≡ true = seen 2 17 c.args.bytes.now
