@@ -1,6 +1,6 @@
 -- Cutting fields: what `opens` says by places, and the loop that reads a row of fields of one tag and one length.
 use Rattle.std.proofs.lemmas.Option.{none-some, same_Some}
-use Rattle.std.proofs.Common.{Option, None, Some, ◌==◌}
+use Rattle.std.proofs.Common.{Bor, Option, None, Some, ◌==◌}
 use Prim.Native.Nat.{ℕ, ◌+◌, ◌*◌, ◌-◌, ◌≤◌, ◌<◌}
 use mathlib.Core.Path.{◌≡◌, refl, sym, ap, ◌∙◌}
 use mathlib.Core.Bool.{Bool, true, false, true≢false}
@@ -9,13 +9,13 @@ use mathlib.Core.List.{List, [], ◌∷◌, ◌++◌, Memᴰ, append_assoc, appe
 use native.Mathlib.Omega.{arith}
 use lib.Dec.{leb}
 use lib.ListN.{length, take, drop, get_or, length-append, length-drop}
-use lib.Seq.{take_at, drop_at, drop-drop, get_or-drop, take_all, append_snoc}
+use lib.Seq.{length-take-le, take_at, drop_at, drop-drop, take_all, append_snoc}
 use borrow.Author.Tests.{eq-eqb, leb-true, le-leb}
 use Rattle.rules.specs.Lists.{each}
 use Rattle.rules.specs.Dump.{field}
 use Rattle.laws.proofs.Tests.{three, clash, ◌&◌}
 use Rattle.laws.proofs.Bytes.{two_back}
-use Rattle.loading.specs.Reading.{starts, opens, RowRead, NamesCounted, NamesRead}
+use Rattle.loading.specs.Reading.{FieldAt, starts, opens, RowRead, NamesCounted, NamesRead}
 
 -- ---- the head of a field
 
@@ -46,6 +46,34 @@ seen tag size bytes at e f =
 -- the field that opens at a place ends within the bytes
 pub field_within : (tag size : ℕ) (bytes : List ℕ) (at : ℕ) → opens tag size (drop at bytes) ≡ true → at + (size + 3) ≤ length bytes
 field_within tag size bytes at o = omega (arith, (opens_room tag size (drop at bytes) o).1, length-drop at bytes)
+
+-- the value of a field, if one opens
+module _ (tag size : ℕ) (bytes : List ℕ) (at : ℕ) where
+  pub no_field : opens tag size (drop at bytes) ≡ false → FieldAt tag size bytes at None
+  no_field o = record { shut = λ _. o; opened = λ v e. absurd (none-some _ e) }
+
+  pub one_field : opens tag size (drop at bytes) ≡ true → (b : Bor (List ℕ)) (n : ℕ) → n ≡ size →
+      b.now ≡ take (at + 3 + n - (at + 3)) (drop (at + 3) bytes) → FieldAt tag size bytes at (Some b)
+  one_field o b n i e = record {
+    shut = λ f. absurd (none-some _ (sym f));
+    opened = λ v f.
+        let k : at + 3 + n - (at + 3) ≡ size = omega (arith, i) in
+        (o, ap (λ (c : Bor (List ℕ)). c.now) (sym (same_Some _ _ f)) ∙ e ∙ ap (λ (j : ℕ). take j (drop (at + 3) bytes)) k);
+  }
+
+module _ {tag size : ℕ} {bytes : List ℕ} {at : ℕ} {value : Option (Bor (List ℕ))} (F : FieldAt tag size bytes at value) where
+  pub long_value : {v : Bor (List ℕ)} → value ≡ Some v → size ≤ length v.now
+  long_value {v} e =
+      let o = F.opened v e in
+      omega (
+        arith,
+        ap length o.1,
+        length-take-le size (drop (at + 3) bytes) (omega (arith, field_within tag size bytes at o.0, length-drop (at + 3) bytes)),
+      )
+
+  pub read_value : {A : Type 0} (back : List ℕ → A) {v : Bor (List ℕ)} {x : A} → value ≡ Some v → x ≡ back v.now →
+      x ≡ back (take size (drop (at + 3) bytes))
+  read_value back {v} e f = f ∙ ap back (F.opened v e).1
 
 -- ---- a row of fields
 
@@ -107,15 +135,10 @@ module _ {A : Type 0} (most tag size : ℕ) (value : A → List ℕ) (back : Lis
           ap (λ (k : ℕ). drop k bytes) on ∙ sym (drop-drop size (at + 3) bytes) ∙ ap (drop size) (sym (drop-drop 3 at bytes)) ∙ r.1,
         )
 
-    -- as the slice between two places says it
-    exact : (at : ℕ) (x : A) → x ≡ back (take (at + (size + 3) - (at + 3)) (drop (at + 3) bytes)) →
-        x ≡ back (take size (drop (at + 3) bytes))
-    exact at x e = let k : at + (size + 3) - (at + 3) ≡ size = omega arith in e ∙ ap (λ (m : ℕ). back (take m (drop (at + 3) bytes))) k
-
     -- One more field was read. The row with its element is the row and then the element, where the fields are those of a row that is fine.
     pub cut_next : (row row' : List A) (n at : ℕ) (x : A) → Cut most tag value fine bytes from row n at → n < most →
         opens tag size (drop at bytes) ≡ true
-        → x ≡ back (take (at + (size + 3) - (at + 3)) (drop (at + 3) bytes))
+        → x ≡ back (take size (drop (at + 3) bytes))
         → ((xs zs : List A) → fine xs → row ++ x ∷ zs ≡ xs → row' ≡ row ++ (x ∷ []))
         → Cut most tag value fine bytes from row' (n + 1) (at + (size + 3))
     cut_next row row' n at x C h o e grown = record {
@@ -123,7 +146,7 @@ module _ {A : Type 0} (most tag size : ℕ) (value : A → List ℕ) (back : Lis
       within = field_within tag size bytes at o;
       so = λ xs rest l f s g.
           let r = C.so xs rest l f s g in
-          let q = next_is row at x xs r.0 rest o (exact at x e) f s r.1 r.3 in
+          let q = next_is row at x xs r.0 rest o e f s r.1 r.3 in
           let d : row' ≡ row ++ (x ∷ []) = grown xs q.0 f q.1 in (
             q.0,
             ap (λ (l : List A). l ++ q.0) d ∙ append_snoc row x q.0 ∙ q.1,
@@ -158,12 +181,12 @@ module _ {A : Type 0} (most tag size : ℕ) (value : A → List ℕ) (back : Lis
 
     -- an element that no row has which is fine
     pub cut_stops : (row : List A) (n at : ℕ) (x : A) → Cut most tag value fine bytes from row n at → opens tag size (drop at bytes) ≡ true
-        → x ≡ back (take (at + (size + 3) - (at + 3)) (drop (at + 3) bytes)) → ((xs : List A) → fine xs → Memᴰ x xs → ⊥)
+        → x ≡ back (take size (drop (at + 3) bytes)) → ((xs : List A) → fine xs → Memᴰ x xs → ⊥)
         → RowRead most tag value fine (drop from bytes) row (drop at bytes)
     cut_stops row n at x C o e never = record {
       reads = λ xs rest l f s g.
           let r = C.so xs rest l f s g in
-          let q = next_is row at x xs r.0 rest o (exact at x e) f s r.1 r.3 in
+          let q = next_is row at x xs r.0 rest o e f s r.1 r.3 in
           absurd (never xs f (rw (← q.1) (Memᴰ.append_right row (Memᴰ.head refl))));
     }
 

@@ -1,5 +1,6 @@
 -- What the stages of reading promise: the parts of a dump, put into a memory that is lent.
-use Rattle.std.specs.Prelude.{ℕ, ◌+◌, ◌*◌, ◌≤◌, Bool, true, false, ◌&&◌, ◌≡◌, leb, ltb, length, drop, get_or, if◌then◌else◌, ◌==◌, Option, None, Some}
+use Rattle.std.specs.Prelude.{ℕ, ◌+◌, ◌*◌, ◌≤◌, Bool, true, false, ◌&&◌, ◌≡◌, leb, ltb, length, take, drop, get_or, if◌then◌else◌, ◌==◌, Option, None, Some}
+use Rattle.std.specs.Borrow.{Bor}
 use mathlib.Core.List.{List, [], ◌∷◌, ◌++◌, Memᴰ}
 use Rattle.rules.specs.Lists.{each, chain}
 use Rattle.rules.specs.Numbers.{small, devices}
@@ -23,6 +24,11 @@ opens tag size [] = false
 opens tag size (t ∷ []) = false
 opens tag size (t ∷ high ∷ []) = false
 opens tag size (t ∷ high ∷ low ∷ rest) = (t == tag) && (high * 256 + low == size) && leb size (length rest)
+
+-- the value of the field of this tag and this length that starts at a place, if one does
+pub record FieldAt (tag size : ℕ) (bytes : List ℕ) (at : ℕ) (value : Option (Bor (List ℕ))) : Type 0 where
+  pub shut : value ≡ None → opens tag size (drop at bytes) ≡ false
+  pub opened : (v : Bor (List ℕ)) → value ≡ Some v → (opens tag size (drop at bytes) ≡ true) × (v.now ≡ take size (drop (at + 3) bytes))
 
 -- ---- the memory that is filled
 

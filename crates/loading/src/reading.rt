@@ -30,14 +30,11 @@ fn read_threads(m: &mut [u32], bytes: &[u8], from: usize) -> usize
 {
     let mut at = from;
     for n in 0..numbers::THREADS {
-        if !opening::opens(&bytes[at..], tags::THREAD, tags::THREAD_SIZE) {
+        let Some(value) = opening::value_at(bytes, at, tags::THREAD, tags::THREAD_SIZE) else {
             return at;
-        }
-        let start = at + tags::BEFORE_VALUE;
-        let end = at + tags::THREAD_FIELD;
-        let x = values::read_thread(&bytes[start..end]);
-        store::fill_thread(m, x);
-        at = end;
+        };
+        store::fill_thread(m, values::read_thread(value));
+        at += tags::THREAD_FIELD;
     }
     at
 }
@@ -98,14 +95,11 @@ fn read_messages(m: &mut [u32], bytes: &[u8], from: usize) -> usize
 {
     let mut at = from;
     for n in 0..numbers::MESSAGES {
-        if !opening::opens(&bytes[at..], tags::MESSAGE, tags::MESSAGE_SIZE) {
+        let Some(value) = opening::value_at(bytes, at, tags::MESSAGE, tags::MESSAGE_SIZE) else {
             return at;
-        }
-        let start = at + tags::BEFORE_VALUE;
-        let end = at + tags::MESSAGE_FIELD;
-        let x = values::read_message(&bytes[start..end]);
-        store::fill_message(m, x);
-        at = end;
+        };
+        store::fill_message(m, values::read_message(value));
+        at += tags::MESSAGE_FIELD;
     }
     at
 }
@@ -119,17 +113,15 @@ fn read_held(m: &mut [u32], bytes: &[u8], from: usize) -> usize
 {
     let mut at = from;
     for n in 0..numbers::HELD {
-        if !opening::opens(&bytes[at..], tags::HELD, tags::HELD_SIZE) {
+        let Some(value) = opening::value_at(bytes, at, tags::HELD, tags::HELD_SIZE) else {
             return at;
-        }
-        let start = at + tags::BEFORE_VALUE;
-        let end = at + tags::HELD_FIELD;
-        let x = values::read_word(&bytes[start..end]);
+        };
+        let x = values::read_word(value);
         if x.device >= numbers::DEVICES {
             return at;
         }
         store::fill_held(m, x.device, x.word);
-        at = end;
+        at += tags::HELD_FIELD;
     }
     at
 }

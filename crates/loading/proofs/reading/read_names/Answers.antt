@@ -1,5 +1,4 @@
 -- `reading::read_names` meets its contract: no field, or its names.
-use Rattle.std.proofs.Common.{◌+◌, ◌-◌, take, drop}
 use Rattle.loading.proofs.Cutting.{names_read}
 use Rattle.loading.proofs.Filling.{named, named_now}
 use Rattle.loading.proofs.reading.read_names.Goals as goal
