@@ -6,7 +6,7 @@ ghost use Rattle.store.specs.Store.{tables, Leaves};
 ghost use Rattle.handling.specs.Standing.{AtRest};
 
 use crate::moves;
-use rules::{Answer, numbers};
+use rules::Answer;
 use store;
 
 // The device's waiter becomes ready with the status word, or the word is held. Where a word is held already, nobody waits.
@@ -18,10 +18,9 @@ pub fn interrupt(m: &mut [u32], d: u8, word: u32)
         store::hold(m, d, word);
         return;
     }
-    let name = store::waiter(m, d);
-    if name == numbers::NOBODY {
-        store::hold(m, d, word);
-    } else {
+    if let Some(name) = store::waiter(m, d) {
         moves::wake(m, name, Answer::Result(word));
+    } else {
+        store::hold(m, d, word);
     }
 }

@@ -1,7 +1,8 @@
 -- What a search of a memory's rows says of its tables.
-use Rattle.std.proofs.Common.{◌≡◌, ℕ, suc, ◌+◌, ◌<◌, ◌≤◌, Bool, true, false, not, ltb, List, [], ◌∷◌, ◌++◌, length, get_or, take, drop, set, sym, refl, ap, ◌∙◌, arith, get_or-take, if◌then◌else◌}
+use Rattle.std.proofs.Common.{◌≡◌, ℕ, suc, ◌+◌, ◌<◌, ◌≤◌, Bool, true, false, not, ltb, List, [], ◌∷◌, ◌++◌, length, get_or, take, drop, set, sym, refl, ap, ◌∙◌, arith, get_or-take, if◌then◌else◌, None, Some}
+use Rattle.std.specs.List.{find}
+use Rattle.std.specs.Option.{option_map}
 use Rattle.rules.specs.Lists.{count, insert}
-use Rattle.rules.specs.Numbers.{nobody}
 use Rattle.rules.specs.Tables.{with_threads, named, live, of_thread, change}
 use Rattle.laws.specs.Words.{Thread}
 use Rattle.laws.specs.Types.{Rising}
@@ -105,36 +106,36 @@ module _ (m : List ℕ) (s : Shaped m) where
 
 -- ---- the first thread that passes stands at i
 
-pub name_at : (p : Thread → Bool) (ts : List Thread) (d : Thread) → place p ts < length ts → (get_or ts (place p ts) d).name ≡ name_where p ts
-unfolding place name_where
+pub name_at : (p : Thread → Bool) (ts : List Thread) (d : Thread) → place p ts < length ts → Some (get_or ts (place p ts) d).name ≡ name_where p ts
+unfolding place
 name_at p [] d h = absurd (omega arith)
 name_at p (t ∷ ts) d h = go (name_at p ts d) (p t) h
   where
-    go : (place p ts < length ts → (get_or ts (place p ts) d).name ≡ name_where p ts) → (b : Bool) →
+    go : (place p ts < length ts → Some (get_or ts (place p ts) d).name ≡ name_where p ts) → (b : Bool) →
         (if b then 0 else suc (place p ts)) < suc (length ts) →
-        (get_or (t ∷ ts) (if b then 0 else suc (place p ts)) d).name ≡ (if b then t.name else name_where p ts)
+        Some (get_or (t ∷ ts) (if b then 0 else suc (place p ts)) d).name ≡ option_map (λ u. u.name) (if b then Some t else find p ts)
     go r true h = refl
     go r false h = r (omega arith)
 
-pub no_name : (p : Thread → Bool) (ts : List Thread) → length ts ≤ place p ts → nobody ≡ name_where p ts
-unfolding place name_where
+pub no_name : (p : Thread → Bool) (ts : List Thread) → length ts ≤ place p ts → None ≡ name_where p ts
+unfolding place
 no_name p [] h = refl
 no_name p (t ∷ ts) h = go (no_name p ts) (p t) h
   where
-    go : (length ts ≤ place p ts → nobody ≡ name_where p ts) → (b : Bool) → suc (length ts) ≤ (if b then 0 else suc (place p ts)) →
-        nobody ≡ (if b then t.name else name_where p ts)
+    go : (length ts ≤ place p ts → None ≡ name_where p ts) → (b : Bool) → suc (length ts) ≤ (if b then 0 else suc (place p ts)) →
+        None ≡ option_map (λ u. u.name) (if b then Some t else find p ts)
     go r true h = absurd (omega arith)
     go r false h = r (omega arith)
 
 module _ (m : List ℕ) (s : Shaped m) (p : Thread → Bool) (i : ℕ) (f : i ≡ place p (view (rows_of m)).threads) where
-  pub name_found : i < (rows_of m).count → (get_or (rows_of m).threads i no_thread).name ≡ name_where p (tables m).threads
+  pub name_found : i < (rows_of m).count → Some (get_or (rows_of m).threads i no_thread).name ≡ name_where p (tables m).threads
   unfolding tables
   name_found h =
       let j : i < length (tables m).threads = omega (arith, threads_length m s) in
-      ap (λ (t : Thread). t.name) (thread_entry m s i j)
-      ∙ (ap (λ (k : ℕ). (get_or (tables m).threads k no_thread).name) f ∙ name_at p (tables m).threads no_thread (omega arith))
+      ap (λ (t : Thread). Some t.name) (thread_entry m s i j)
+      ∙ (ap (λ (k : ℕ). Some (get_or (tables m).threads k no_thread).name) f ∙ name_at p (tables m).threads no_thread (omega arith))
 
-  pub name_nowhere : (rows_of m).count ≤ i → nobody ≡ name_where p (tables m).threads
+  pub name_nowhere : (rows_of m).count ≤ i → None ≡ name_where p (tables m).threads
   unfolding tables
   name_nowhere h = no_name p (tables m).threads (omega (arith, threads_length m s))
 

@@ -18,16 +18,8 @@ pub use inboxes::{blocks_full, discard_notice, message_at, message_count, queue,
 pub use queues::{
     clock_at, clock_count, drop_front, join_clock, join_ready, ready_at, ready_count, wake_clock,
 };
-use rules::Message;
 pub use threads::{
     add_thread, add_tick, answer_of, is_live, manager_of, name_at, parent_of, place_of,
     receives_from, set_manager, some_wakes, thread_at, thread_count, threads_full, ticks_of,
     trapped_on, turn, waiter,
 };
-
-// What a search of an inbox took out of it.
-#[derive(Clone, Copy)]
-pub enum Taken {
-    Missing,
-    Took(Message),
-}

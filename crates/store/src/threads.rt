@@ -14,7 +14,7 @@ ghost use Rattle.store.specs.Store.{limits, tables, Shaped, Holding, Leaves, pla
 
 use memory::memory as rows;
 use moving::threads;
-use rules::{Answer, Manager, Parent, State, Thread, TrapKind, numbers};
+use rules::{Answer, Manager, Parent, State, Thread, TrapKind};
 use words::states;
 
 // How many threads there are.
@@ -140,16 +140,16 @@ pub fn answer_of(m: &[u32], name: u8) -> Answer
     }
 }
 
-// Who waits for a device, or NOBODY.
-pub fn waiter(m: &[u32], d: u8) -> u8
+// Who waits for a device.
+pub fn waiter(m: &[u32], d: u8) -> Option<u8>
     requires { Shaped m.now }
     ensures { result ≡ name_where (waits_for d) (tables m.now).threads }
 {
     let i = threads::find_waiter(m, d);
     if i < rows::count(m) {
-        rows::name_at(m, i)
+        Some(rows::name_at(m, i))
     } else {
-        numbers::NOBODY
+        None
     }
 }
 
@@ -185,7 +185,7 @@ pub fn add_tick(m: &mut [u32], name: u8)
 {
     let i = threads::find(m, name);
     if i < rows::count(m) {
-        let n = std::num::wrapping_add_u32(rows::ticks_at(m, i), 1);
+        let n = rows::ticks_at(m, i).wrapping_add(1);
         rows::set_ticks(m, i, n);
     }
 }

@@ -22,32 +22,24 @@ returns-then-is_held c =
     ∙ c.if-is_held.true))))
     c.hold.ensures
 
-pub waiter-name-requires : goal.waiter-name-requires
-waiter-name-requires c = c.requires.0.holding.shaped
-
-pub hold-requires-then-name : goal.hold-requires-then-name
-hold-requires-then-name c =
+pub hold-requires-in_default : goal.hold-requires-in_default
+hold-requires-in_default c =
     (c.requires.0.holding, c.requires.1, held_low (tables c.args.m.now) c.requires.0.ruled)
 
 pub wake-requires : goal.wake-requires
-wake-requires c = (
-  c.requires.0.holding,
-  waiter_room (tables c.args.m.now) c.requires.0.ruled c.args.d _ c.waiter-name.ensures
-      c.if-name.false,
-)
+wake-requires c =
+    (c.requires.0.holding, waiter_room (tables c.args.m.now) c.requires.0.ruled c.args.d _ (sym c.waiter.ensures ∙ c.in-Some.is))
 
-pub returns-then-name : goal.returns-then-name
-returns-then-name c =
+pub returns-in_default : goal.returns-in_default
+returns-in_default c =
     let T = tables c.args.m.now in
     in_words
     (sym (interrupt_holds T c.args.d c.args.word
-    (no_waiter T c.requires.0.ruled c.args.d (sym c.waiter-name.ensures
-    ∙ c.if-name.true))))
-    c.hold-then-name.ensures
+    (no_waiter T c.requires.0.ruled c.args.d (sym c.waiter.ensures ∙ c.in_default.is))))
+    c.hold-in_default.ensures
 
-pub returns-else-name : goal.returns-else-name
-returns-else-name c =
+pub returns-in-Some : goal.returns-in-Some
+returns-in-Some c =
     in_words
-    (waiter_wakes (tables c.args.m.now) c.requires.0.ruled c.args.d _ c.waiter-name.ensures
-    c.if-name.false c.args.word)
+    (waiter_wakes (tables c.args.m.now) c.requires.0.ruled c.args.d _ (sym c.waiter.ensures ∙ c.in-Some.is) c.args.word)
     c.wake.ensures

@@ -15,8 +15,8 @@ pub count-requires : goal.count-requires
 count-requires c =
     roomy c.args.m.now c.requires.shaped
 
-pub ticks_at-requires : goal.ticks_at-requires
-ticks_at-requires c =
+pub ticks_at-n-requires : goal.ticks_at-n-requires
+ticks_at-n-requires c =
     found_here c.args.m.now c.requires.shaped (omega (arith, c.if-i-count.true, c.count.ensures))
 
 pub set_ticks-requires : goal.set_ticks-requires
@@ -30,8 +30,7 @@ returns-then-i-count c =
     (omega (arith, c.if-i-count.true, c.count.ensures))
     (c.set_ticks.ensures
     ∙ ap (λ (n : ℕ). put_threads (set r.threads c.find-i.result
-    (with_ticks n (get_or r.threads c.find-i.result no_thread))) r) (c.wrapping_add_u32-n.ensures.value
-    ∙ ap (λ (n : ℕ). one_more n) c.ticks_at.ensures))
+    (with_ticks (one_more n) (get_or r.threads c.find-i.result no_thread))) r) c.ticks_at-n.ensures)
 
 pub returns-else-i-count : goal.returns-else-i-count
 returns-else-i-count c =

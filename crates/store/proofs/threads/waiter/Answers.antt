@@ -1,5 +1,5 @@
 -- `threads::waiter` meets its contract.
-use Rattle.std.proofs.Common.{◌∙◌, arith}
+use Rattle.std.proofs.Common.{ap, ◌∙◌, arith, Some}
 use Rattle.store.proofs.Searched.{name_found, name_nowhere, roomy, few_threads, found_here}
 use Rattle.rules.specs.States.{waits_for}
 use Rattle.store.proofs.threads.waiter.Goals as goal
@@ -16,7 +16,7 @@ name_at-requires c =
 
 pub returns-then-i-count : goal.returns-then-i-count
 returns-then-i-count c =
-    c.name_at.ensures ∙ name_found c.args.m.now c.requires (waits_for c.args.d) _ c.find_waiter-i.ensures
+    ap Some c.name_at.ensures ∙ name_found c.args.m.now c.requires (waits_for c.args.d) _ c.find_waiter-i.ensures
     (omega (arith, c.if-i-count.true, c.count.ensures))
 
 pub returns-else-i-count : goal.returns-else-i-count
