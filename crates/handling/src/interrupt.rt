@@ -14,7 +14,7 @@ pub fn interrupt(m: &mut [u32], d: u8, word: u32)
     requires { AtRest m.old × (d < devices) }
     ensures { Leaves m.old m.new (interrupt_of d word (tables m.old)) }
 {
-    if store::is_held(m, d) {
+    if store::word_held(m, d).is_some() {
         store::hold(m, d, word);
         return;
     }

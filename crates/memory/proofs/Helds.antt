@@ -1,5 +1,5 @@
 -- Held words, each at its device's place: F says of a device whether one is held, W which.
-use Rattle.std.proofs.Common.{if◌then◌else◌, ◌==◌}
+use Rattle.std.proofs.Common.{if◌then◌else◌, ◌==◌, Some, None}
 use Prim.Native.Nat.{ℕ, zero, suc, ◌+◌, ◌≤◌, ◌<◌}
 use mathlib.Core.Path.{◌≡◌, refl, sym, ap, ap₂, ◌∙◌}
 use mathlib.Core.Logic.{◌≢◌, ⊎_elim}
@@ -17,7 +17,7 @@ use Rattle.laws.specs.Words.{Held}
 use Rattle.laws.proofs.Tests.{by_if, clash, same?, and_false}
 use Rattle.words.specs.Saying.{word, held_in}
 use Rattle.memory.specs.Layout.{held_place}
-use Rattle.memory.specs.Rows.{word_for, put_held}
+use Rattle.memory.specs.Rows.{word_for, held_word as held_word_of, put_held}
 use Rattle.memory.specs.Memory.{held_of, rows_of}
 use Rattle.memory.proofs.Rowing.{Elsewhere, each_same, stored, widen, twice}
 use Rattle.memory.proofs.Changes.{held_stays, held_put}
@@ -102,6 +102,12 @@ module _ (F W : ℕ → ℕ) where
   held_word d h =
       sym (word_keep d (helds 0 devices)) ∙ ap (word_for d) (own d 0 devices (omega arith) (omega arith) (omega arith))
       ∙ by_if (λ xs. word_for d xs ≡ (if F d == 1 then W d else 0)) (F d == 1) (λ e. rw (e, eq-eqb d d refl) refl) (λ e. rw e refl)
+
+  pub held_found : (d : ℕ) → d < devices → F d ≡ 1 → held_word_of d (helds 0 devices) ≡ Some (W d)
+  held_found d h e = rw (is_held d h, held_word d h, e) refl
+
+  pub held_none : (d : ℕ) → d < devices → (F d ≡ 1 → ⊥) → held_word_of d (helds 0 devices) ≡ None
+  held_none d h n = rw (is_held d h, ne_eqb (F d) 1 n) refl
 
   pub held_taken : (d : ℕ) → d < devices → any (held_for d) (helds 0 devices) ≡ true → word_for d (helds 0 devices) ≡ W d
   held_taken d h e = held_word d h ∙ ap (λ (b : Bool). if b then W d else 0) (sym (is_held d h) ∙ e)

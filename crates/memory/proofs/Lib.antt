@@ -4,3 +4,5 @@ pub mod Fields
 pub mod Helds
 pub mod Clears
 pub mod Sizes
+pub mod Walks
+pub mod Listing

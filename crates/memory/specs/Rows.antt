@@ -1,5 +1,6 @@
 -- What a memory holds: rows, each with as many entries as there is room for, and their counts; and as the rules' tables.
-use Rattle.std.specs.Prelude.{ℕ, suc, ◌+◌, ◌≤◌, ◌<◌, ◌≡◌, Bool, List, [], ◌∷◌, length, take, if◌then◌else◌}
+use Rattle.std.specs.Prelude.{ℕ, suc, ◌+◌, ◌≤◌, ◌<◌, ◌≡◌, Bool, List, [], ◌∷◌, length, take, if◌then◌else◌, Option, Some, None}
+use Rattle.rules.specs.Lists.{any}
 use Rattle.rules.specs.Numbers.{Limits, names}
 use Rattle.laws.specs.Words.{Running, NoParent, Ordinary, Thread, Message, Held, Runner, NoRunner}
 use Rattle.rules.specs.Tables.{Tables, new_thread}
@@ -72,6 +73,10 @@ nothing = record { last = 0; runner = NoRunner; since = 0; beats = 0; threads = 
 unfoldable pub word_for : ℕ → List Held → ℕ
 word_for d [] = 0
 word_for d (h ∷ hs) = if held_for d h then h.word else word_for d hs
+
+-- the word that is held for a device, where one is
+abbrev pub held_word : ℕ → List Held → Option ℕ
+held_word d hs = if any (held_for d) hs then Some (word_for d hs) else None
 
 -- what an entry behind the end would be: it is never asked for
 abbrev pub no_thread : Thread

@@ -8,7 +8,7 @@ ghost use Rattle.rules.specs.Interrupt.{held_for, hold as hold_of};
 ghost use Rattle.words.specs.Saying.{thread_in};
 ghost use Rattle.memory.specs.Layout.{most_blocks, manager_place};
 ghost use Rattle.memory.specs.Shape.{shaped as Shaped_of};
-ghost use Rattle.memory.specs.Rows.{Room, Roomy, view, nothing, word_for, no_thread, no_message, put_last, put_runner, put_since};
+ghost use Rattle.memory.specs.Rows.{Room, Roomy, view, nothing, word_for, held_word as held_word_of, no_thread, no_message, put_last, put_runner, put_since};
 ghost use Rattle.memory.specs.Rows.{put_beats, put_count, put_readies, put_clocks, put_letters, put_ends, put_threads, put_ready};
 ghost use Rattle.memory.specs.Rows.{put_clock, put_messages, put_held, put_ended};
 ghost use Rattle.memory.specs.Memory.{part, rows_of};
@@ -20,7 +20,7 @@ use words::{looks, saying};
 
 // Words of the head: limit of threads, limit of blocks, name given last, runner, slice, ticks since the beat, beats; counts of threads,
 // ready, clock, messages and an ending's set; a hint.
-const LIMIT: usize = 0;
+pub(crate) const LIMIT: usize = 0;
 
 const BLOCKS: usize = 1;
 
@@ -34,13 +34,13 @@ const SINCE: usize = 5;
 
 const BEATS: usize = 6;
 
-const COUNT: usize = 7;
+pub(crate) const COUNT: usize = 7;
 
-const READIES: usize = 8;
+pub(crate) const READIES: usize = 8;
 
-const CLOCKS: usize = 9;
+pub(crate) const CLOCKS: usize = 9;
 
-const LETTERS: usize = 10;
+pub(crate) const LETTERS: usize = 10;
 
 const ENDS: usize = 11;
 
@@ -53,16 +53,16 @@ const HINTS: usize = 112;
 
 const HINT_COUNT: u8 = 64;
 
-const THREADS: usize = 176;
+pub(crate) const THREADS: usize = 176;
 
-const RECORD: usize = 16;
+pub(crate) const RECORD: usize = 16;
 
-const MESSAGE: usize = 4;
+pub(crate) const MESSAGE: usize = 4;
 
 // Words of a thread's record behind its eleven own: a place of each queue.
-const READY: usize = 12;
+pub(crate) const READY: usize = 12;
 
-const CLOCK: usize = 13;
+pub(crate) const CLOCK: usize = 13;
 
 const ENDED: usize = 14;
 
@@ -274,7 +274,7 @@ pub fn state_at(m: &[u32], i: usize) -> State
 }
 
 // Where the manager entry of a kind stands in a record.
-fn manager_word(k: TrapKind) -> usize
+pub(crate) fn manager_word(k: TrapKind) -> usize
     ensures { result ≡ manager_place k }
 {
     match k {
@@ -548,6 +548,20 @@ pub fn held_word(m: &[u32], d: u8) -> u32
         m[HELD + (d as usize) * 2 + 1]
     } else {
         0
+    }
+}
+
+// The word that is held for a device, if one is.
+#[inline(always)]
+pub fn held(m: &[u32], d: u8) -> Option<u32>
+    requires { Roomy (rows_of m.now) × (d < devices) }
+    ensures { result ≡ held_word_of d (rows_of m.now).held }
+{
+    let place = HELD + (d as usize) * 2;
+    if m[place] == 1 {
+        Some(m[place + 1])
+    } else {
+        None
     }
 }
 

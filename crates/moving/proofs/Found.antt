@@ -1,6 +1,7 @@
 -- The place of the first that passes, and what the rules say by any, pull, insert, map, keep and of_thread.
 -- That a store below n is a store among the first n, and that these are the array's own: take-set-lt and get_or-take of lib.Seq.
-use Rattle.std.proofs.Common.{if◌then◌else◌}
+use Rattle.std.proofs.Common.{if◌then◌else◌, Some}
+use Rattle.std.specs.List.{position}
 use Prim.Native.Nat.{ℕ, zero, suc, ◌+◌, ◌≤◌, ◌<◌}
 use mathlib.Core.Path.{◌≡◌, refl, sym, ◌∙◌, ap}
 use mathlib.Core.Bool.{Bool, true, false, not, ◌||◌, true≢false}
@@ -17,6 +18,7 @@ use Rattle.rules.specs.declared.Thread.{Thread}
 use Rattle.laws.proofs.Tally.{keep_none, none_count, zero_any}
 use Rattle.laws.proofs.Single.{map_none}
 use Rattle.memory.specs.Rows.{place}
+use Rattle.memory.proofs.Listing.{position_is}
 
 module _ {A : Type 0} (p : A → Bool) where
   -- the place, where b says whether the list's head passes
@@ -270,6 +272,10 @@ module _ {A : Type 0} (p : A → Bool) (n : ℕ) (r : List A) (i : ℕ) (d : A) 
 
   pub hint_place : count p (take n r) ≤ 1 → i ≡ place p (take n r)
   hint_place c = one_place p d (take n r) i c in_range is_there
+
+  pub at_hint : count p (take n r) ≤ 1 → Some i ≡ position p (take n r)
+  at_hint c = let e = hint_place c in
+      sym (position_is p (take n r) ∙ rw (← e, lt-ltb i (length (take n r)) in_range) refl)
 
   pub hint_any : any p (take n r) ≡ true
   hint_any = some_here p d (take n r) i in_range is_there

@@ -1,41 +1,22 @@
 // The messages and notices, by rising receiver, oldest first.
-ghost use Rattle.std.specs.Prelude.{◌≡◌, not, List, ◌∷◌, ◌++◌, ◌+◌, ◌<◌, ◌≤◌, leb, get_or, take, drop};
+ghost use Rattle.std.specs.Prelude.{◌≡◌, not, List, ◌∷◌, ◌++◌, ◌+◌, ◌<◌, ◌≤◌, leb, get_or, take, drop, position};
 ghost use Rattle.rules.specs.Lists.{keep, count as count_of};
 ghost use Rattle.rules.specs.Waking.{is_ordinary as is_ordinary_of, notice_of};
 ghost use Rattle.rules.specs.Receive.{wanted_by};
 ghost use Rattle.memory.specs.Rows.{view, Roomy, MessagesAre, place, no_message};
 ghost use Rattle.memory.specs.Memory.{rows_of};
 
-use memory::memory as rows;
+use memory::{memory as rows, records};
 use rules::{Message, Wanted};
 use words::states;
 
-fn is_wanted(m: &[u32], i: usize, me: u8, w: Wanted) -> bool
-    requires { Roomy (rows_of m.now) × (i < (rows_of m.now).limits.threads + (rows_of m.now).limits.blocks) }
-    ensures { result ≡ wanted_by me w (get_or (rows_of m.now).messages i no_message) }
-{
-    if rows::receiver_at(m, i) == me {
-        states::matches(rows::sender_at(m, i), w)
-    } else {
-        false
-    }
-}
-
-// Where the oldest message stands that a receiver wants, or how many there are.
-pub fn seek_wanted(m: &[u32], me: u8, w: Wanted) -> usize
+// Where the oldest message stands that a receiver wants.
+pub fn seek_wanted(m: &[u32], me: u8, w: Wanted) -> Option<usize>
     requires { Roomy (rows_of m.now)
         × ((rows_of m.now).letters ≤ (rows_of m.now).limits.threads + (rows_of m.now).limits.blocks) }
-    ensures { result ≡ place (wanted_by me w) (view (rows_of m.now)).messages }
+    ensures { result ≡ position (wanted_by me w) (view (rows_of m.now)).messages }
 {
-    let n = rows::letters(m);
-    let mut i = 0;
-    while i < n {
-        if is_wanted(m, i, me, w) {
-            return i;
-        }
-        i += 1;
-    }
-    i
+    records::messages(m).position(|x| x.to() == me && states::matches(x.from(), w))
 }
 
 // Where the first message to a later receiver stands: the end of the receiver's inbox.
@@ -44,15 +25,9 @@ pub fn seek_end(m: &[u32], to: u8) -> usize
         × ((rows_of m.now).letters ≤ (rows_of m.now).limits.threads + (rows_of m.now).limits.blocks) }
     ensures { result ≡ place (λ x. not (leb x.to to)) (view (rows_of m.now)).messages }
 {
-    let n = rows::letters(m);
-    let mut i = 0;
-    while i < n {
-        if rows::receiver_at(m, i) > to {
-            return i;
-        }
-        i += 1;
-    }
-    i
+    records::messages(m)
+        .position(|x| x.to() > to)
+        .unwrap_or(rows::letters(m))
 }
 
 // A message comes in at a place: each from there on goes one further.
@@ -128,17 +103,7 @@ pub fn blocks_used(m: &[u32]) -> usize
         × ((rows_of m.now).letters ≤ (rows_of m.now).limits.threads + (rows_of m.now).limits.blocks) }
     ensures { result ≡ count_of (λ x. is_ordinary_of x.kind) (view (rows_of m.now)).messages }
 {
-    let n = rows::letters(m);
-    let mut k = 0;
-    let mut i = 0;
-    while i < n {
-        let kind = rows::kind_at(m, i);
-        if states::is_ordinary(kind) {
-            k += 1;
-            i += 1;
-        } else {
-            i += 1;
-        }
-    }
-    k
+    records::messages(m)
+        .filter(|x| states::is_ordinary(x.kind()))
+        .count()
 }

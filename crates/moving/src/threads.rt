@@ -1,5 +1,5 @@
 // The threads, by rising name.
-ghost use Rattle.std.specs.Prelude.{◌≡◌, true, not, List, ◌∷◌, ◌++◌, map, ◌<◌, ◌≤◌, ltb, get_or, take, drop, if◌then◌else◌};
+ghost use Rattle.std.specs.Prelude.{◌≡◌, true, not, List, ◌∷◌, ◌++◌, map, ◌<◌, ◌≤◌, ltb, get_or, take, drop, position, if◌then◌else◌};
 ghost use Rattle.rules.specs.Lists.{any, count as count_of};
 ghost use Rattle.rules.specs.Tables.{named, in_state};
 ghost use Rattle.laws.specs.Types.{Rising};
@@ -9,49 +9,20 @@ ghost use Rattle.rules.specs.declared.Answer.TheVariants.{Result as ResultIs};
 ghost use Rattle.memory.specs.Rows.{view, Roomy, ThreadsAre, ThreadsLeft, place, no_thread};
 ghost use Rattle.memory.specs.Memory.{rows_of};
 
-use memory::memory as rows;
+use memory::{memory as rows, records};
 use rules::{Answer, State, Thread};
 
-// Does the thread of this name stand at a place?
-fn is_at(m: &[u32], i: usize, name: u8) -> bool
-    requires { Roomy (rows_of m.now) × ((rows_of m.now).count ≤ (rows_of m.now).limits.threads) }
-    ensures { result ≡ true → (i < (rows_of m.now).count)
-        × (name ≡ (get_or (rows_of m.now).threads i no_thread).name) }
-{
-    if i < rows::count(m) {
-        name == rows::name_at(m, i)
-    } else {
-        false
-    }
-}
-
-// Where the thread of a name stands, or how many there are. It is looked for first where the hint says.
-pub fn find(m: &[u32], name: u8) -> usize
+// Where the thread of a name stands. It is looked for first where the hint says.
+pub fn find(m: &[u32], name: u8) -> Option<usize>
     requires { Roomy (rows_of m.now) × ((rows_of m.now).count ≤ (rows_of m.now).limits.threads)
         × (count_of (named name) (view (rows_of m.now)).threads ≤ 1) }
-    ensures { result ≡ place (named name) (view (rows_of m.now)).threads }
+    ensures { result ≡ position (named name) (view (rows_of m.now)).threads }
 {
     let hint = rows::place_hint(m, name);
-    if is_at(m, hint, name) {
-        return hint;
+    if hint < rows::count(m) && name == records::record(m, hint).name() {
+        return Some(hint);
     }
-    walk(m, name)
-}
-
-// The same by a walk over all.
-fn walk(m: &[u32], name: u8) -> usize
-    requires { Roomy (rows_of m.now) × ((rows_of m.now).count ≤ (rows_of m.now).limits.threads) }
-    ensures { result ≡ place (named name) (view (rows_of m.now)).threads }
-{
-    let n = rows::count(m);
-    let mut i = 0;
-    while i < n {
-        if name == rows::name_at(m, i) {
-            return i;
-        }
-        i += 1;
-    }
-    i
+    records::threads(m).position(|t| name == t.name())
 }
 
 // The clock waiters become ready with the number of the beat.
@@ -73,20 +44,12 @@ pub fn wake_clock(m: &mut [u32], beats: u32)
     }
 }
 
-// Where the thread stands that waits for a device, or how many there are.
-pub fn find_waiter(m: &[u32], d: u8) -> usize
+// Where the thread stands that waits for a device.
+pub fn find_waiter(m: &[u32], d: u8) -> Option<usize>
     requires { Roomy (rows_of m.now) × ((rows_of m.now).count ≤ (rows_of m.now).limits.threads) }
-    ensures { result ≡ place (waits_for d) (view (rows_of m.now)).threads }
+    ensures { result ≡ position (waits_for d) (view (rows_of m.now)).threads }
 {
-    let n = rows::count(m);
-    let mut i = 0;
-    while i < n {
-        if rows::waits_at(m, i, d) {
-            return i;
-        }
-        i += 1;
-    }
-    i
+    records::threads(m).position(|t| t.waits_for(d))
 }
 
 // Does some thread wait for clock or device? It is looked for first where one last began to wait.
@@ -95,28 +58,10 @@ pub fn some_wakes(m: &[u32]) -> bool
     ensures { result ≡ any (λ t. wakes_from_outside t.state) (view (rows_of m.now)).threads }
 {
     let hint = rows::waiter_hint(m);
-    if hint < rows::count(m) {
-        if rows::wakes_at(m, hint) {
-            return true;
-        }
+    if hint < rows::count(m) && records::record(m, hint).wakes() {
+        return true;
     }
-    walk_wakes(m)
-}
-
-// The same by a walk over all.
-fn walk_wakes(m: &[u32]) -> bool
-    requires { Roomy (rows_of m.now) × ((rows_of m.now).count ≤ (rows_of m.now).limits.threads) }
-    ensures { result ≡ any (λ t. wakes_from_outside t.state) (view (rows_of m.now)).threads }
-{
-    let n = rows::count(m);
-    let mut i = 0;
-    while i < n {
-        if rows::wakes_at(m, i) {
-            return true;
-        }
-        i += 1;
-    }
-    false
+    records::threads(m).any(|t| t.wakes())
 }
 
 // The place of a name: where the first thread stands whose name is not below it. The names rise, so each look halves what is left.

@@ -142,12 +142,10 @@ pub fn wait_for_io(m: &mut [u32], me: u8, d: u8) -> Answer
     requires { AtRest m.old × (d < devices) }
     ensures { Hands m.old m.new result (wait_for_io_of me d (tables m.old)) }
 {
-    if store::is_held(m, d) {
-        let word = store::held_word(m, d);
+    if let Some(word) = store::word_held(m, d) {
         store::clear_held(m, d);
-        Answer::Result(word)
-    } else {
-        moves::stop(m, me, State::Device(d));
-        Answer::Nothing
+        return Answer::Result(word);
     }
+    moves::stop(m, me, State::Device(d));
+    Answer::Nothing
 }

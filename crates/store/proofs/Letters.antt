@@ -1,5 +1,7 @@
 -- Messages: the blocks they use, one that joins its inbox, and one that is taken out.
-use Rattle.std.proofs.Common.{◌≡◌, ℕ, ◌+◌, ◌<◌, ◌≤◌, Bool, None, Some, false, not, leb, List, ◌∷◌, ◌++◌, get_or, take, drop, sym, refl, ap, ◌∙◌, arith}
+use Rattle.std.proofs.Common.{◌≡◌, ℕ, ◌+◌, ◌<◌, ◌≤◌, Bool, false, not, leb, List, ◌∷◌, ◌++◌, get_or, take, drop, sym, refl, ap, ◌∙◌, arith, Option, None, Some}
+use Rattle.std.specs.List.{position}
+use Rattle.memory.proofs.Listing.{found, nowhere, is_none}
 use borrow.Author.Tests.{lt-leb}
 use Rattle.rules.specs.Lists.{Pulled, missing, pulled, insert, pull}
 use Rattle.rules.specs.Tables.{with_messages}
@@ -36,6 +38,17 @@ module _ (m : List ℕ) (H : Holding m) where
         = insert_at (λ y. leb y.to x.to) (λ y. not (leb y.to x.to)) (λ y. refl) x (tables m).messages
         ∙ ap (λ (j : ℕ). take j (tables m).messages ++ x ∷ drop j (tables m).messages) (sym f) in
         leaves (rw e (messages_are H.shaped q)) H.rising
+
+  -- where the oldest is that is wanted
+  module _ (p : Message → Bool) {r : Option ℕ} (f : r ≡ position p (view (rows_of m)).messages) where
+    pub oldest_at : {i : ℕ} → r ≡ Some i → (i ≡ place p (view (rows_of m)).messages) × (i < (rows_of m).letters)
+    unfolding tables
+    oldest_at e = let h = found p _ (view (rows_of m)).messages (sym f ∙ e) in (h.0, omega (arith, h.1, messages_length m H.shaped))
+
+    pub oldest_none : ((i : ℕ) → r ≡ Some i → ⊥) → (rows_of m).letters ≤ place p (view (rows_of m)).messages
+    unfolding tables
+    oldest_none e =
+        omega (arith, nowhere p (view (rows_of m)).messages (is_none (λ i h. e i (f ∙ h))), messages_length m H.shaped)
 
   -- the oldest that is wanted is at i
   module _ (p : Message → Bool) (i : ℕ) (f : i ≡ place p (view (rows_of m)).messages) where

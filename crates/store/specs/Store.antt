@@ -12,6 +12,7 @@ use Rattle.rules.specs.Waking.{Outcome, ◌handing◌}
 use Rattle.memory.specs.Rows.{view, members, Fits}
 pub use Rattle.memory.specs.Rows.{Room, nothing}
 unfoldable pub use Rattle.memory.specs.Rows.{word_for, place}
+pub use Rattle.memory.specs.Rows.{held_word}
 pub use Rattle.moving.specs.Marks.{Marks}
 use Rattle.memory.specs.Memory.{rows_of}
 

@@ -53,8 +53,7 @@ pub fn take_message(m: &mut [u32], me: u8, w: Wanted) -> Option<Message>
     requires { Holding m.old }
     ensures { Takes m.old m.new result (pull (wanted_by me w) (tables m.old).messages) }
 {
-    let i = messages::seek_wanted(m, me, w);
-    if i < rows::letters(m) {
+    if let Some(i) = messages::seek_wanted(m, me, w) {
         let x = rows::message_at(m, i);
         messages::close_gap(m, i);
         Some(x)

@@ -1,7 +1,8 @@
 // Threads, by name.
 ghost use Rattle.std.specs.Prelude.{◌≡◌, ◌<◌, false, not, ltb, length, get_or, nat_lt, slice_index_or};
 ghost use Rattle.rules.specs.Lists.{any, insert};
-ghost use Rattle.rules.specs.Tables.{of_thread, live, change, in_state, with_ticks, with_threads, with_managers, set_entry};
+ghost use Rattle.std.specs.List.{find};
+ghost use Rattle.rules.specs.Tables.{named, of_thread, live, change, in_state, with_ticks, with_threads, with_managers, set_entry};
 ghost use Rattle.rules.specs.Tables.{manager as manager_in};
 ghost use Rattle.rules.specs.States.{receives, waits_for, wakes_from_outside, awaits};
 ghost use Rattle.rules.specs.Tick.{one_more};
@@ -12,7 +13,8 @@ ghost use Rattle.rules.specs.declared.Parent.TheVariants.{NoParent as Parentless
 ghost use Rattle.memory.specs.Rows.{no_thread};
 ghost use Rattle.store.specs.Store.{limits, tables, Shaped, Holding, Leaves, place, name_where};
 
-use memory::memory as rows;
+use memory::records::ThreadWords;
+use memory::{memory as rows, records};
 use moving::threads;
 use rules::{Answer, Manager, Parent, State, Thread, TrapKind};
 use words::states;
@@ -30,7 +32,7 @@ pub fn thread_at(m: &[u32], i: usize) -> Thread
     requires { Shaped m.now × (i < length (tables m.now).threads) }
     ensures { result ≡ slice_index_or (tables m.now).threads i no_thread }
 {
-    rows::thread_at(m, i)
+    records::record(m, i).thread()
 }
 
 // The name of that thread.
@@ -38,7 +40,7 @@ pub fn name_at(m: &[u32], i: usize) -> u8
     requires { Shaped m.now × (i < length (tables m.now).threads) }
     ensures { result ≡ (get_or (tables m.now).threads i no_thread).name }
 {
-    rows::name_at(m, i)
+    records::record(m, i).name()
 }
 
 // Where the first thread stands whose name is not below this one, or how many there are.
@@ -61,22 +63,26 @@ pub fn is_live(m: &[u32], name: u8) -> bool
     requires { Holding m.now }
     ensures { result ≡ live name (tables m.now) }
 {
-    threads::find(m, name) < rows::count(m)
+    threads::find(m, name).is_some()
 }
 
 // ---- something of the thread of a name; what is said of a name that no thread has is never asked for
+
+// Its record.
+fn thread(m: &[u32], name: u8) -> Option<ThreadWords<'_>>
+    requires { Holding m.now }
+    ensures { result ≡ find (named name) (tables m.now).threads }
+{
+    let i = threads::find(m, name)?;
+    Some(records::record(m, i))
+}
 
 // Would it receive from this sender?
 pub fn receives_from(m: &[u32], name: u8, sender: u8) -> bool
     requires { Holding m.now }
     ensures { result ≡ of_thread false (λ t. receives sender t.state) name (tables m.now).threads }
 {
-    let i = threads::find(m, name);
-    if i < rows::count(m) {
-        rows::receives_at(m, i, sender)
-    } else {
-        false
-    }
+    thread(m, name).is_some_and(|t| t.receives(sender))
 }
 
 // Is it trapped, and n the manager that it waits for?
@@ -84,60 +90,35 @@ pub fn trapped_on(m: &[u32], name: u8, n: u8) -> bool
     requires { Holding m.now }
     ensures { result ≡ of_thread false (awaits n) name (tables m.now).threads }
 {
-    let i = threads::find(m, name);
-    if i < rows::count(m) {
-        rows::trapped_on_at(m, i, n)
-    } else {
-        false
-    }
+    thread(m, name).is_some_and(|t| t.awaits(n))
 }
 
 pub fn parent_of(m: &[u32], name: u8) -> Parent
     requires { Holding m.now }
     ensures { result ≡ of_thread Parentless (λ t. t.parent) name (tables m.now).threads }
 {
-    let i = threads::find(m, name);
-    if i < rows::count(m) {
-        rows::parent_at(m, i)
-    } else {
-        Parent::NoParent
-    }
+    thread(m, name).map_or(Parent::NoParent, |t| t.parent())
 }
 
 pub fn manager_of(m: &[u32], name: u8, k: TrapKind) -> Manager
     requires { Holding m.now }
     ensures { result ≡ of_thread NoManager (λ t. manager_in k t.managers) name (tables m.now).threads }
 {
-    let i = threads::find(m, name);
-    if i < rows::count(m) {
-        rows::manager_at(m, i, k)
-    } else {
-        Manager::Unset
-    }
+    thread(m, name).map_or(Manager::Unset, |t| t.manager(k))
 }
 
 pub fn ticks_of(m: &[u32], name: u8) -> u32
     requires { Holding m.now }
     ensures { result ≡ of_thread 0 (λ t. t.ticks) name (tables m.now).threads }
 {
-    let i = threads::find(m, name);
-    if i < rows::count(m) {
-        rows::ticks_at(m, i)
-    } else {
-        0
-    }
+    thread(m, name).map_or(0, |t| t.ticks())
 }
 
 pub fn answer_of(m: &[u32], name: u8) -> Answer
     requires { Holding m.now }
     ensures { result ≡ of_thread NoAnswer (λ t. t.answer) name (tables m.now).threads }
 {
-    let i = threads::find(m, name);
-    if i < rows::count(m) {
-        rows::answer_at(m, i)
-    } else {
-        Answer::Nothing
-    }
+    thread(m, name).map_or(Answer::Nothing, |t| t.answer())
 }
 
 // Who waits for a device.
@@ -145,12 +126,8 @@ pub fn waiter(m: &[u32], d: u8) -> Option<u8>
     requires { Shaped m.now }
     ensures { result ≡ name_where (waits_for d) (tables m.now).threads }
 {
-    let i = threads::find_waiter(m, d);
-    if i < rows::count(m) {
-        Some(rows::name_at(m, i))
-    } else {
-        None
-    }
+    let i = threads::find_waiter(m, d)?;
+    Some(records::record(m, i).name())
 }
 
 // Does some thread wait for clock or device?
@@ -168,8 +145,7 @@ pub fn turn(m: &mut [u32], name: u8, s: State, a: Answer)
     requires { Holding m.old }
     ensures { Leaves m.old m.new (change name (in_state s a) (tables m.old)) }
 {
-    let i = threads::find(m, name);
-    if i < rows::count(m) {
+    if let Some(i) = threads::find(m, name) {
         rows::turn(m, i, s, a);
         if states::wakes_from_outside(s) {
             rows::hint_waiter(m, i);
@@ -183,9 +159,8 @@ pub fn add_tick(m: &mut [u32], name: u8)
     ensures { Leaves m.old m.new
         (change name (λ t. with_ticks (one_more t.ticks) t) (tables m.old)) }
 {
-    let i = threads::find(m, name);
-    if i < rows::count(m) {
-        let n = rows::ticks_at(m, i).wrapping_add(1);
+    if let Some(i) = threads::find(m, name) {
+        let n = records::record(m, i).ticks().wrapping_add(1);
         rows::set_ticks(m, i, n);
     }
 }
@@ -196,8 +171,7 @@ pub fn set_manager(m: &mut [u32], name: u8, k: TrapKind, g: Manager)
     ensures { Leaves m.old m.new
         (change name (λ t. with_managers (set_entry k g t.managers) t) (tables m.old)) }
 {
-    let i = threads::find(m, name);
-    if i < rows::count(m) {
+    if let Some(i) = threads::find(m, name) {
         rows::set_manager(m, i, k, g);
     }
 }

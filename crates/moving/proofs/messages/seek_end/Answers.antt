@@ -1,35 +1,21 @@
--- `moving::messages::seek_end` meets its contract. The loop: no message passed is to a later receiver.
-use native.Mathlib.Omega.{arith}
-use borrow.Author.Tests.{le-leb, lt-leb}
-use Rattle.memory.specs.Rows.{no_message}
+-- `moving::messages::seek_end` meets its contract.
+use Rattle.std.proofs.Common.{rules, not, leb, sym, ap₂, ◌∙◌, arith}
+use borrow.Author.Tests.{tests}
+use Rattle.std.specs.Option.{unwrap_or}
+use Rattle.laws.specs.Words.{Message}
+use Rattle.memory.specs.Memory.{rows_of}
+use Rattle.memory.proofs.Listing.{place_or_all}
 use Rattle.memory.proofs.Sizes.{messages_long}
-use Rattle.moving.proofs.Loops.{seek_starts, seek_next, seek_finds, seek_ends}
+use lib.Seq.{length-take-le}
+use Rattle.moving.proofs.Found.{place_within}
+use Rattle.std.proofs.lemmas.Iterator.Search.{position_from_yields_List}
+use Rattle.std.proofs.lemmas.Iterator.Consumers.{YieldsList-from_first}
 use Rattle.moving.proofs.messages.seek_end.Goals as goal
 
-pub loop-i-init : goal.loop-i-init
-loop-i-init c =
-    seek_starts _ _ _ (omega (arith, c.letters-n.ensures, c.requires.1, messages_long c.args.m.now))
-
-pub receiver_at-requires : goal.receiver_at-requires
-receiver_at-requires c = (
-  c.requires.0,
-  omega (arith, c.loop-i-test.true, c.letters-n.ensures, c.requires.1),
-)
-
-pub returns-then-receiver_at-to : goal.returns-then-receiver_at-to
-returns-then-receiver_at-to c = rw (← c.letters-n.ensures)
-    (seek_finds _ _ _ _ no_message c.loop-i.invariant c.loop-i-test.true
-    (rw (← c.receiver_at.ensures, lt-leb _ _ c.if-receiver_at-to.true)))
-
-pub overflow_add-i : goal.overflow_add-i
-overflow_add-i c = omega arith
-
-pub loop-i-smaller : goal.loop-i-smaller
-loop-i-smaller c = omega arith
-
-pub loop-i-preserved : goal.loop-i-preserved
-loop-i-preserved c = seek_next _ _ _ _ no_message c.loop-i.invariant c.loop-i-test.true
-    (rw (← c.receiver_at.ensures, le-leb _ _ c.if-receiver_at-to.false))
-
 pub returns : goal.returns
-returns c = rw (← c.letters-n.ensures) (seek_ends _ _ _ _ c.loop-i.invariant c.loop-i-test.false)
+returns c =
+    let p = λ (x : Message). not (leb x.to c.args.to) in
+    let e = position_from_yields_List p _ _ c.position.result c.position.ensures.ran
+    (YieldsList-from_first (λ x. x) (λ s. s) _ c.messages.ensures) (λ x b q k. search (rules, tests)) in
+    let l = length-take-le (rows_of c.args.m.now).letters (rows_of c.args.m.now).messages (omega (arith, messages_long c.args.m.now, c.requires.1)) in
+    c.unwrap_or.ensures ∙ ap₂ unwrap_or e (c.letters.ensures ∙ sym l) ∙ place_or_all p _ (place_within p _)

@@ -1,23 +1,8 @@
 -- `threads::parent_of` meets its contract.
-use Rattle.std.proofs.Common.{◌∙◌, arith}
-use Rattle.store.proofs.Searched.{of_found, of_nobody, roomy, found_here, can_find}
+use Rattle.std.proofs.Common.{rules}
+use Rattle.laws.specs.Words.{NoParent}
+use Rattle.store.proofs.Searched.{of_one}
 use Rattle.store.proofs.threads.parent_of.Goals as goal
 
-pub find-i-requires : goal.find-i-requires
-find-i-requires c = can_find c.args.m.now c.requires c.args.name
-
-pub count-requires : goal.count-requires
-count-requires c = roomy c.args.m.now c.requires.shaped
-
-pub parent_at-requires : goal.parent_at-requires
-parent_at-requires c =
-    found_here c.args.m.now c.requires.shaped (omega (arith, c.if-i-count.true, c.count.ensures))
-
-pub returns-then-i-count : goal.returns-then-i-count
-returns-then-i-count c =
-    c.parent_at.ensures ∙ of_found c.args.m.now c.requires _ _ c.find-i.ensures _ (λ t. t.parent)
-    (omega (arith, c.if-i-count.true, c.count.ensures))
-
-pub returns-else-i-count : goal.returns-else-i-count
-returns-else-i-count c =
-    of_nobody c.args.m.now c.requires _ _ c.find-i.ensures _ _ (omega (arith, c.if-i-count.false, c.count.ensures))
+pub returns : goal.returns
+returns c = of_one NoParent (λ t. t.parent) _ _ c.thread.ensures c.map_or.ensures (λ t q. search rules)

@@ -1,24 +1,8 @@
 -- `threads::receives_from` meets its contract.
-use Rattle.std.proofs.Common.{◌∙◌, arith}
+use Rattle.std.proofs.Common.{rules, false}
 use Rattle.rules.specs.States.{receives}
-use Rattle.store.proofs.Searched.{of_found, of_nobody, roomy, found_here, can_find}
+use Rattle.store.proofs.Searched.{of_one}
 use Rattle.store.proofs.threads.receives_from.Goals as goal
 
-pub find-i-requires : goal.find-i-requires
-find-i-requires c = can_find c.args.m.now c.requires c.args.name
-
-pub count-requires : goal.count-requires
-count-requires c = roomy c.args.m.now c.requires.shaped
-
-pub receives_at-requires : goal.receives_at-requires
-receives_at-requires c =
-    found_here c.args.m.now c.requires.shaped (omega (arith, c.if-i-count.true, c.count.ensures))
-
-pub returns-then-i-count : goal.returns-then-i-count
-returns-then-i-count c =
-    c.receives_at.ensures ∙ of_found c.args.m.now c.requires _ _ c.find-i.ensures _
-    (λ t. receives c.args.sender t.state) (omega (arith, c.if-i-count.true, c.count.ensures))
-
-pub returns-else-i-count : goal.returns-else-i-count
-returns-else-i-count c =
-    of_nobody c.args.m.now c.requires _ _ c.find-i.ensures _ _ (omega (arith, c.if-i-count.false, c.count.ensures))
+pub returns : goal.returns
+returns c = of_one false (λ t. receives c.args.sender t.state) _ _ c.thread.ensures c.is_some_and.ensures (λ t q. search rules)

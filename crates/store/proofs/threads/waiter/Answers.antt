@@ -1,25 +1,25 @@
 -- `threads::waiter` meets its contract.
-use Rattle.std.proofs.Common.{ap, ◌∙◌, arith, Some}
-use Rattle.store.proofs.Searched.{name_found, name_nowhere, roomy, few_threads, found_here}
+use Rattle.std.proofs.Common.{ℕ, ap, ◌∙◌, Option, Some, option_map}
 use Rattle.rules.specs.States.{waits_for}
+use Rattle.laws.specs.Words.{Thread}
+use Rattle.store.proofs.Searched.{few_threads, first_here, one_found, none_found}
 use Rattle.store.proofs.threads.waiter.Goals as goal
 
-pub find_waiter-i-requires : goal.find_waiter-i-requires
-find_waiter-i-requires c = few_threads c.args.m.now c.requires
+pub find_waiter-requires : goal.find_waiter-requires
+find_waiter-requires c = few_threads c.args.m.now c.requires
 
-pub count-requires : goal.count-requires
-count-requires c = roomy c.args.m.now c.requires
+pub record-requires : goal.record-requires
+record-requires c = first_here c.args.m.now c.requires (waits_for c.args.d) c.find_waiter.ensures c.in_ok-i.was
 
-pub name_at-requires : goal.name_at-requires
-name_at-requires c =
-    found_here c.args.m.now c.requires (omega (arith, c.if-i-count.true, c.count.ensures))
+pub returns-in_err-i : goal.returns-in_err-i
+returns-in_err-i c =
+    c.from_residual.ensures
+    ∙ ap (λ (o : Option Thread). option_map (λ t. t.name) o)
+    (none_found c.args.m.now c.requires (waits_for c.args.d) c.find_waiter.ensures c.in_err-i.was)
 
-pub returns-then-i-count : goal.returns-then-i-count
-returns-then-i-count c =
-    ap Some c.name_at.ensures ∙ name_found c.args.m.now c.requires (waits_for c.args.d) _ c.find_waiter-i.ensures
-    (omega (arith, c.if-i-count.true, c.count.ensures))
-
-pub returns-else-i-count : goal.returns-else-i-count
-returns-else-i-count c =
-    name_nowhere c.args.m.now c.requires (waits_for c.args.d) _ c.find_waiter-i.ensures
-    (omega (arith, c.if-i-count.false, c.count.ensures))
+pub returns : goal.returns
+returns c =
+    ap (λ (n : ℕ). Some n) c.name.ensures
+    ∙ (ap (λ (t : Thread). Some t.name) c.record.ensures
+    ∙ ap (λ (o : Option Thread). option_map (λ t. t.name) o)
+    (one_found c.args.m.now c.requires (waits_for c.args.d) c.find_waiter.ensures c.in_ok-i.was))
