@@ -1,14 +1,8 @@
 -- `threads::set_manager` meets its contract.
 use Rattle.std.proofs.Common.{refl}
-use Rattle.rules.specs.Tables.{named, with_managers, set_entry}
-use Rattle.store.proofs.Searched.{can_find, first_here, changed, unchanged}
+use Rattle.rules.specs.Tables.{with_managers, set_entry}
+use Rattle.store.proofs.Searched.{changed, unchanged}
 use Rattle.store.proofs.threads.set_manager.Goals as goal
-
-pub find-requires : goal.find-requires
-find-requires c = can_find c.args.m.now c.requires c.args.name
-
-pub set_manager-requires : goal.set_manager-requires
-set_manager-requires c = first_here c.args.m.now c.requires.shaped (named c.args.name) c.find.ensures c.in-Some.is
 
 pub returns-in-Some : goal.returns-in-Some
 returns-in-Some c =

@@ -2,14 +2,8 @@
 use Rattle.std.proofs.Common.{ap, ◌∙◌, Some}
 use Rattle.rules.specs.Tables.{named}
 use Rattle.laws.specs.Words.{Thread}
-use Rattle.store.proofs.Searched.{can_find, first_here, one_found, none_found}
+use Rattle.store.proofs.Searched.{one_found, none_found}
 use Rattle.store.proofs.threads.thread.Goals as goal
-
-pub find-requires : goal.find-requires
-find-requires c = can_find c.args.m.now c.requires c.args.name
-
-pub record-requires : goal.record-requires
-record-requires c = first_here c.args.m.now c.requires.shaped (named c.args.name) c.find.ensures c.in_ok-i.was
 
 pub returns-in_err-i : goal.returns-in_err-i
 returns-in_err-i c =

@@ -2,14 +2,8 @@
 use Rattle.std.proofs.Common.{ℕ, ap, ◌∙◌, Option, Some, option_map}
 use Rattle.rules.specs.States.{waits_for}
 use Rattle.laws.specs.Words.{Thread}
-use Rattle.store.proofs.Searched.{few_threads, first_here, one_found, none_found}
+use Rattle.store.proofs.Searched.{one_found, none_found}
 use Rattle.store.proofs.threads.waiter.Goals as goal
-
-pub find_waiter-requires : goal.find_waiter-requires
-find_waiter-requires c = few_threads c.args.m.now c.requires
-
-pub record-requires : goal.record-requires
-record-requires c = first_here c.args.m.now c.requires (waits_for c.args.d) c.find_waiter.ensures c.in_ok-i.was
 
 pub returns-in_err-i : goal.returns-in_err-i
 returns-in_err-i c =
