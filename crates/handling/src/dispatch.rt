@@ -30,8 +30,7 @@ pub fn dispatch(m: &mut [u32], given: Answer) -> Answer
     requires { MidEvent m.old }
     ensures { Hands m.old m.new result (dispatch_of (tables m.old handing given)) }
 {
-    let r = store::runner(m);
-    match r {
+    match store::runner(m) {
         Runner::NoRunner => run_next(m, given),
         Runner::Runs(_, _) => given,
     }
@@ -41,18 +40,13 @@ pub fn status(m: &[u32]) -> Status
     requires { Shaped m.now }
     ensures { result ≡ status_of (tables m.now) }
 {
-    let r = store::runner(m);
-    match r {
-        Runner::Runs(_, _) => Status::Running,
-        Runner::NoRunner => {
-            if store::thread_count(m) == 0 {
-                return Status::Halted;
-            }
-            if store::some_wakes(m) {
-                Status::Idle
-            } else {
-                Status::Panicked
-            }
-        }
+    if let Runner::Runs(_, _) = store::runner(m) {
+        Status::Running
+    } else if store::thread_count(m) == 0 {
+        Status::Halted
+    } else if store::some_wakes(m) {
+        Status::Idle
+    } else {
+        Status::Panicked
     }
 }

@@ -42,8 +42,7 @@ pub fn deliver(m: &mut [u32], x: Message)
     ensures { Leaves m.old m.new (deliver_of x (tables m.old)) }
 {
     if is_awaited(m, x) {
-        let a = states::handed(x);
-        wake(m, x.to, a);
+        wake(m, x.to, states::handed(x));
     } else {
         store::queue(m, x);
     }

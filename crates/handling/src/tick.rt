@@ -15,13 +15,9 @@ fn charge(m: &mut [u32])
     requires { MidEvent m.old × Steady (tables m.old) }
     ensures { Leaves m.old m.new (charge_of (tables m.old)) }
 {
-    let r = store::runner(m);
-    match r {
-        Runner::NoRunner => {}
-        Runner::Runs(name, slice) => {
-            store::add_tick(m, name);
-            store::set_runner(m, Runner::Runs(name, slice - 1));
-        }
+    if let Runner::Runs(name, slice) = store::runner(m) {
+        store::add_tick(m, name);
+        store::set_runner(m, Runner::Runs(name, slice - 1));
     }
 }
 
@@ -33,7 +29,7 @@ fn beat(m: &mut [u32])
     let since = store::since(m) + 1;
     let beats = store::beats(m);
     if since == numbers::BEAT {
-        let next = std::num::wrapping_add_u32(beats, 1);
+        let next = beats.wrapping_add(1);
         store::set_time(m, 0, next);
         store::wake_clock(m, next);
     } else {
@@ -46,14 +42,10 @@ fn rotate(m: &mut [u32])
     requires { MidEvent m.old }
     ensures { Leaves m.old m.new (rotate_of (tables m.old)) }
 {
-    let r = store::runner(m);
-    match r {
-        Runner::NoRunner => {}
-        Runner::Runs(name, slice) => {
-            if slice == 0 {
-                moves::wake(m, name, Answer::Nothing);
-                store::set_runner(m, Runner::NoRunner);
-            }
+    if let Runner::Runs(name, slice) = store::runner(m) {
+        if slice == 0 {
+            moves::wake(m, name, Answer::Nothing);
+            store::set_runner(m, Runner::NoRunner);
         }
     }
 }

@@ -12,10 +12,11 @@ use Rattle.rules.specs.Numbers.{names}
 use Rattle.rules.specs.Tables.{Tables, with_last, with_threads, with_ready, with_clock, with_held, live, of_thread, change, manager}
 use Rattle.rules.specs.Tables.{new_thread}
 use Rattle.rules.specs.Waking.{◌handing◌, stop}
+use Rattle.rules.specs.Ending.{end}
 use Rattle.rules.specs.Interrupt.{held_for}
 use Rattle.rules.specs.Requests.{next_name, create, create_brother, terminate, set_over, set_manager, wait_for_clock, take_held}
 use Rattle.rules.specs.Requests.{wait_for_io}
-use Rattle.laws.specs.Words.{TrapKind, Ready, Clock, Device, Answer, Nothing, Result, Manager, Unset, Parent, NoParent, Thread, Held}
+use Rattle.laws.specs.Words.{TrapKind, Ready, Clock, Device, Answer, Nothing, Result, Manager, Unset, Set, Gone, Parent, NoParent, Thread, Held}
 use Rattle.laws.specs.Words.{Target}
 use Rattle.laws.proofs.Single.{rest_once, rest_none}
 use Rattle.laws.proofs.Names.{name_free}
@@ -68,6 +69,18 @@ module _ {m m' : List ℕ} {T : Tables} {a : Answer} (l : Leaves m m' T) (me : �
       g ≡ of_thread Unset (λ t. manager k t.managers) me (tables m).threads → g ≡ v →
       (T handing a) ≡ set_over v me k n (tables m) → Hands m m' a (set_manager me k n (tables m))
   by_entry k n v d e f = and_hands l (f ∙ ap (λ (x : Manager). set_over x me k n (tables m)) (sym e ∙ d))
+
+-- an entry that is set or gone ends the requester
+pub entry_ends : {m m' : List ℕ} (me : ℕ) → Leaves m m' (end me (tables m)) → (k : TrapKind) (n : ℕ) {g : Manager} →
+    g ≡ of_thread Unset (λ t. manager k t.managers) me (tables m).threads → (g ≡ Unset → ⊥) →
+    Hands m m' Nothing (set_manager me k n (tables m))
+unfolding set_over
+entry_ends {m} {m'} me l k n {g} d set = go g refl
+  where
+    go : (v : Manager) → g ≡ v → Hands m m' Nothing (set_manager me k n (tables m))
+    go Unset e = absurd (set e)
+    go (Set x) e = by_entry l me k n (Set x) d e refl
+    go Gone e = by_entry l me k n Gone d e refl
 
 -- ---- the clock
 

@@ -1,4 +1,5 @@
 -- Send, decisions, receive and traps: each exit's tables are what the rules say, and what is woken or told has room.
+use Rattle.std.proofs.Common.{Option, Some, None, is_some}
 use Prim.Native.Nat.{ℕ, zero, suc, ◌+◌, ◌≤◌, ◌<◌}
 use mathlib.Core.Path.{◌≡◌, refl, sym, ap, ◌∙◌}
 use mathlib.Core.Logic.{◌≢◌}
@@ -16,15 +17,13 @@ use Rattle.rules.specs.Ending.{end}
 use Rattle.rules.specs.Send.{message, waits_for_decision, decides, decide, send}
 use Rattle.rules.specs.Receive.{wanted_by, received, receive}
 use Rattle.rules.specs.Trap.{notice, trap}
-use Rattle.laws.specs.Words.{TrapKind, Wanted, Receiving, Trapped, Answer, Nothing, Manager, Unset, Message, Runs}
+use Rattle.laws.specs.Words.{TrapKind, Wanted, Receiving, Trapped, Answer, Nothing, Manager, Unset, Set, Gone, Message, Runs}
 use Rattle.laws.proofs.Tests.{and_left, and_right}
 use Rattle.laws.proofs.Tally.{any_member, member_any}
 use Rattle.laws.proofs.Places.{asleep}
 use Rattle.laws.proofs.PlacesKept.{runner_live, stop_inv}
 use Rattle.laws.proofs.Single.{any_place, of_at, of_none, decides_at, decides_none, decide_continues}
 use Rattle.laws.proofs.Room.{notice_room}
-use Rattle.store.specs.declared.Taken.{Taken}
-use Rattle.store.specs.declared.Taken.TheVariants.{Missing, Took}
 use Rattle.store.specs.Store.{limits, tables, Holding, Leaves, Hands, Takes}
 use Rattle.handling.specs.Standing.{MidEvent, AtRest}
 use Rattle.handling.proofs.Leaving.{in_words, and_then, and_hands, carried, still_holds, holds}
@@ -89,38 +88,30 @@ module _ (T : Tables) (me to w : ℕ) where
 
 -- ---- receive
 
-abbrev is_taken : Taken → Bool
-is_taken Missing = false
-is_taken (Took x) = true
-
-abbrev the_taken : Message → Taken → Message
-the_taken d Missing = d
-the_taken d (Took x) = x
-
-module _ {m m₁ : List ℕ} (me : ℕ) (w : Wanted) {g : Taken} (t : Takes m m₁ g (pull (wanted_by me w) (tables m).messages)) where
+module _ {m m₁ : List ℕ} (me : ℕ) (w : Wanted) {g : Option Message} (t : Takes m m₁ g (pull (wanted_by me w) (tables m).messages)) where
   abbrev inbox : Pulled Message
   inbox = pull (wanted_by me w) (tables m).messages
 
   -- a message that was taken is handed over
-  pub taken_hands : (x : Message) → g ≡ Took x → (a : Answer) → a ≡ handed x → Hands m m₁ a (receive me w (tables m))
+  pub taken_hands : (x : Message) → g ≡ Some x → (a : Answer) → a ≡ handed x → Hands m m₁ a (receive me w (tables m))
   unfolding receive received
   taken_hands x e a h = go inbox refl
     where
       go : (p : Pulled Message) → inbox ≡ p → Hands m m₁ a (received me w (tables m) p)
-      go missing q = absurd (false≢true (ap is_taken (sym (t.none q).0 ∙ e)))
+      go missing q = absurd (false≢true (ap is_some (sym (t.none q).0 ∙ e)))
       go (pulled y ms) q =
           let r = t.one y ms q in
-          and_hands r.1 (ap (λ (b : Answer). with_messages ms (tables m) handing b) (h ∙ ap handed (ap (the_taken x) (sym e ∙ r.0))))
+          and_hands r.1 (ap (λ (b : Answer). with_messages ms (tables m) handing b) (h ∙ ap handed (let same : x ≡ y = cc in same)))
 
   -- without one the runner waits
-  pub missing_waits : {m₂ : List ℕ} → g ≡ Missing → Leaves m₁ m₂ (stop me (Receiving w) (tables m₁)) →
+  pub missing_waits : {m₂ : List ℕ} → g ≡ None → Leaves m₁ m₂ (stop me (Receiving w) (tables m₁)) →
       Hands m m₂ Nothing (receive me w (tables m))
   unfolding receive received
   missing_waits {m₂} e b = go inbox refl
     where
       go : (p : Pulled Message) → inbox ≡ p → Hands m m₂ Nothing (received me w (tables m) p)
       go missing q = and_hands (and_then (stop me (Receiving w)) (t.none q).1 b) refl
-      go (pulled y ms) q = absurd (true≢false (ap is_taken (sym (t.one y ms q).0 ∙ e)))
+      go (pulled y ms) q = absurd (true≢false (ap is_some (sym (t.one y ms q).0 ∙ e)))
 
   -- whatever was taken, what is left holds
   pub taken_holds : Holding m₁
@@ -138,6 +129,13 @@ pub trap_by : (T : Tables) (me : ℕ) (k : TrapKind) (cause : ℕ) (g : Manager)
     by_manager (end me T) (λ n. deliver (notice n me cause) (stop me (Trapped k) T)) g ≡ trap me k cause T
 unfolding trap
 trap_by T me k cause g e = rw e
+
+-- with none the thread ends
+pub trap_ends : (T : Tables) (me : ℕ) (k : TrapKind) (cause : ℕ) (g : Manager) →
+    g ≡ of_thread Unset (λ t. manager k t.managers) me T.threads → ((n : ℕ) → g ≡ Set n → ⊥) → end me T ≡ trap me k cause T
+trap_ends T me k cause Unset e h = trap_by T me k cause Unset e
+trap_ends T me k cause (Set n) e h = absurd (h n refl)
+trap_ends T me k cause Gone e h = trap_by T me k cause Gone e
 
 module _ {m : List ℕ} (me s : ℕ) (S : AtRest m) (runs : (tables m).runner ≡ Runs me s) where
   -- where it ends, it lives

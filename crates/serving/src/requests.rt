@@ -18,7 +18,7 @@ use store;
 fn successor(name: u8) -> u8
     ensures { result ≡ (name + 1) % names }
 {
-    let next = (name as u16 + 1) % (numbers::NAMES as u16);
+    let next = (u16::from(name) + 1) % u16::from(numbers::NAMES);
     next as u8
 }
 
@@ -29,15 +29,13 @@ fn free_behind(m: &[u32], last: u8) -> u8
     requires { Holding m.now }
     ensures { result ≡ free_name (names - (last + 1) % names) last (tables m.now) }
 {
-    let n = store::thread_count(m);
     let mut name = successor(last);
-    let mut i = store::place_of(m, name);
-    while i < n {
+    let first = store::place_of(m, name);
+    for i in first..store::thread_count(m) {
         if store::name_at(m, i) != name {
             return name;
         }
         name = successor(name);
-        i += 1;
     }
     name
 }
@@ -79,19 +77,17 @@ fn create(m: &mut [u32], p: Parent) -> Answer
     ensures { Hands m.old m.new result (create_of p (tables m.old)) }
 {
     let name = next_name(m);
-    let newcomer = new_thread(name, p, State::Ready);
-    store::add_thread(m, newcomer);
+    store::add_thread(m, new_thread(name, p, State::Ready));
     store::join_ready(m, name);
     store::set_last(m, name);
-    Answer::Result(name as u32)
+    Answer::Result(u32::from(name))
 }
 
 pub fn create_brother(m: &mut [u32], me: u8) -> Answer
     requires { MidEvent m.old × ((limits m.old).threads < names) × (length (tables m.old).threads < (limits m.old).threads) }
     ensures { Hands m.old m.new result (create_brother_of me (tables m.old)) }
 {
-    let p = store::parent_of(m, me);
-    create(m, p)
+    create(m, store::parent_of(m, me))
 }
 
 pub fn create_son(m: &mut [u32], me: u8) -> Answer
@@ -117,21 +113,12 @@ pub fn set_manager(m: &mut [u32], me: u8, k: TrapKind, n: u8) -> Answer
     requires { MidEvent m.old × (live me (tables m.old) ≡ true) }
     ensures { Hands m.old m.new result (set_manager_of me k n (tables m.old)) }
 {
-    let g = store::manager_of(m, me, k);
-    match g {
-        Manager::Unset => {
-            store::set_manager(m, me, k, Manager::Set(n));
-            Answer::Result(0)
-        }
-        Manager::Set(_) => {
-            ending::end(m, me);
-            Answer::Nothing
-        }
-        Manager::Gone => {
-            ending::end(m, me);
-            Answer::Nothing
-        }
+    if let Manager::Unset = store::manager_of(m, me, k) {
+        store::set_manager(m, me, k, Manager::Set(n));
+        return Answer::Result(0);
     }
+    ending::end(m, me);
+    Answer::Nothing
 }
 
 pub fn get_cpu_time(m: &[u32], me: u8) -> Answer
@@ -155,12 +142,10 @@ pub fn wait_for_io(m: &mut [u32], me: u8, d: u8) -> Answer
     requires { AtRest m.old × (d < devices) }
     ensures { Hands m.old m.new result (wait_for_io_of me d (tables m.old)) }
 {
-    if store::is_held(m, d) {
-        let word = store::held_word(m, d);
+    if let Some(word) = store::word_held(m, d) {
         store::clear_held(m, d);
-        Answer::Result(word)
-    } else {
-        moves::stop(m, me, State::Device(d));
-        Answer::Nothing
+        return Answer::Result(word);
     }
+    moves::stop(m, me, State::Device(d));
+    Answer::Nothing
 }

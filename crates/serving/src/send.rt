@@ -19,17 +19,6 @@ pub fn decides(m: &[u32], me: u8, to: u8) -> bool
     store::trapped_on(m, to, me)
 }
 
-pub fn message(to: u8, me: u8, word: u32) -> Message
-    ensures { result ≡ message_of to me word }
-{
-    Message {
-        to,
-        from: me,
-        kind: MessageKind::Ordinary,
-        word,
-    }
-}
-
 // The decision 0 continues the trapped thread and discards its notice, another ends it.
 fn decide(m: &mut [u32], me: u8, to: u8, word: u32)
     requires { MidEvent m.old × (decides_of me to (tables m.old) ≡ true) }
@@ -52,7 +41,12 @@ pub fn send(m: &mut [u32], me: u8, to: u8, word: u32)
     if decides(m, me, to) {
         decide(m, me, to, word);
     } else {
-        let x = message(to, me, word);
+        let x = Message {
+            to,
+            from: me,
+            kind: MessageKind::Ordinary,
+            word,
+        };
         moves::deliver(m, x);
     }
 }

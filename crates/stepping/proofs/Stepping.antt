@@ -11,15 +11,20 @@ use borrow.Author.Tests.{leb-false}
 use Rattle.rules.specs.Lists.{any, insert}
 use Rattle.rules.specs.Numbers.{devices, full_slice}
 use Rattle.laws.specs.Words.{Limits}
-use Rattle.rules.specs.Tables.{Tables, with_runner, with_threads, live, new_thread, runs, me, start}
+use Rattle.rules.specs.Tables.{Tables, with_runner, with_threads, live, new_thread, me, start}
 use Rattle.rules.specs.Waking.{Outcome, ◌handing◌, blocks_used, accepts}
 use Rattle.rules.specs.Send.{message, decides}
 use Rattle.rules.specs.Dispatch.{dispatch}
 use Rattle.rules.specs.Events.{decode}
 use Rattle.rules.specs.Refusals.{first_of, no_thread_free, ends_nobody, call_rules, refusal}
-use Rattle.rules.specs.Step.{Stepped, act, decided, settle, step}
-use Rattle.laws.specs.Words.{Running, NoParent, Thread, Answer, Nothing, Runner, NoRunner, Runs, Target, Call, Send, CreateBrother}
-use Rattle.laws.specs.Words.{CreateSon, Terminate, WaitForIo, Event, ByRunner, Decision}
+use Rattle.rules.specs.Refused.{refusal_number}
+use Rattle.rules.specs.Step.{Stepped, serve, act, decided, settle, step}
+use Rattle.rules.specs.declared.refusal.Refusal.{Refusal}
+use Rattle.rules.specs.declared.refusal.Refusal.TheVariants.{Over, Malformed, NobodyRuns, NotLive, NoBlockFree, NoThreadFree}
+use Rattle.rules.specs.declared.refusal.Refusal.TheVariants.{BrotherOfFirst, DeviceTaken, NoDecision, OwnName, NoTables, BufferShort}
+use Rattle.rules.specs.declared.refusal.Refusal.TheVariants.{RoomShort, CutShort, OutOfOrder, OutOfRange, NamesNobody, TableRule}
+use Rattle.laws.specs.Words.{Running, NoParent, Thread, Answer, Nothing, Runner, Runs, Target, Call, Send, CreateBrother}
+use Rattle.laws.specs.Words.{CreateSon, Terminate, WaitForIo, Event, Decision}
 use Rattle.laws.specs.Types.{Ruled}
 use Rattle.laws.specs.Decoded.{ProperCall, Proper}
 use Rattle.laws.proofs.Room.{messages_room, clock_room}
@@ -29,7 +34,8 @@ use Rattle.laws.proofs.Kept.{step_ruled}
 use Rattle.store.specs.Store.{limits, tables, nothing, Holding, Leaves, Hands}
 use Rattle.store.proofs.Limits.{names_left}
 use Rattle.handling.specs.Standing.{MidEvent, AtRest}
-use Rattle.stepping.specs.Stepping.{Steps}
+use Rattle.stepping.specs.Stepping.{Steps, event_of, Asks}
+use Rattle.stepping.specs.declared.refusals.Accepted.TheVariants.{ByRunner}
 
 -- ---- the start
 
@@ -90,29 +96,43 @@ pub device_known : {c : Call} (d : ℕ) → c ≡ WaitForIo d → ProperCall c �
 unfolding ProperCall
 device_known d e p = rw e at p
 
--- somebody runs, and this is its name
-pub runs_now : (T : Tables) {r : Runner} (n s : ℕ) → r ≡ T.runner → r ≡ Runs n s → (runs T.runner ≡ true) × (me T.runner ≡ n)
-unfolding runs me
-runs_now T n s a b = (ap runs (sym a ∙ b), ap me (sym a ∙ b))
+-- ---- an accepted event
 
--- an event of the runner that is not refused
-module _ (L : Limits) (T : Tables) {e : Event} {r : Runner} (c : Call) (i : e ≡ ByRunner c) (f : refusal L T e ≡ 0) (a : r ≡ T.runner)
-  where
-    -- somebody runs
-    pub never_alone : r ≡ NoRunner → ⊥
-    never_alone b =
-        let k = called L T c (rw i at f) in
-        let z : ◌≡◌ {A = ℕ} 0 1 = cc in
-        omega arith
+-- a call is the runner's own, and passes its own rules
+pub called_by : (L : Limits) (T : Tables) (n : ℕ) (c : Call) → Asks T (ByRunner n c) → refusal L T (event_of (ByRunner n c)) ≡ 0 →
+    Proper (event_of (ByRunner n c)) → ((s : ℕ) × (T.runner ≡ Runs n s)) × (first_of (call_rules L T n c) ≡ 0) × ProperCall c
+unfolding Asks event_of Proper
+called_by L T n c a f p =
+    let k = called L T c f in
+    let own : k.name ≡ n = cc in
+    (a, rw own at k.passes, p)
 
-    -- it is its call, and the call's own rules are passed
-    pub called_by : (n s : ℕ) → r ≡ Runs n s → Proper e → ((x : ℕ) × (T.runner ≡ Runs n x)) × (first_of (call_rules L T n c) ≡ 0)
-        × ProperCall c
-    unfolding Proper
-    called_by n s b p =
-        let k = called L T c (rw i at f) in
-        let own : k.name ≡ n = cc in
-        ((s, sym a ∙ b), rw own at k.passes, rw i at p)
+-- and what serves it is what the event does
+pub serves : (T : Tables) (n : ℕ) (c : Call) → Asks T (ByRunner n c) → serve n T c ≡ act T (event_of (ByRunner n c))
+unfolding Asks event_of act me
+serves T n c a = ap (λ (r : Runner). serve (me r) T c) (sym a.1)
+
+-- refusals count from 1
+pub some_number : (r : Refusal) → refusal_number r ≢ 0
+unfolding refusal_number
+some_number Over e = omega (arith, e)
+some_number Malformed e = omega (arith, e)
+some_number NobodyRuns e = omega (arith, e)
+some_number NotLive e = omega (arith, e)
+some_number NoBlockFree e = omega (arith, e)
+some_number NoThreadFree e = omega (arith, e)
+some_number BrotherOfFirst e = omega (arith, e)
+some_number DeviceTaken e = omega (arith, e)
+some_number NoDecision e = omega (arith, e)
+some_number OwnName e = omega (arith, e)
+some_number NoTables e = omega (arith, e)
+some_number BufferShort e = omega (arith, e)
+some_number RoomShort e = omega (arith, e)
+some_number CutShort e = omega (arith, e)
+some_number OutOfOrder e = omega (arith, e)
+some_number OutOfRange e = omega (arith, e)
+some_number NamesNobody e = omega (arith, e)
+some_number TableRule e = omega (arith, e)
 
 -- ---- a step
 

@@ -1,27 +1,33 @@
-// Refusals: the tests in the order of the list, each with its number; 0 where none refuses.
-ghost use Rattle.std.specs.Prelude.{◌≡◌, not, List, [], ◌∷◌, ◌==◌};
-ghost use Rattle.rules.specs.declared.Call.TheVariants.{Send as SendCall, WaitForIo as IoCall};
+// Refusals: the tests in the order of the list. The first that holds refuses.
+ghost use Rattle.std.specs.Prelude.{◌≡◌, not, List, [], ◌∷◌, ◌==◌, IfOk};
+ghost use Rattle.rules.specs.declared.Call.TheVariants.{Send as SendCall, WaitForIo as IoCall, CreateBrother as BrotherCall};
 ghost use Rattle.rules.specs.Tables.{live};
-ghost use Rattle.rules.specs.Refusals.{over, wants_nobody as wants_nobody_of, ends_nobody as ends_nobody_of, call_rules, first_of};
+ghost use Rattle.rules.specs.Refused.{refusal_told};
+ghost use Rattle.rules.specs.Refusals.{over, wants_nobody as wants_nobody_of, ends_nobody as ends_nobody_of, call_rules, first_of, no_thread_free};
 ghost use Rattle.rules.specs.Refusals.{◌refuses◌, refusal as refusal_of};
 ghost use Rattle.store.specs.Store.{limits, tables, Holding};
 ghost use Rattle.handling.specs.Standing.{MidEvent};
+ghost use Rattle.stepping.specs.Stepping.{event_of, Asks};
 
 use handling::{dispatch, moves};
-use rules::{Call, Event, Runner, Status, Target, Wanted, numbers};
+use rules::refusal::Refusal;
+use rules::{Call, Event, Message, MessageKind, Runner, Status, Target, Wanted};
 use serving::send;
 use store;
+
+// An event that nothing refuses; a call has the runner's name.
+#[derive(Clone, Copy)]
+pub enum Accepted {
+    ByRunner(u8, Call),
+    Tick,
+    Interrupt(u8, u32),
+}
 
 // 1: halted or panicked.
 fn is_over(s: Status) -> bool
     ensures { result ≡ over s }
 {
-    match s {
-        Status::Running => false,
-        Status::Idle => false,
-        Status::Halted => true,
-        Status::Panicked => true,
-    }
+    matches!(s, Status::Halted | Status::Panicked)
 }
 
 // 4: the wanted name is no live thread's.
@@ -29,106 +35,128 @@ fn wants_nobody(m: &[u32], w: Wanted) -> bool
     requires { Holding m.now }
     ensures { result ≡ wants_nobody_of (tables m.now) w }
 {
-    match w {
-        Wanted::Anybody => false,
-        Wanted::Only(n) => !store::is_live(m, n),
-    }
+    matches!(w, Wanted::Only(n) if !store::is_live(m, n))
 }
 
 fn ends_nobody(m: &[u32], who: Target) -> bool
     requires { Holding m.now }
     ensures { result ≡ ends_nobody_of (tables m.now) who }
 {
-    match who {
-        Target::Oneself => false,
-        Target::Named(n) => !store::is_live(m, n),
-    }
+    matches!(who, Target::Named(n) if !store::is_live(m, n))
 }
 
 // 4, 9, 5.
-fn send_refusal(m: &[u32], me: u8, to: u8, word: u32) -> u8
+fn refuse_send(m: &[u32], me: u8, to: u8, word: u32) -> Result<(), Refusal>
     requires { Holding m.now }
-    ensures { result ≡ first_of (call_rules (limits m.now) (tables m.now) me (SendCall to word)) }
+    ensures { refusal_told result ≡ first_of (call_rules (limits m.now) (tables m.now) me (SendCall to word)) }
 {
     if !store::is_live(m, to) {
-        return 4;
+        return Err(Refusal::NotLive);
     }
     if send::decides(m, me, to) {
-        if 1 < word {
-            return 9;
+        if word > 1 {
+            return Err(Refusal::NoDecision);
         }
-        return 0;
+        return Ok(());
     }
-    let x = send::message(to, me, word);
-    if moves::is_awaited(m, x) {
-        return 0;
+    let x = Message {
+        to,
+        from: me,
+        kind: MessageKind::Ordinary,
+        word,
+    };
+    if !moves::is_awaited(m, x) && store::blocks_full(m) {
+        return Err(Refusal::NoBlockFree);
     }
-    if store::blocks_full(m) { 5 } else { 0 }
+    Ok(())
 }
 
-fn device_refusal(m: &[u32], d: u8) -> u8
-    requires { MidEvent m.now }
-    ensures { result ≡ first_of (call_rules (limits m.now) (tables m.now) 0 (IoCall d)) }
-{
-    if store::waiter(m, d) == numbers::NOBODY {
-        0
-    } else {
-        8
-    }
-}
-
-fn manager_refusal(m: &[u32], me: u8, n: u8) -> u8
+// 7, 6.
+fn refuse_brother(m: &[u32], me: u8) -> Result<(), Refusal>
     requires { Holding m.now }
-    ensures { result ≡ first_of ((not (live n (tables m.now)) refuses 4) ∷ ((n == me) refuses 10) ∷ []) }
+    ensures { refusal_told result ≡ first_of (call_rules (limits m.now) (tables m.now) me BrotherCall) }
+{
+    if me == 0 {
+        return Err(Refusal::BrotherOfFirst);
+    }
+    refuse_son(m)
+}
+
+// 6.
+fn refuse_son(m: &[u32]) -> Result<(), Refusal>
+    requires { Holding m.now }
+    ensures { refusal_told result ≡ first_of ((no_thread_free (limits m.now) (tables m.now) refuses 6) ∷ []) }
+{
+    if store::threads_full(m) {
+        return Err(Refusal::NoThreadFree);
+    }
+    Ok(())
+}
+
+// 8.
+#[tactic(auto, using(store::proofs::Limits::some_name), unfolding(rules::specs::Refusals::first_of, rules::specs::Refusals::call_rules, rules::specs::Refused::refusal_number, rules::specs::Refused::refusal_told))]
+fn refuse_device(m: &[u32], d: u8) -> Result<(), Refusal>
+    requires { MidEvent m.now }
+    ensures { refusal_told result ≡ first_of (call_rules (limits m.now) (tables m.now) 0 (IoCall d)) }
+{
+    if store::waiter(m, d).is_some() {
+        return Err(Refusal::DeviceTaken);
+    }
+    Ok(())
+}
+
+// 4, 10.
+fn refuse_manager(m: &[u32], me: u8, n: u8) -> Result<(), Refusal>
+    requires { Holding m.now }
+    ensures { refusal_told result ≡ first_of ((not (live n (tables m.now)) refuses 4) ∷ ((n == me) refuses 10) ∷ []) }
 {
     if !store::is_live(m, n) {
-        return 4;
+        return Err(Refusal::NotLive);
     }
-    if n == me { 10 } else { 0 }
+    if n == me {
+        return Err(Refusal::OwnName);
+    }
+    Ok(())
 }
 
 // 4, 9, 5, 7, 6, 10, 8: what a call of the runner can meet.
-fn call_refusal(m: &[u32], me: u8, c: Call) -> u8
+fn refuse_call(m: &[u32], me: u8, c: Call) -> Result<(), Refusal>
     requires { MidEvent m.now }
-    ensures { result ≡ first_of (call_rules (limits m.now) (tables m.now) me c) }
+    ensures { refusal_told result ≡ first_of (call_rules (limits m.now) (tables m.now) me c) }
 {
     match c {
-        Call::Send(to, word) => send_refusal(m, me, to, word),
-        Call::Receive(w) => if wants_nobody(m, w) { 4 } else { 0 },
-        Call::CreateBrother => {
-            if me == 0 {
-                return 7;
-            }
-            if store::threads_full(m) { 6 } else { 0 }
-        }
-        Call::CreateSon => if store::threads_full(m) { 6 } else { 0 },
-        Call::Terminate(who) => if ends_nobody(m, who) { 4 } else { 0 },
-        Call::SetManager(_, n) => manager_refusal(m, me, n),
-        Call::GetCpuTime => 0,
-        Call::WaitForClock => 0,
-        Call::WaitForIo(d) => device_refusal(m, d),
-        Call::Trap(_, _) => 0,
+        Call::Send(to, word) => refuse_send(m, me, to, word),
+        Call::Receive(w) if wants_nobody(m, w) => Err(Refusal::NotLive),
+        Call::CreateBrother => refuse_brother(m, me),
+        Call::CreateSon => refuse_son(m),
+        Call::Terminate(who) if ends_nobody(m, who) => Err(Refusal::NotLive),
+        Call::SetManager(_, n) => refuse_manager(m, me, n),
+        Call::WaitForIo(d) => refuse_device(m, d),
+        _ => Ok(()),
     }
 }
 
-pub fn refusal(m: &[u32], e: Event) -> u8
+// An event is accepted, or refused.
+#[tactic(auto, unfolding(crate::specs::Stepping::event_of, crate::specs::Stepping::Asks, rules::specs::Refusals::refusal, rules::specs::Refusals::first_of, rules::specs::Refusals::is_malformed, rules::specs::Refusals::needs_runner, rules::specs::Refusals::own_rules, rules::specs::Tables::runs, rules::specs::Tables::me, rules::specs::Refused::refusal_number, rules::specs::Refused::refusal_told))]
+pub fn accept(m: &[u32], e: Event) -> Result<Accepted, Refusal>
     requires { MidEvent m.now }
-    ensures { result ≡ refusal_of (limits m.now) (tables m.now) e }
+    ensures told { refusal_told result ≡ refusal_of (limits m.now) (tables m.now) e }
+    ensures meant { IfOk result (λ a. event_of a ≡ e) }
+    ensures asks { IfOk result (λ a. Asks (tables m.now) a) }
 {
-    let s = dispatch::status(m);
-    if is_over(s) {
-        return 1;
+    if is_over(dispatch::status(m)) {
+        return Err(Refusal::Over);
     }
     match e {
-        Event::Malformed => 2,
+        Event::Malformed => Err(Refusal::Malformed),
         Event::ByRunner(c) => {
-            let r = store::runner(m);
-            match r {
-                Runner::NoRunner => 3,
-                Runner::Runs(me, _) => call_refusal(m, me, c),
-            }
+            let Runner::Runs(me, _) = store::runner(m) else {
+                return Err(Refusal::NobodyRuns);
+            };
+            refuse_call(m, me, c)?;
+            Ok(Accepted::ByRunner(me, c))
         }
-        Event::Tick => 0,
-        Event::Interrupt(_, _) => 0,
+        Event::Tick => Ok(Accepted::Tick),
+        Event::Interrupt(d, word) => Ok(Accepted::Interrupt(d, word)),
     }
 }

@@ -14,7 +14,6 @@ pub fn start(m: &mut [u32], l: Limits)
     ensures { (tables m.new ≡ start_of) × (limits m.new ≡ l) × Holding m.new }
 {
     store::clear(m, l);
-    let first = requests::new_thread(0, None, State::Running);
-    store::add_thread(m, first);
+    store::add_thread(m, requests::new_thread(0, None, State::Running));
     store::set_runner(m, Runner::Runs(0, numbers::SLICE));
 }

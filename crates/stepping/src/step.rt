@@ -3,15 +3,16 @@ ghost use Rattle.std.specs.Prelude.{◌≡◌, ℕ};
 ghost use Rattle.rules.specs.declared.Runner.TheVariants.{Runs as RunsNow};
 ghost use Rattle.rules.specs.Waking.{◌handing◌};
 ghost use Rattle.rules.specs.Refusals.{call_rules, first_of, refusal as refusal_of};
-ghost use Rattle.rules.specs.Step.{serve as serve_of, act as act_of, decided as decided_of, step as step_of_lem};
+ghost use Rattle.rules.specs.Step.{serve as serve_of, act as act_of, decided as decided_of, step as step_of};
 ghost use Rattle.laws.specs.Decoded.{ProperCall, Proper};
 ghost use Rattle.store.specs.Store.{limits, tables, Shaped, Hands};
 ghost use Rattle.handling.specs.Standing.{AtRest};
-ghost use Rattle.stepping.specs.Stepping.{Steps};
+ghost use Rattle.stepping.specs.Stepping.{Steps, event_of, Asks};
 
+use crate::refusals::Accepted;
 use crate::{decode, refusals};
 use handling::{dispatch, interrupt, tick};
-use rules::{Answer, Call, Decision, Event, Runner};
+use rules::{Answer, Call, Decision};
 use serving::{receive, requests, send, trap};
 use store;
 
@@ -42,28 +43,17 @@ fn serve(m: &mut [u32], me: u8, c: Call) -> Answer
 }
 
 // An event that nothing refuses.
-fn act(m: &mut [u32], e: Event) -> Answer
-    requires { AtRest m.old × (refusal_of (limits m.old) (tables m.old) e ≡ 0) × Proper e }
-    ensures { Hands m.old m.new result (act_of (tables m.old) e) }
+fn act(m: &mut [u32], e: Accepted) -> Answer
+    requires { AtRest m.old × Asks (tables m.old) e × (refusal_of (limits m.old) (tables m.old) (event_of e) ≡ 0)
+        × Proper (event_of e) }
+    ensures { Hands m.old m.new result (act_of (tables m.old) (event_of e)) }
 {
     match e {
-        Event::Malformed => Answer::Nothing,
-        Event::ByRunner(c) => {
-            let r = store::runner(m);
-            match r {
-                Runner::NoRunner => Answer::Nothing,
-                Runner::Runs(me, _) => serve(m, me, c),
-            }
-        }
-        Event::Tick => {
-            tick::tick(m);
-            Answer::Nothing
-        }
-        Event::Interrupt(d, word) => {
-            interrupt::interrupt(m, d, word);
-            Answer::Nothing
-        }
+        Accepted::ByRunner(me, c) => return serve(m, me, c),
+        Accepted::Tick => tick::tick(m),
+        Accepted::Interrupt(d, word) => interrupt::interrupt(m, d, word),
     }
+    Answer::Nothing
 }
 
 // What a step reports: the refusal, the status and the runner as they stand now, and the answer.
@@ -87,15 +77,15 @@ fn decided(m: &[u32], refusal: u8, answer: Answer) -> Decision
 pub fn step(m: &mut [u32], event: &[u8]) -> Decision
     requires { AtRest m.old }
     ensures { Steps m.old m.new result
-        (step_of_lem (limits m.old) (tables m.old) event.now) }
+        (step_of (limits m.old) (tables m.old) event.now) }
 {
     let e = decode::decode(event);
-    let refusal = refusals::refusal(m, e);
-    if refusal == 0 {
-        let a = act(m, e);
-        let b = dispatch::dispatch(m, a);
-        decided(m, 0, b)
-    } else {
-        decided(m, refusal, Answer::Nothing)
+    match refusals::accept(m, e) {
+        Ok(accepted) => {
+            let given = act(m, accepted);
+            let handed = dispatch::dispatch(m, given);
+            decided(m, 0, handed)
+        }
+        Err(r) => decided(m, u8::from(r), Answer::Nothing),
     }
 }

@@ -1,5 +1,5 @@
 -- Messages: the blocks they use, one that joins its inbox, and one that is taken out.
-use Rattle.std.proofs.Common.{◌≡◌, ℕ, ◌+◌, ◌<◌, ◌≤◌, Bool, false, not, leb, List, ◌∷◌, ◌++◌, get_or, take, drop, sym, refl, ap, ◌∙◌, arith, Option, Some}
+use Rattle.std.proofs.Common.{◌≡◌, ℕ, ◌+◌, ◌<◌, ◌≤◌, Bool, false, not, leb, List, ◌∷◌, ◌++◌, get_or, take, drop, sym, refl, ap, ◌∙◌, arith, Option, None, Some}
 use Rattle.std.specs.List.{position}
 use Rattle.memory.proofs.Listing.{found, nowhere, is_none}
 use borrow.Author.Tests.{lt-leb}
@@ -13,7 +13,6 @@ use Rattle.memory.specs.Rows.{view, place, no_message, MessagesAre}
 use Rattle.memory.specs.Memory.{rows_of}
 use Rattle.memory.proofs.Sizes.{messages_whole}
 use Rattle.moving.proofs.Found.{found_within, found_pull, no_pull, insert_at}
-use Rattle.store.specs.declared.Taken.TheVariants.{Missing, Took}
 use Rattle.store.specs.Store.{limits, tables, Shaped, Holding, Leaves, Takes}
 use Rattle.store.proofs.Written.{leaves, messages_are}
 use Rattle.store.proofs.Searched.{messages_length}
@@ -55,7 +54,7 @@ module _ (m : List ℕ) (H : Holding m) where
   module _ (p : Message → Bool) (i : ℕ) (f : i ≡ place p (view (rows_of m)).messages) where
     pub taken : {m' : List ℕ} (x : Message) → i < (rows_of m).letters → x ≡ get_or (rows_of m).messages i no_message →
         MessagesAre (rows_of m) (rows_of m') (take i (view (rows_of m)).messages ++ drop (i + 1) (view (rows_of m)).messages) →
-        Takes m m' (Took x) (pull p (tables m).messages)
+        Takes m m' (Some x) (pull p (tables m).messages)
     unfolding tables Shaped
     taken {m'} x h e q =
         let l : List Message = take i (tables m).messages ++ drop (i + 1) (tables m).messages in
@@ -64,19 +63,19 @@ module _ (m : List ℕ) (H : Holding m) where
         ∙ ap (λ (y : Message). pulled y l) (sym e) in
         go (pull p (tables m).messages) l w (leaves (messages_are H.shaped q) H.rising)
       where
-        go : (P : Pulled Message) (l : List Message) → P ≡ pulled x l → Leaves m m' (with_messages l (tables m)) → Takes m m' (Took x) P
+        go : (P : Pulled Message) (l : List Message) → P ≡ pulled x l → Leaves m m' (with_messages l (tables m)) → Takes m m' (Some x) P
         go P l w L =
             record {
               none = λ z. let no : ◌≡◌ {A = ℕ} 0 1 = cc in absurd (omega (arith, no));
               one = λ y k z. (cc, let same : l ≡ k = cc in rw same at L);
             }
 
-    pub nothing_taken : (rows_of m).letters ≤ i → Takes m m Missing (pull p (tables m).messages)
+    pub nothing_taken : (rows_of m).letters ≤ i → Takes m m None (pull p (tables m).messages)
     unfolding tables Shaped
     nothing_taken h =
         go (pull p (tables m).messages) (no_pull p (rows_of m).letters (rows_of m).messages i (messages_whole m _ H.shaped) f h)
       where
-        go : (P : Pulled Message) → P ≡ missing → Takes m m Missing P
+        go : (P : Pulled Message) → P ≡ missing → Takes m m None P
         go P w =
             record {
               none = λ z. (refl, record { says = refl; same = refl; holding = H });

@@ -1,13 +1,14 @@
 -- What the store's users know of a memory that is Shaped, and of a search by name.
-use Rattle.std.proofs.Common.{◌≡◌, ℕ, ◌<◌, ◌≤◌, Bool, true, false, not, ◌||◌, ltb, ◌≢◌, List, [], ◌∷◌, length, get_or, sym, refl, ◌∙◌, arith, ltb-false, eq-eqb, ne_eqb, if◌then◌else◌, ◌==◌}
-use borrow.Author.Tests.{not-true, not-false}
+use Rattle.std.proofs.Common.{◌≡◌, ℕ, ◌<◌, ◌≤◌, Bool, true, false, not, ◌||◌, ltb, List, [], ◌∷◌, length, get_or, is_some, None, Some, refl, ltb-false, if◌then◌else◌}
+use Rattle.std.specs.List.{find}
+use Rattle.std.specs.Option.{option_map}
+use borrow.Author.Tests.{not-true}
 use Rattle.rules.specs.Lists.{any}
-use Rattle.rules.specs.Numbers.{names, nobody}
-use Rattle.rules.specs.Tables.{named}
-use Rattle.laws.specs.Words.{Thread}
-use Rattle.laws.proofs.Tests.{or_left, or_right}
+use Rattle.rules.specs.Numbers.{names}
+use Rattle.rules.specs.Interrupt.{held_for}
+use Rattle.laws.specs.Words.{Thread, Held}
 use Rattle.moving.proofs.Found.{passes_at}
-use Rattle.store.specs.Store.{limits, Shaped, place, name_where}
+use Rattle.store.specs.Store.{limits, Shaped, place, name_where, word_for, held_word}
 
 -- there is a name left for a newcomer
 pub names_left : (m : List ℕ) → Shaped m → (limits m).threads < names
@@ -19,24 +20,29 @@ pub not_lower : (name : ℕ) (ts : List Thread) (d : Thread) → place (λ t. no
     name ≤ (get_or ts (place (λ t. not (ltb t.name name)) ts) d).name
 not_lower name ts d h = ltb-false _ name (not-true _ (passes_at (λ t. not (ltb t.name name)) d ts h))
 
--- names are below 254, so that 255 says that nobody passes
-pub nobody_passes : (p : Thread → Bool) (ts : List Thread) → ((n : ℕ) → any (named n) ts ≡ true → n < names) →
-    (name_where p ts == nobody) ≡ not (any p ts)
-unfolding name_where any
-nobody_passes p [] low = refl
-nobody_passes p (t ∷ ts) low = go (nobody_passes p ts (λ n h. low n (or_right (n == t.name) (any (named n) ts) h))) (p t)
+-- whose name was found tells whether there is one
+pub some_name : (p : Thread → Bool) (ts : List Thread) → is_some (name_where p ts) ≡ any p ts
+unfolding any
+some_name p [] = refl
+some_name p (t ∷ ts) = go (p t) (some_name p ts)
   where
-    go : (name_where p ts == nobody) ≡ not (any p ts) → (b : Bool) →
-        ((if b then t.name else name_where p ts) == nobody) ≡ not (b || any p ts)
-    go rest true = ne_eqb t.name nobody
-        (λ e. omega (arith, e, low t.name (or_left (t.name == t.name) (any (named t.name) ts) (eq-eqb t.name t.name refl))))
-    go rest false = rest
+    go : (b : Bool) → is_some (name_where p ts) ≡ any p ts →
+        is_some (option_map (λ u. u.name) (if b then Some t else find p ts)) ≡ (b || any p ts)
+    go true later = refl
+    go false later = later
 
--- so a name that was found tells whether there is one
-module _ (p : Thread → Bool) (ts : List Thread) (low : (n : ℕ) → any (named n) ts ≡ true → n < names) (n : ℕ) (e : n ≡ name_where p ts)
+-- a held word tells whether one is held
+pub some_word : (d : ℕ) (hs : List Held) → is_some (held_word d hs) ≡ any (held_for d) hs
+some_word d hs = go (any (held_for d) hs)
   where
-    pub nobody_found : n ≡ nobody → any p ts ≡ false
-    nobody_found z = not-true (any p ts) (sym (nobody_passes p ts low) ∙ eq-eqb _ _ (sym e ∙ z))
+    go : (b : Bool) → is_some (if b then Some (word_for d hs) else None) ≡ b
+    go true = refl
+    go false = refl
 
-    pub somebody_found : n ≢ nobody → any p ts ≡ true
-    somebody_found z = not-false (any p ts) (sym (nobody_passes p ts low) ∙ ne_eqb _ _ (λ i. z (e ∙ i)))
+-- and which
+pub which_word : (d w : ℕ) (hs : List Held) → held_word d hs ≡ Some w → w ≡ word_for d hs
+which_word d w hs = go (any (held_for d) hs)
+  where
+    go : (b : Bool) → (if b then Some (word_for d hs) else None) ≡ Some w → w ≡ word_for d hs
+    go true e = cc
+    go false e = cc

@@ -1,10 +1,9 @@
 -- What a search of a memory's rows says of its tables.
-use Rattle.std.proofs.Common.{◌≡◌, ℕ, suc, ◌+◌, ◌<◌, ◌≤◌, Bool, true, false, not, ltb, List, [], ◌∷◌, ◌++◌, length, get_or, take, drop, set, sym, refl, ap, ◌∙◌, arith, get_or-take, if◌then◌else◌, Option, Some}
-use Rattle.std.specs.List.{position}
-use Rattle.std.specs.Option.{is_some}
+use Rattle.std.proofs.Common.{◌≡◌, ℕ, suc, ◌+◌, ◌<◌, ◌≤◌, Bool, true, false, not, ltb, List, [], ◌∷◌, ◌++◌, length, get_or, take, drop, set, sym, refl, ap, ◌∙◌, arith, get_or-take, if◌then◌else◌, Option, None, Some, MatchOption}
+use Rattle.std.specs.List.{position, find}
+use Rattle.std.specs.Option.{is_some, option_map_or}
 use Rattle.memory.proofs.Listing.{found, nowhere, position_is, is_none, some_if}
 use Rattle.rules.specs.Lists.{count, insert}
-use Rattle.rules.specs.Numbers.{nobody}
 use Rattle.rules.specs.Tables.{with_threads, named, live, of_thread, change}
 use Rattle.laws.specs.Words.{Thread}
 use Rattle.laws.specs.Types.{Rising}
@@ -12,8 +11,8 @@ use Rattle.memory.specs.Rows.{view, Roomy, place, no_thread, no_message, put_thr
 use Rattle.memory.specs.Memory.{rows_of}
 use Rattle.memory.proofs.Sizes.{threads_whole, threads_count, ready_count, clock_count, messages_count}
 use Rattle.moving.proofs.Steps.{by}
-use Rattle.moving.proofs.Found.{any_place, found_thread, no_such_thread, found_map, no_map, found_within, insert_at}
-use Rattle.store.specs.Store.{tables, Shaped, Holding, Leaves, name_where}
+use Rattle.moving.proofs.Found.{any_place, found_map, no_map, found_within, insert_at}
+use Rattle.store.specs.Store.{tables, Shaped, Holding, Leaves}
 use Rattle.store.proofs.Written.{fills, leaves, threads_left, rising_where, rising_insert}
 
 -- ---- what the row functions ask
@@ -106,8 +105,31 @@ module _ (m : List ℕ) (s : Shaped m) where
     unfolding tables
     message_entry h = sym (get_or-take (rows_of m).letters (rows_of m).messages i no_message (omega (arith, messages_length)))
 
--- ---- the first thread that passes stands at i
+-- ---- the first thread that passes
 
+module _ (p : Thread → Bool) (d : Thread) where
+  find_here : (ts : List Thread) → place p ts < length ts → Some (get_or ts (place p ts) d) ≡ find p ts
+  unfolding place
+  find_here [] h = absurd (omega arith)
+  find_here (t ∷ ts) h = go (find_here ts) (p t) h
+    where
+      go : (place p ts < length ts → Some (get_or ts (place p ts) d) ≡ find p ts) → (b : Bool) →
+          (if b then 0 else suc (place p ts)) < suc (length ts) →
+          Some (get_or (t ∷ ts) (if b then 0 else suc (place p ts)) d) ≡ (if b then Some t else find p ts)
+      go r true h = refl
+      go r false h = r (omega arith)
+
+  find_nowhere : (ts : List Thread) → length ts ≤ place p ts → None ≡ find p ts
+  unfolding place
+  find_nowhere [] h = refl
+  find_nowhere (t ∷ ts) h = go (find_nowhere ts) (p t) h
+    where
+      go : (length ts ≤ place p ts → None ≡ find p ts) → (b : Bool) → suc (length ts) ≤ (if b then 0 else suc (place p ts)) →
+          None ≡ (if b then Some t else find p ts)
+      go r true h = absurd (omega arith)
+      go r false h = r (omega arith)
+
+-- r says where it stands
 module _ (m : List ℕ) (s : Shaped m) (p : Thread → Bool) {r : Option ℕ} (f : r ≡ position p (view (rows_of m)).threads) where
   pub first_at : {i : ℕ} → r ≡ Some i → (i ≡ place p (view (rows_of m)).threads) × (i < (rows_of m).count)
   unfolding tables
@@ -117,40 +139,26 @@ module _ (m : List ℕ) (s : Shaped m) (p : Thread → Bool) {r : Option ℕ} (f
   unfolding tables
   first_none e = omega (arith, nowhere p (view (rows_of m)).threads (is_none (λ i h. e i (f ∙ h))), threads_length m s)
 
-pub name_at : (p : Thread → Bool) (ts : List Thread) (d : Thread) → place p ts < length ts → (get_or ts (place p ts) d).name ≡ name_where p ts
-unfolding place name_where
-name_at p [] d h = absurd (omega arith)
-name_at p (t ∷ ts) d h = go (name_at p ts d) (p t) h
-  where
-    go : (place p ts < length ts → (get_or ts (place p ts) d).name ≡ name_where p ts) → (b : Bool) →
-        (if b then 0 else suc (place p ts)) < suc (length ts) →
-        (get_or (t ∷ ts) (if b then 0 else suc (place p ts)) d).name ≡ (if b then t.name else name_where p ts)
-    go r true h = refl
-    go r false h = r (omega arith)
+  -- there the row functions may be asked
+  pub first_here : {i : ℕ} → r ≡ Some i → Roomy (rows_of m) × (i < (rows_of m).limits.threads)
+  first_here e = found_here m s (first_at e).1
 
-pub no_name : (p : Thread → Bool) (ts : List Thread) → length ts ≤ place p ts → nobody ≡ name_where p ts
-unfolding place name_where
-no_name p [] h = refl
-no_name p (t ∷ ts) h = go (no_name p ts) (p t) h
-  where
-    go : (length ts ≤ place p ts → nobody ≡ name_where p ts) → (b : Bool) → suc (length ts) ≤ (if b then 0 else suc (place p ts)) →
-        nobody ≡ (if b then t.name else name_where p ts)
-    go r true h = absurd (omega arith)
-    go r false h = r (omega arith)
-
-module _ (m : List ℕ) (s : Shaped m) (p : Thread → Bool) (i : ℕ) (f : i ≡ place p (view (rows_of m)).threads) where
-  pub name_found : i < (rows_of m).count → (get_or (rows_of m).threads i no_thread).name ≡ name_where p (tables m).threads
+  pub one_found : {i : ℕ} → r ≡ Some i → Some (get_or (rows_of m).threads i no_thread) ≡ find p (tables m).threads
   unfolding tables
-  name_found h =
-      let j : i < length (tables m).threads = omega (arith, threads_length m s) in
-      ap (λ (t : Thread). t.name) (thread_entry m s i j)
-      ∙ (ap (λ (k : ℕ). (get_or (tables m).threads k no_thread).name) f ∙ name_at p (tables m).threads no_thread (omega arith))
+  one_found {i} e =
+      let h = first_at e in
+      let j : i < length (tables m).threads = omega (arith, h.1, threads_length m s) in
+      let q : place p (tables m).threads < length (tables m).threads = omega (arith, j, h.0) in
+      ap (λ (t : Thread). Some t) (thread_entry m s i j)
+      ∙ (ap (λ (k : ℕ). Some (get_or (tables m).threads k no_thread)) h.0 ∙ find_here p no_thread (tables m).threads q)
 
-  pub name_nowhere : (rows_of m).count ≤ i → nobody ≡ name_where p (tables m).threads
+  pub none_found : r ≡ None → None ≡ find p (tables m).threads
   unfolding tables
-  name_nowhere h = no_name p (tables m).threads (omega (arith, threads_length m s))
+  none_found e =
+      let q : length (tables m).threads ≤ place p (tables m).threads = omega (arith, first_none (λ i h. cc), threads_length m s) in
+      find_nowhere p no_thread (tables m).threads q
 
--- ---- the thread of a name stands at i
+-- ---- the thread of a name
 
 -- is there one?
 pub live_found : (m : List ℕ) → Holding m → (k : ℕ) {r : Option ℕ} → r ≡ position (named k) (view (rows_of m)).threads →
@@ -161,47 +169,60 @@ live_found m H k f =
     ap is_some (f ∙ position_is (named k) ts) ∙ some_if (ltb (place (named k) ts) (length ts)) (place (named k) ts)
     ∙ sym (any_place (named k) ts)
 
-module _ (m : List ℕ) (H : Holding m) (k i : ℕ) (f : i ≡ place (named k) (view (rows_of m)).threads) where
-  module _ {B : Type 0} (other : B) (g : Thread → B) where
-    pub of_found : i < (rows_of m).count → g (get_or (rows_of m).threads i no_thread) ≡ of_thread other g k (tables m).threads
-    unfolding tables Shaped
-    of_found h = sym (found_thread other g k (rows_of m).count (rows_of m).threads i (threads_whole m _ H.shaped) f no_thread h)
+-- something of it
+of_found : {B : Type 0} (other : B) (g : Thread → B) (k : ℕ) (ts : List Thread) → option_map_or g (find (named k) ts) other ≡ of_thread other g k ts
+unfolding of_thread
+of_found other g k [] = refl
+of_found other g k (t ∷ ts) = go (named k t) (of_found other g k ts)
+  where
+    go : (b : Bool) → option_map_or g (find (named k) ts) other ≡ of_thread other g k ts →
+        option_map_or g (if b then Some t else find (named k) ts) other ≡ (if b then g t else of_thread other g k ts)
+    go true r = refl
+    go false r = r
 
-    pub of_nobody : (rows_of m).count ≤ i → other ≡ of_thread other g k (tables m).threads
-    unfolding tables Shaped
-    of_nobody h = sym (no_such_thread other g k (rows_of m).count (rows_of m).threads i (threads_whole m _ H.shaped) f h)
+-- b is what is told of it, if it is there, else `other`
+pub of_one : {B : Type 0} (other : B) (g : Thread → B) (k : ℕ) (ts : List Thread) {P : Thread → Type 0} {o : Option Thread} {b : B} →
+    o ≡ find (named k) ts → MatchOption o (b ≡ other) P → ((t : Thread) → P t → b ≡ g t) → b ≡ of_thread other g k ts
+of_one other g k ts {P} {o} {b} e h w = go o h ∙ ap (λ (x : Option Thread). option_map_or g x other) e ∙ of_found other g k ts
+  where
+    go : (x : Option Thread) → MatchOption x (b ≡ other) P → b ≡ option_map_or g x other
+    go None q = q
+    go (Some t) q = w t q
 
-  -- and is changed, but for its name
-  module _ (g : Thread → Thread) (keeps : (t : Thread) → (g t).name ≡ t.name) where
-    pub changed : {m' : List ℕ} → i < (rows_of m).count →
-        rows_of m' ≡ put_threads (set (rows_of m).threads i (g (get_or (rows_of m).threads i no_thread))) (rows_of m) →
-        Leaves m m' (change k g (tables m))
-    unfolding tables Shaped change
-    changed h e =
-        leaves
-        (fills _ e
-        (ap (λ (l : List Thread). with_threads l (view (rows_of m)))
-        (sym (found_map (named k) (rows_of m).count (rows_of m).threads i (threads_whole m _ H.shaped) f g no_thread (H.once k) h)))
-        refl
-        H.shaped)
-        (rising_where (tables m).threads H.rising (named k) g keeps)
+-- it is changed, but for its name
+module _ (m : List ℕ) (H : Holding m) (k : ℕ) {r : Option ℕ} (f : r ≡ position (named k) (view (rows_of m)).threads)
+    (g : Thread → Thread) (keeps : (t : Thread) → (g t).name ≡ t.name) where
+  pub changed : {m' : List ℕ} {i : ℕ} → r ≡ Some i →
+      rows_of m' ≡ put_threads (set (rows_of m).threads i (g (get_or (rows_of m).threads i no_thread))) (rows_of m) →
+      Leaves m m' (change k g (tables m))
+  unfolding tables Shaped change
+  changed {i = i} w e =
+      let h = first_at m H.shaped (named k) f w in
+      leaves
+      (fills _ e
+      (ap (λ (l : List Thread). with_threads l (view (rows_of m)))
+      (sym (found_map (named k) (rows_of m).count (rows_of m).threads i (threads_whole m _ H.shaped) h.0 g no_thread (H.once k) h.1)))
+      refl
+      H.shaped)
+      (rising_where (tables m).threads H.rising (named k) g keeps)
 
-    -- a hint is no part of the rows
-    pub changed_hinted : {m' : List ℕ} (m₁ : List ℕ) → i < (rows_of m).count →
-        rows_of m₁ ≡ put_threads (set (rows_of m).threads i (g (get_or (rows_of m).threads i no_thread))) (rows_of m) →
-        rows_of m' ≡ rows_of m₁ → Leaves m m' (change k g (tables m))
-    changed_hinted m₁ h e d = changed h (d ∙ e)
+  -- a hint is no part of the rows
+  pub changed_hinted : {m' : List ℕ} (m₁ : List ℕ) {i : ℕ} → r ≡ Some i →
+      rows_of m₁ ≡ put_threads (set (rows_of m).threads i (g (get_or (rows_of m).threads i no_thread))) (rows_of m) →
+      rows_of m' ≡ rows_of m₁ → Leaves m m' (change k g (tables m))
+  changed_hinted m₁ w e d = changed w (d ∙ e)
 
-    pub unchanged : (rows_of m).count ≤ i → Leaves m m (change k g (tables m))
-    unfolding tables Shaped change
-    unchanged h =
-        leaves
-        (fills (rows_of m) refl
-        (ap (λ (l : List Thread). with_threads l (view (rows_of m)))
-        (sym (no_map (named k) (rows_of m).count (rows_of m).threads i (threads_whole m _ H.shaped) f g h)))
-        refl
-        H.shaped)
-        (rising_where (tables m).threads H.rising (named k) g keeps)
+  pub unchanged : ((i : ℕ) → r ≡ Some i → ⊥) → Leaves m m (change k g (tables m))
+  unfolding tables Shaped change
+  unchanged w =
+      leaves
+      (fills (rows_of m) refl
+      (ap (λ (l : List Thread). with_threads l (view (rows_of m)))
+      (sym (no_map (named k) (rows_of m).count (rows_of m).threads _ (threads_whole m _ H.shaped) refl g
+      (first_none m H.shaped (named k) f w))))
+      refl
+      H.shaped)
+      (rising_where (tables m).threads H.rising (named k) g keeps)
 
 -- ---- the place of a newcomer
 

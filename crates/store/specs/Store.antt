@@ -1,8 +1,9 @@
 -- What a memory stands for, in the words of the contracts. All that is above the store speaks of these; none of it looks inside Shaped
 -- and Holding.
-use Rattle.std.specs.Prelude.{◌≡◌, ℕ, ◌≤◌, Bool, List, [], ◌∷◌, if◌then◌else◌}
+use Rattle.std.specs.Prelude.{◌≡◌, ℕ, ◌≤◌, Bool, List, Option, None, Some}
+use Rattle.std.specs.List.{find}
+use Rattle.std.specs.Option.{option_map}
 use Rattle.rules.specs.Lists.{count, Pulled, missing, pulled}
-use Rattle.rules.specs.Numbers.{nobody}
 use Rattle.laws.specs.Words.{Limits}
 use Rattle.laws.specs.Words.{Thread, Message, Answer}
 use Rattle.laws.specs.Types.{Rising}
@@ -11,10 +12,9 @@ use Rattle.rules.specs.Waking.{Outcome, ◌handing◌}
 use Rattle.memory.specs.Rows.{view, members, Fits}
 pub use Rattle.memory.specs.Rows.{Room, nothing}
 unfoldable pub use Rattle.memory.specs.Rows.{word_for, place}
+pub use Rattle.memory.specs.Rows.{held_word}
 pub use Rattle.moving.specs.Marks.{Marks}
 use Rattle.memory.specs.Memory.{rows_of}
-use Rattle.store.specs.declared.Taken.{Taken}
-use Rattle.store.specs.declared.Taken.TheVariants.{Missing, Took}
 
 unfoldable pub limits : List ℕ → Limits
 limits m = (rows_of m).limits
@@ -51,9 +51,9 @@ pub record Fills (m m' : List ℕ) (T : Tables) : Type 0 where
   pub shaped : Shaped m'
 
 -- what a search took out
-pub record Takes (m m' : List ℕ) (g : Taken) (p : Pulled Message) : Type 0 where
-  pub none : p ≡ missing → (g ≡ Missing) × Leaves m m' (tables m)
-  pub one : (x : Message) (ms : List Message) → p ≡ pulled x ms → (g ≡ Took x) × Leaves m m' (with_messages ms (tables m))
+pub record Takes (m m' : List ℕ) (g : Option Message) (p : Pulled Message) : Type 0 where
+  pub none : p ≡ missing → (g ≡ None) × Leaves m m' (tables m)
+  pub one : (x : Message) (ms : List Message) → p ≡ pulled x ms → (g ≡ Some x) × Leaves m m' (with_messages ms (tables m))
 
 -- ---- an ending
 
@@ -81,7 +81,6 @@ pub record Removes (m m' : List ℕ) (T : Tables) : Type 0 where
 
 -- ---- what a search gives
 
--- the name of the first that passes, or 255
-unfoldable pub name_where : (Thread → Bool) → List Thread → ℕ
-name_where p [] = nobody
-name_where p (t ∷ ts) = if p t then t.name else name_where p ts
+-- the name of the first that passes
+abbrev pub name_where : (Thread → Bool) → List Thread → Option ℕ
+name_where p ts = option_map (λ t. t.name) (find p ts)

@@ -4,7 +4,7 @@ ghost use Rattle.rules.specs.Lists.{all, any, keep};
 ghost use Rattle.rules.specs.Numbers.{devices};
 ghost use Rattle.rules.specs.Tables.{with_held};
 ghost use Rattle.rules.specs.Interrupt.{held_for, hold as hold_of};
-ghost use Rattle.store.specs.Store.{tables, Shaped, Holding, Leaves, word_for};
+ghost use Rattle.store.specs.Store.{tables, Shaped, Holding, Leaves, word_for, held_word as held_word_of};
 
 use memory::memory as rows;
 
@@ -21,6 +21,14 @@ pub fn held_word(m: &[u32], d: u8) -> u32
     ensures { result ≡ word_for d (tables m.now).held }
 {
     rows::held_word(m, d)
+}
+
+// The word that is held for a device, if one is.
+pub fn word_held(m: &[u32], d: u8) -> Option<u32>
+    requires { Shaped m.now × (d < devices) }
+    ensures { result ≡ held_word_of d (tables m.now).held }
+{
+    rows::held(m, d)
 }
 
 // A word is held for a device, in place of one held before.

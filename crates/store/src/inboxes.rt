@@ -8,7 +8,6 @@ ghost use Rattle.rules.specs.Refusals.{no_block_free};
 ghost use Rattle.memory.specs.Rows.{no_message};
 ghost use Rattle.store.specs.Store.{limits, tables, Shaped, Holding, Leaves, Takes};
 
-use crate::Taken;
 use memory::memory as rows;
 use moving::messages;
 use rules::{Message, Wanted};
@@ -50,16 +49,16 @@ pub fn queue(m: &mut [u32], x: Message)
 }
 
 // The oldest message or notice that a receiver wants is taken out of its inbox.
-pub fn take_message(m: &mut [u32], me: u8, w: Wanted) -> Taken
+pub fn take_message(m: &mut [u32], me: u8, w: Wanted) -> Option<Message>
     requires { Holding m.old }
     ensures { Takes m.old m.new result (pull (wanted_by me w) (tables m.old).messages) }
 {
     if let Some(i) = messages::seek_wanted(m, me, w) {
         let x = rows::message_at(m, i);
         messages::close_gap(m, i);
-        Taken::Took(x)
+        Some(x)
     } else {
-        Taken::Missing
+        None
     }
 }
 

@@ -1,6 +1,9 @@
 // What handlers use: the memory in the words of the rules. Every name that they need stands here; another store with these names and
 // promises would serve the same handlers.
-#![tactic(auto)]
+#![tactic(
+    auto,
+    unfolding(crate::specs::Store::tables, crate::specs::Store::limits, crate::specs::Store::Shaped)
+)]
 
 mod ended;
 mod filling;
@@ -13,21 +16,13 @@ mod threads;
 pub use ended::{begin_ended, ended_count, grow_ended, release_ended, remove_ended};
 pub use filling::{clear, fill_clock, fill_held, fill_message, fill_ready, fill_thread};
 pub use head::{beats, last, runner, set_last, set_runner, set_time, since};
-pub use held::{clear_held, held_word, hold, is_held};
+pub use held::{clear_held, held_word, hold, is_held, word_held};
 pub use inboxes::{blocks_full, discard_notice, message_at, message_count, queue, take_message};
 pub use queues::{
     clock_at, clock_count, drop_front, join_clock, join_ready, ready_at, ready_count, wake_clock,
 };
-use rules::Message;
 pub use threads::{
     add_thread, add_tick, answer_of, is_live, manager_of, name_at, parent_of, place_of,
     receives_from, set_manager, some_wakes, thread_at, thread_count, threads_full, ticks_of,
     trapped_on, turn, waiter,
 };
-
-// What a search of an inbox took out of it.
-#[derive(Clone, Copy)]
-pub enum Taken {
-    Missing,
-    Took(Message),
-}

@@ -1,7 +1,8 @@
 // Threads, by name.
 ghost use Rattle.std.specs.Prelude.{None as Parentless, ◌≡◌, ◌<◌, false, not, ltb, length, get_or, nat_lt, slice_index_or};
 ghost use Rattle.rules.specs.Lists.{any, insert};
-ghost use Rattle.rules.specs.Tables.{of_thread, live, change, in_state, with_ticks, with_threads, with_managers, set_entry};
+ghost use Rattle.std.specs.List.{find};
+ghost use Rattle.rules.specs.Tables.{named, of_thread, live, change, in_state, with_ticks, with_threads, with_managers, set_entry};
 ghost use Rattle.rules.specs.Tables.{manager as manager_in};
 ghost use Rattle.rules.specs.States.{receives, waits_for, wakes_from_outside, awaits};
 ghost use Rattle.rules.specs.Tick.{one_more};
@@ -11,9 +12,10 @@ ghost use Rattle.rules.specs.declared.Manager.TheVariants.{Unset as NoManager};
 ghost use Rattle.memory.specs.Rows.{no_thread};
 ghost use Rattle.store.specs.Store.{limits, tables, Shaped, Holding, Leaves, place, name_where};
 
-use memory::memory as rows;
+use memory::records::ThreadWords;
+use memory::{memory as rows, records};
 use moving::threads;
-use rules::{Answer, Manager, Parent, State, Thread, TrapKind, numbers};
+use rules::{Answer, Manager, Parent, State, Thread, TrapKind};
 use words::states;
 
 // How many threads there are.
@@ -29,7 +31,7 @@ pub fn thread_at(m: &[u32], i: usize) -> Thread
     requires { Shaped m.now × (i < length (tables m.now).threads) }
     ensures { result ≡ slice_index_or (tables m.now).threads i no_thread }
 {
-    rows::thread_at(m, i)
+    records::record(m, i).thread()
 }
 
 // The name of that thread.
@@ -37,7 +39,7 @@ pub fn name_at(m: &[u32], i: usize) -> u8
     requires { Shaped m.now × (i < length (tables m.now).threads) }
     ensures { result ≡ (get_or (tables m.now).threads i no_thread).name }
 {
-    rows::name_at(m, i)
+    records::record(m, i).name()
 }
 
 // Where the first thread stands whose name is not below this one, or how many there are.
@@ -65,16 +67,21 @@ pub fn is_live(m: &[u32], name: u8) -> bool
 
 // ---- something of the thread of a name; what is said of a name that no thread has is never asked for
 
+// Its record.
+fn thread(m: &[u32], name: u8) -> Option<ThreadWords<'_>>
+    requires { Holding m.now }
+    ensures { result ≡ find (named name) (tables m.now).threads }
+{
+    let i = threads::find(m, name)?;
+    Some(records::record(m, i))
+}
+
 // Would it receive from this sender?
 pub fn receives_from(m: &[u32], name: u8, sender: u8) -> bool
     requires { Holding m.now }
     ensures { result ≡ of_thread false (λ t. receives sender t.state) name (tables m.now).threads }
 {
-    if let Some(i) = threads::find(m, name) {
-        rows::receives_at(m, i, sender)
-    } else {
-        false
-    }
+    thread(m, name).is_some_and(|t| t.receives(sender))
 }
 
 // Is it trapped, and n the manager that it waits for?
@@ -82,67 +89,44 @@ pub fn trapped_on(m: &[u32], name: u8, n: u8) -> bool
     requires { Holding m.now }
     ensures { result ≡ of_thread false (awaits n) name (tables m.now).threads }
 {
-    if let Some(i) = threads::find(m, name) {
-        rows::trapped_on_at(m, i, n)
-    } else {
-        false
-    }
+    thread(m, name).is_some_and(|t| t.awaits(n))
 }
 
 pub fn parent_of(m: &[u32], name: u8) -> Parent
     requires { Holding m.now }
     ensures { result ≡ of_thread Parentless (λ t. t.parent) name (tables m.now).threads }
 {
-    if let Some(i) = threads::find(m, name) {
-        rows::parent_at(m, i)
-    } else {
-        None
-    }
+    thread(m, name).map_or(None, |t| t.parent())
 }
 
 pub fn manager_of(m: &[u32], name: u8, k: TrapKind) -> Manager
     requires { Holding m.now }
     ensures { result ≡ of_thread NoManager (λ t. manager_in k t.managers) name (tables m.now).threads }
 {
-    if let Some(i) = threads::find(m, name) {
-        rows::manager_at(m, i, k)
-    } else {
-        Manager::Unset
-    }
+    thread(m, name).map_or(Manager::Unset, |t| t.manager(k))
 }
 
 pub fn ticks_of(m: &[u32], name: u8) -> u32
     requires { Holding m.now }
     ensures { result ≡ of_thread 0 (λ t. t.ticks) name (tables m.now).threads }
 {
-    if let Some(i) = threads::find(m, name) {
-        rows::ticks_at(m, i)
-    } else {
-        0
-    }
+    thread(m, name).map_or(0, |t| t.ticks())
 }
 
 pub fn answer_of(m: &[u32], name: u8) -> Answer
     requires { Holding m.now }
     ensures { result ≡ of_thread NoAnswer (λ t. t.answer) name (tables m.now).threads }
 {
-    if let Some(i) = threads::find(m, name) {
-        rows::answer_at(m, i)
-    } else {
-        Answer::Nothing
-    }
+    thread(m, name).map_or(Answer::Nothing, |t| t.answer())
 }
 
-// Who waits for a device, or NOBODY.
-pub fn waiter(m: &[u32], d: u8) -> u8
+// Who waits for a device.
+pub fn waiter(m: &[u32], d: u8) -> Option<u8>
     requires { Shaped m.now }
     ensures { result ≡ name_where (waits_for d) (tables m.now).threads }
 {
-    if let Some(i) = threads::find_waiter(m, d) {
-        rows::name_at(m, i)
-    } else {
-        numbers::NOBODY
-    }
+    let i = threads::find_waiter(m, d)?;
+    Some(records::record(m, i).name())
 }
 
 // Does some thread wait for clock or device?
@@ -175,7 +159,7 @@ pub fn add_tick(m: &mut [u32], name: u8)
         (change name (λ t. with_ticks (one_more t.ticks) t) (tables m.old)) }
 {
     if let Some(i) = threads::find(m, name) {
-        let n = std::num::wrapping_add_u32(rows::ticks_at(m, i), 1);
+        let n = records::record(m, i).ticks().wrapping_add(1);
         rows::set_ticks(m, i, n);
     }
 }

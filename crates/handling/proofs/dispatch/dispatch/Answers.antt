@@ -15,7 +15,7 @@ returns-in-NoRunner c =
     let h = c.run_next.ensures in
     record {
       says = h.says ∙ nobody_runs (tables c.args.m.now handing c.args.given)
-          (sym c.runner-r.ensures
+          (sym c.runner.ensures
           ∙ c.in-NoRunner.is);
       same = h.same;
       holding = h.holding;
@@ -24,5 +24,5 @@ returns-in-NoRunner c =
 pub returns-in-Runs : goal.returns-in-Runs
 returns-in-Runs c =
     and_hands (as_it_was c.requires.holding)
-    (sym (dispatch_stays (tables c.args.m.now handing c.args.given) _ _ (sym c.runner-r.ensures
+    (sym (dispatch_stays (tables c.args.m.now handing c.args.given) _ _ (sym c.runner.ensures
     ∙ c.in-Runs.is)))

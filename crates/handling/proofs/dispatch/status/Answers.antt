@@ -11,21 +11,21 @@ pub returns-then-thread_count-eq0 : goal.returns-then-thread_count-eq0
 returns-then-thread_count-eq0 c =
     halted
     (tables c.args.m.now)
-    (sym c.runner-r.ensures ∙ c.in-NoRunner.is)
+    (sym c.runner.ensures ∙ c.in_default.is)
     (sym c.thread_count.ensures ∙ c.if-thread_count-eq0.true)
 
 pub some_wakes-requires : goal.some_wakes-requires
 some_wakes-requires c = c.requires
 
 pub returns-in-Runs : goal.returns-in-Runs
-returns-in-Runs c = working (tables c.args.m.now) _ _ (sym c.runner-r.ensures
+returns-in-Runs c = working (tables c.args.m.now) _ _ (sym c.runner.ensures
     ∙ c.in-Runs.is)
 
 pub returns-then-some_wakes : goal.returns-then-some_wakes
 returns-then-some_wakes c =
     let T = tables c.args.m.now in
     rests T
-    (sym c.runner-r.ensures ∙ c.in-NoRunner.is)
+    (sym c.runner.ensures ∙ c.in_default.is)
     (λ e. c.if-thread_count-eq0.false (c.thread_count.ensures ∙ e))
     true
     (sym c.some_wakes.ensures ∙ c.if-some_wakes.true)
@@ -34,7 +34,7 @@ pub returns-else-some_wakes : goal.returns-else-some_wakes
 returns-else-some_wakes c =
     let T = tables c.args.m.now in
     rests T
-    (sym c.runner-r.ensures ∙ c.in-NoRunner.is)
+    (sym c.runner.ensures ∙ c.in_default.is)
     (λ e. c.if-thread_count-eq0.false (c.thread_count.ensures ∙ e))
     false
     (sym c.some_wakes.ensures ∙ c.if-some_wakes.false)

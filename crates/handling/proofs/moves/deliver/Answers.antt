@@ -23,7 +23,7 @@ pub returns-then-is_awaited : goal.returns-then-is_awaited
 returns-then-is_awaited c =
     let T = tables c.args.m.now in
     in_words
-    (ap (λ (a : Answer). wake c.args.x.to a T) c.handed-a.ensures
+    (ap (λ (a : Answer). wake c.args.x.to a T) c.handed.ensures
     ∙ sym (deliver_wakes T c.requires.0.holding.once c.args.x
     (sym c.is_awaited.ensures ∙ c.if-is_awaited.true)))
     c.wake.ensures

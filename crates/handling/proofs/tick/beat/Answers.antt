@@ -1,6 +1,6 @@
 -- `tick::beat` meets its contract. The ready and the clock waiters are different threads, so the ready queue has room for all.
 use Rattle.handling.proofs.Ticking.{passed, beat_room, struck}
-use Rattle.std.proofs.Common.{arith}
+use Rattle.std.proofs.Common.{refl, arith}
 use Rattle.handling.proofs.tick.beat.Goals as goal
 
 pub since-since-requires : goal.since-since-requires
@@ -21,7 +21,7 @@ wake_clock-requires c =
     c.since-since.ensures
     c.beats-beats.ensures
     _
-    c.wrapping_add_u32-next.ensures.value
+    refl
     c.set_time.ensures
     c.requires.0.inv
 
@@ -34,7 +34,7 @@ returns-then-since-eq-BEAT c =
     c.since-since.ensures
     c.beats-beats.ensures
     _
-    c.wrapping_add_u32-next.ensures.value
+    refl
     c.set_time.ensures
     c.if-since-eq-BEAT.true
     c.wake_clock.ensures

@@ -3,25 +3,25 @@ use mathlib.Core.Path.{◌∙◌}
 use Rattle.serving.proofs.Sending.{taken_hands, missing_waits, taken_holds}
 use Rattle.serving.proofs.receive.receive.Goals as goal
 
-pub take_message-t-requires : goal.take_message-t-requires
-take_message-t-requires c = c.requires
+pub take_message-requires : goal.take_message-requires
+take_message-requires c = c.requires
 
 pub stop-requires : goal.stop-requires
 stop-requires c =
-    taken_holds c.args.me c.args.w c.take_message-t.ensures
+    taken_holds c.args.me c.args.w c.take_message.ensures
 
-pub shape_of-m-in-Took : goal.shape_of-m-in-Took
-shape_of-m-in-Took c = c.take_message-t.auto.m
+pub shape_of-m-in-Some : goal.shape_of-m-in-Some
+shape_of-m-in-Some c = c.take_message.auto.m
 
-pub returns-in-Took : goal.returns-in-Took
-returns-in-Took c =
-    taken_hands c.args.me c.args.w c.take_message-t.ensures _
-    c.in-Took.is _ c.handed.ensures
+pub returns-in-Some : goal.returns-in-Some
+returns-in-Some c =
+    taken_hands c.args.me c.args.w c.take_message.ensures _
+    c.in-Some.is _ c.handed.ensures
 
-pub shape_of-m-in-Missing : goal.shape_of-m-in-Missing
-shape_of-m-in-Missing c = c.stop.auto.m ∙ c.take_message-t.auto.m
+pub shape_of-m-in_default : goal.shape_of-m-in_default
+shape_of-m-in_default c = c.stop.auto.m ∙ c.take_message.auto.m
 
-pub returns-in-Missing : goal.returns-in-Missing
-returns-in-Missing c =
-    missing_waits c.args.me c.args.w c.take_message-t.ensures
-    c.in-Missing.is c.stop.ensures
+pub returns-in_default : goal.returns-in_default
+returns-in_default c =
+    missing_waits c.args.me c.args.w c.take_message.ensures
+    c.in_default.is c.stop.ensures

@@ -10,7 +10,7 @@ pub add_thread-requires : goal.add_thread-requires
 add_thread-requires c = (
   c.requires.0.holding,
   c.requires.2,
-  newcomer_free _ _ _ c.next_name-name.ensures c.new_thread-newcomer.ensures c.requires.0
+  newcomer_free _ _ _ c.next_name-name.ensures c.new_thread.ensures c.requires.0
       c.requires.1,
 )
 
@@ -25,9 +25,9 @@ pub set_last-requires : goal.set_last-requires
 set_last-requires c = c.join_ready.ensures.holding
 
 pub returns : goal.returns
-returns c =
+returns c = rw c.from.ensures (
     created _ _ _
     c.next_name-name.ensures
-    c.new_thread-newcomer.ensures
+    c.new_thread.ensures
     c.add_thread.ensures
-    c.join_ready.ensures c.set_last.ensures
+    c.join_ready.ensures c.set_last.ensures)

@@ -2,11 +2,11 @@
 use Rattle.serving.proofs.Asking.{brother}
 use Rattle.serving.proofs.requests.create_brother.Goals as goal
 
-pub parent_of-p-requires : goal.parent_of-p-requires
-parent_of-p-requires c = c.requires.0.holding
+pub parent_of-requires : goal.parent_of-requires
+parent_of-requires c = c.requires.0.holding
 
 pub create-requires : goal.create-requires
 create-requires c = c.requires
 
 pub returns : goal.returns
-returns c = brother _ _ c.parent_of-p.ensures c.create.ensures
+returns c = brother _ _ c.parent_of.ensures c.create.ensures

@@ -4,33 +4,33 @@ use native.Mathlib.Omega.{arith}
 use Rattle.serving.proofs.Naming.{sets_out, moves_on, is_free, is_last}
 use Rattle.serving.proofs.requests.free_behind.Goals as goal
 
-pub thread_count-n-requires : goal.thread_count-n-requires
-thread_count-n-requires c = c.requires.shaped
+pub thread_count-i-end-requires : goal.thread_count-i-end-requires
+thread_count-i-end-requires c = c.requires.shaped
 
-pub place_of-i-requires : goal.place_of-i-requires
-place_of-i-requires c = c.requires
+pub place_of-first-requires : goal.place_of-first-requires
+place_of-first-requires c = c.requires
 
 pub loop-i-init : goal.loop-i-init
-loop-i-init c = sets_out c.args.m.now _ _ _ c.successor-name.ensures c.place_of-i.ensures
+loop-i-init c = sets_out c.args.m.now _ _ _ c.successor-name.ensures c.place_of-first.ensures
 
 pub name_at-requires : goal.name_at-requires
 name_at-requires c = (
   c.requires.shaped,
-  omega (arith, c.loop-i-test.true, c.thread_count-n.ensures),
+  omega (arith, c.loop-i-test.true, c.thread_count-i-end.ensures),
 )
 
 pub returns-then-name_at-name : goal.returns-then-name_at-name
 returns-then-name_at-name c =
-    is_free c.args.m.now c.requires _ _ _ _ c.thread_count-n.ensures
+    is_free c.args.m.now c.requires _ _ _ _ c.thread_count-i-end.ensures
     c.loop-i.invariant c.loop-i-test.true _ _ c.name_at.ensures c.if-name_at-name.true
 
 pub loop-i-preserved : goal.loop-i-preserved
 loop-i-preserved c =
-    moves_on c.args.m.now c.requires _ _ _ _ c.thread_count-n.ensures
+    moves_on c.args.m.now c.requires _ _ _ _ c.thread_count-i-end.ensures
     c.loop-i.invariant c.loop-i-test.true _ _ c.name_at.ensures
     c.if-name_at-name.false _ c.successor-name-in-loop-i.ensures
 
 pub returns : goal.returns
 returns c =
-    is_last c.args.m.now c.requires _ _ _ _ c.thread_count-n.ensures c.loop-i.invariant
+    is_last c.args.m.now c.requires _ _ _ _ c.thread_count-i-end.ensures c.loop-i.invariant
     c.loop-i-test.false

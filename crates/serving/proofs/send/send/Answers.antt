@@ -1,8 +1,5 @@
 -- `send::send` meets its contract: a decision, or a message that is delivered.
-use mathlib.Core.Path.{sym, ap, ◌∙◌}
-use Rattle.rules.specs.Lists.{any}
-use Rattle.rules.specs.Waking.{accepts}
-use Rattle.laws.specs.Words.{Message}
+use Rattle.std.proofs.Common.{refl, sym, ◌∙◌}
 use Rattle.store.specs.Store.{tables}
 use Rattle.handling.proofs.Leaving.{in_words}
 use Rattle.serving.proofs.Sending.{sent_decides, sent_delivers}
@@ -19,7 +16,7 @@ pub deliver-requires : goal.deliver-requires
 deliver-requires c = (
   c.requires.0,
   λ e. c.requires.1 (sym c.decides.ensures ∙ c.if-decides.false)
-      (ap (λ (x : Message). any (accepts x) (tables c.args.m.now).threads) (sym c.message-x.ensures) ∙ e),
+      e,
 )
 
 pub shape_of-m-then-decides : goal.shape_of-m-then-decides
@@ -37,5 +34,5 @@ shape_of-m-else-decides c = c.deliver.auto.m
 pub returns-else-decides : goal.returns-else-decides
 returns-else-decides c =
     in_words (sent_delivers (tables c.args.m.now) c.args.me c.args.to c.args.word _
-    c.message-x.ensures (sym c.decides.ensures
+    refl (sym c.decides.ensures
     ∙ c.if-decides.false)) c.deliver.ensures

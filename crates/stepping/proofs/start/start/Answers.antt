@@ -20,5 +20,5 @@ shape_of-m c = c.set_runner.auto.m
 
 pub returns : goal.returns
 returns c =
-    started _ c.clear.ensures c.new_thread-first.ensures c.add_thread.ensures
+    started _ c.clear.ensures c.new_thread.ensures c.add_thread.ensures
     c.set_runner.ensures

@@ -55,15 +55,6 @@ messages-requires c = let f =
           c.requires.1,
     )
 
-pub runner-r-requires : goal.runner-r-requires
-unfolding Shaped
-runner-r-requires c =
-    (left₄ c.args.m.now
-    c.requires.0 _
-    c.threads.ensures _ c.ready.ensures _
-    c.clock.ensures _
-    c.messages.ensures).shaped.roomy
-
 pub is_member-requires : goal.is_member-requires
 unfolding Shaped found
 is_member-requires c = let k =
@@ -82,16 +73,6 @@ is_member-requires c = let k =
       marks_of k.0
           c.requires.1,
     )
-
-pub set_runner-requires : goal.set_runner-requires
-unfolding Shaped
-set_runner-requires c = (left₄
-    c.args.m.now
-    c.requires.0 _
-    c.threads.ensures _
-    c.ready.ensures _
-    c.clock.ensures _
-    c.messages.ensures).shaped.roomy
 
 pub returns-in-NoRunner : goal.returns-in-NoRunner
 returns-in-NoRunner c =

@@ -4,9 +4,6 @@ use Rattle.store.specs.Store.{limits, tables}
 use Rattle.store.proofs.Filled.{empty}
 use Rattle.store.proofs.filling.clear.Goals as goal
 
-pub clear-requires : goal.clear-requires
-clear-requires c = c.requires
-
 pub returns : goal.returns
 unfolding tables limits
 returns c =

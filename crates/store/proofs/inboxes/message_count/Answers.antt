@@ -1,10 +1,7 @@
 -- `inboxes::message_count` meets its contract.
 use Rattle.std.proofs.Common.{◌∙◌}
-use Rattle.store.proofs.Searched.{messages_length, roomy}
+use Rattle.store.proofs.Searched.{messages_length}
 use Rattle.store.proofs.inboxes.message_count.Goals as goal
-
-pub letters-requires : goal.letters-requires
-letters-requires c = roomy c.args.m.now c.requires
 
 pub returns : goal.returns
 returns c = c.letters.ensures ∙ messages_length c.args.m.now c.requires

@@ -1,12 +1,9 @@
 -- `inboxes::queue` meets its contract.
 use Rattle.std.proofs.Common.{arith}
 use Rattle.store.specs.Store.{limits}
-use Rattle.store.proofs.Searched.{messages_length, roomy, few_messages}
+use Rattle.store.proofs.Searched.{messages_length, roomy}
 use Rattle.store.proofs.Letters.{end_inside, queued}
 use Rattle.store.proofs.inboxes.queue.Goals as goal
-
-pub seek_end-at-requires : goal.seek_end-at-requires
-seek_end-at-requires c = few_messages c.args.m.now c.requires.0.shaped
 
 pub open_gap-requires : goal.open_gap-requires
 unfolding limits

@@ -1,7 +1,6 @@
 -- `queues::join_clock` meets its contract.
 use Rattle.std.proofs.Common.{arith}
-use Rattle.store.specs.Store.{limits, tables}
-use Rattle.store.proofs.Written.{leaves, clock_is}
+use Rattle.store.specs.Store.{limits}
 use Rattle.store.proofs.Searched.{clock_length, roomy}
 use Rattle.store.proofs.queues.join_clock.Goals as goal
 
@@ -9,8 +8,3 @@ pub join_clock-requires : goal.join_clock-requires
 unfolding limits
 join_clock-requires c =
     (roomy c.args.m.now c.requires.0.shaped, omega (arith, c.requires.1, clock_length c.args.m.now c.requires.0.shaped))
-
-pub returns : goal.returns
-unfolding tables
-returns c =
-    leaves (clock_is c.requires.0.shaped c.join_clock.ensures) c.requires.0.rising

@@ -5,14 +5,11 @@ use Rattle.memory.specs.Rows.{Rows, Roomy}
 use Rattle.moving.proofs.Steps.{by}
 use Rattle.store.specs.Store.{limits, tables}
 use Rattle.store.proofs.Written.{leaves, ready_is, threads_are, after, rising_where, clock_none}
-use Rattle.store.proofs.Searched.{ready_length, clock_length, roomy, few_threads}
+use Rattle.store.proofs.Searched.{ready_length, clock_length, roomy}
 use Rattle.rules.specs.Waking.{wake_those}
 use Rattle.rules.specs.States.{on_clock}
 use Rattle.laws.specs.Words.{Ready, Result}
 use Rattle.store.proofs.queues.wake_clock.Goals as goal
-
-pub wake_clock-requires : goal.wake_clock-requires
-wake_clock-requires c = few_threads c.args.m.now c.requires.0.shaped
 
 pub clock_joins_ready-requires : goal.clock_joins_ready-requires
 unfolding limits
@@ -21,13 +18,6 @@ clock_joins_ready-requires c =
       roomy c.args.m.now c.requires.0.shaped,
       omega (arith, c.requires.1, ready_length c.args.m.now c.requires.0.shaped, clock_length c.args.m.now c.requires.0.shaped),
     )
-
-pub set_clocks-requires : goal.set_clocks-requires
-set_clocks-requires c = (
-  by Roomy c.clock_joins_ready.ensures.only
-      (by Roomy c.wake_clock.ensures.only (roomy c.args.m.now c.requires.0.shaped)),
-  omega arith,
-)
 
 pub returns : goal.returns
 unfolding tables wake_those

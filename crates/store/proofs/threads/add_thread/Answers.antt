@@ -1,11 +1,8 @@
 -- `threads::add_thread` meets its contract: nobody has the newcomer's name, so at its place the names rise still.
 use Rattle.std.proofs.Common.{arith}
 use Rattle.store.specs.Store.{limits}
-use Rattle.store.proofs.Searched.{threads_length, place_inside, came_in, roomy, can_place}
+use Rattle.store.proofs.Searched.{threads_length, place_inside, came_in, roomy}
 use Rattle.store.proofs.threads.add_thread.Goals as goal
-
-pub find_place-at-requires : goal.find_place-at-requires
-find_place-at-requires c = can_place c.args.m.now c.requires.0
 
 pub open_gap-requires : goal.open_gap-requires
 unfolding limits

@@ -1,27 +1,15 @@
 -- `threads::set_manager` meets its contract.
 use Rattle.std.proofs.Common.{refl}
 use Rattle.rules.specs.Tables.{with_managers, set_entry}
-use Rattle.std.proofs.Common.{refl}
-use Rattle.rules.specs.Tables.{named}
-use Rattle.store.proofs.Searched.{first_at, first_none, changed, unchanged, found_here, can_find}
+use Rattle.store.proofs.Searched.{changed, unchanged}
 use Rattle.store.proofs.threads.set_manager.Goals as goal
-
-pub find-requires : goal.find-requires
-find-requires c =
-    can_find c.args.m.now c.requires c.args.name
-
-pub set_manager-requires : goal.set_manager-requires
-set_manager-requires c =
-    found_here c.args.m.now c.requires.shaped (first_at c.args.m.now c.requires.shaped (named c.args.name) c.find.ensures c.in-Some.is).1
 
 pub returns-in-Some : goal.returns-in-Some
 returns-in-Some c =
-    changed c.args.m.now c.requires _ _ (first_at c.args.m.now c.requires.shaped (named c.args.name) c.find.ensures c.in-Some.is).0
-    (λ t. with_managers (set_entry c.args.k c.args.g t.managers) t) (λ t. refl)
-    (first_at c.args.m.now c.requires.shaped (named c.args.name) c.find.ensures c.in-Some.is).1 c.set_manager.ensures
+    changed c.args.m.now c.requires _ c.find.ensures (λ t. with_managers (set_entry c.args.k c.args.g t.managers) t) (λ t. refl) c.in-Some.is
+    c.set_manager.ensures
 
 pub returns-in_default : goal.returns-in_default
 returns-in_default c =
-    unchanged c.args.m.now c.requires _ _ refl
-    (λ t. with_managers (set_entry c.args.k c.args.g t.managers) t) (λ t. refl)
-    (first_none c.args.m.now c.requires.shaped (named c.args.name) c.find.ensures c.in_default.not-Some)
+    unchanged c.args.m.now c.requires _ c.find.ensures (λ t. with_managers (set_entry c.args.k c.args.g t.managers) t) (λ t. refl)
+    c.in_default.not-Some

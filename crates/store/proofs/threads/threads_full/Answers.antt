@@ -1,14 +1,8 @@
 -- `threads::threads_full` meets its contract.
 use Rattle.std.proofs.Common.{leb, ◌∙◌, ap₂}
 use Rattle.store.specs.Store.{limits}
-use Rattle.store.proofs.Searched.{threads_length, roomy}
+use Rattle.store.proofs.Searched.{threads_length}
 use Rattle.store.proofs.threads.threads_full.Goals as goal
-
-pub limit-requires : goal.limit-requires
-limit-requires c = roomy c.args.m.now c.requires
-
-pub count-requires : goal.count-requires
-count-requires c = roomy c.args.m.now c.requires
 
 pub returns : goal.returns
 unfolding limits

@@ -1,22 +1,7 @@
 -- `threads::ticks_of` meets its contract.
-use Rattle.std.proofs.Common.{◌∙◌}
-use Rattle.std.proofs.Common.{refl}
-use Rattle.rules.specs.Tables.{named}
-use Rattle.store.proofs.Searched.{first_at, first_none, of_found, of_nobody, found_here, can_find}
+use Rattle.std.proofs.Common.{rules}
+use Rattle.store.proofs.Searched.{of_one}
 use Rattle.store.proofs.threads.ticks_of.Goals as goal
 
-pub find-requires : goal.find-requires
-find-requires c = can_find c.args.m.now c.requires c.args.name
-
-pub ticks_at-requires : goal.ticks_at-requires
-ticks_at-requires c =
-    found_here c.args.m.now c.requires.shaped (first_at c.args.m.now c.requires.shaped (named c.args.name) c.find.ensures c.in-Some.is).1
-
-pub returns-in-Some : goal.returns-in-Some
-returns-in-Some c =
-    c.ticks_at.ensures ∙ of_found c.args.m.now c.requires _ _ (first_at c.args.m.now c.requires.shaped (named c.args.name) c.find.ensures c.in-Some.is).0 _ (λ t. t.ticks)
-    (first_at c.args.m.now c.requires.shaped (named c.args.name) c.find.ensures c.in-Some.is).1
-
-pub returns-in_default : goal.returns-in_default
-returns-in_default c =
-    of_nobody c.args.m.now c.requires _ _ refl _ _ (first_none c.args.m.now c.requires.shaped (named c.args.name) c.find.ensures c.in_default.not-Some)
+pub returns : goal.returns
+returns c = of_one 0 (λ t. t.ticks) _ _ c.thread.ensures c.map_or.ensures (λ t q. search rules)
