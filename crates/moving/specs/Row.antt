@@ -1,6 +1,6 @@
 -- One row of a memory's rows with its count: what a move of its entries changes, and what it leaves.
 use Rattle.std.specs.Prelude.{ℕ, ◌+◌, ◌≤◌, ◌≡◌, List, length, take, refl}
-use Rattle.rules.specs.Numbers.{Limits}
+use Rattle.laws.specs.Words.{Limits}
 use Rattle.laws.specs.Words.{Thread, Message}
 use Rattle.memory.specs.Rows.{Rows, no_thread, no_message, put_threads, put_count, put_ready, put_readies, put_clock, put_clocks, put_messages}
 use Rattle.memory.specs.Rows.{put_letters}
