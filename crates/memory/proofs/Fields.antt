@@ -6,6 +6,8 @@ use mathlib.Core.List.{List, ◌++◌}
 use mathlib.Core.Bool.{Bool, true, false}
 use native.Mathlib.Omega.{arith}
 use lib.Dec.{ltb}
+use Rattle.std.specs.List.{copy_within}
+use Rattle.std.proofs.Common.{append_assoc}
 use lib.ListN.{length, get_or, set, take, drop, length-take, length-drop}
 use lib.Seq.{get_or-set_same, get_or-set_other}
 use borrow.Author.Tests.{ltb-true, ltb-false}
@@ -17,7 +19,7 @@ use Rattle.words.specs.Saying.{word, byte, parent_in, state_in, manager_in, answ
 use Rattle.memory.specs.Layout.{thread_place, message_place, manager_place}
 use Rattle.memory.specs.Rows.{Rows, Roomy, no_thread, no_message, put_threads, put_messages}
 use Rattle.memory.specs.Memory.{part, thread_of, message_of, rows_of}
-use Rattle.memory.proofs.Rowing.{Elsewhere, row_at, part_word, stored, widen, twice, lent, lent_part, put_back}
+use Rattle.memory.proofs.Rowing.{Elsewhere, row_at, part_word, stored, widen, lent, lent_part, put_back}
 use Rattle.memory.proofs.Changes.{put_word, thread_put, message_put}
 
 by_if_below : {A : Type 0} (k n : ℕ) → (k < n → A) → (n ≤ k → A) → A
@@ -159,72 +161,50 @@ message_lent m i h vs x room l e =
     ap rows_of (put_back m a 3 vs r l)
     ∙ message_put m _ i x h (widen a 4 (lent m a 3 vs r l) (omega arith) (omega arith)) (ap message_in (lent_part m a 3 vs r l) ∙ e)
 
--- ---- entries that move, four words by four words
+-- ---- entries that move
 
 -- the first n words at a stand at b now, and all else stands
 pub record Moved (a b n : ℕ) (m m' : List ℕ) : Type 0 where
   pub where_else : Elsewhere b n m m'
   pub moved : (k : ℕ) → k < n → word m' (b + k) ≡ word m (a + k)
 
-pub not_yet : (a b : ℕ) (m : List ℕ) → Moved a b 0 m m
-not_yet a b m = record { where_else = record { long = refl; same = λ k o. refl }; moved = λ k h. absurd (omega arith) }
-
--- four more from x to y, where those of before do not lie
-pub four_more : (a b n x y : ℕ) (m m' m'' : List ℕ) → x ≡ a + n → y ≡ b + n → ((k : ℕ) → n ≤ k → k < n + 4 → b ≤ a + k → a + k < b + n → ⊥) →
-    Moved a b n m m' → a + n + 4 ≤ length m → b + n + 4 ≤ length m →
-    m'' ≡ take y m' ++ (part m' x 4 ++ drop (y + 4) m') → Moved a b (n + 4) m m''
-four_more a b n x y m m' m'' xs ys apart M p q e =
-    let L : length m' ≡ length m = M.where_else.long in
-    let vs : List ℕ = part m' x 4 in
-    let l : length vs ≡ 4 = simp (length-take, length-drop) (omega arith) in
-    let r : y + 4 ≤ length m' = omega arith in
-    let B : Elsewhere y 4 m' m'' = rw e (lent m' y 4 vs r l) in
-    let v : part m'' y 4 ≡ vs = rw e (lent_part m' y 4 vs r l) in
+pub block_moved : (a b n : ℕ) (m m' : List ℕ) → a + n ≤ length m → b + n ≤ length m → m' ≡ copy_within m a (a + n) b → Moved a b n m m'
+block_moved a b n m m' p q f =
+    let same : a + n - a ≡ n = omega arith in
+    let e : m' ≡ take b m ++ (part m a n ++ drop (b + n) m) =
+    f ∙ append_assoc (take b m) (part m a (a + n - a)) (drop (b + (a + n - a)) m)
+    ∙ ap (λ (k : ℕ). take b m ++ (part m a k ++ drop (b + k) m)) same in
+    let vs : List ℕ = part m a n in
+    let l : length vs ≡ n = simp (length-take, length-drop) (omega arith) in
+    let v : part m' b n ≡ vs = rw e (lent_part m b n vs q l) in
     record {
-      where_else = twice (widen b (n + 4) M.where_else (omega arith) (omega arith)) (widen b (n + 4) B (omega arith) (omega arith));
-      moved = λ k h. by_if_below k n
-          (λ s. B.same (b + k) (λ p q. omega arith) ∙ M.moved k s)
-          (λ s.
-          let j : ℕ = k - n in
-          ap (λ (z : ℕ). word m'' z) (omega arith)
-          ∙ sym (part_word m'' y 4 j (omega arith))
-          ∙ ap (λ (w : List ℕ). word w j) v
-          ∙ part_word m' x 4 j (omega arith)
-          ∙ ap (λ (z : ℕ). word m' z) (omega arith)
-          ∙ M.where_else.same (a + k) (λ p q. apart k s h p q));
+      where_else = rw e (lent m b n vs q l);
+      moved = λ k h. sym (part_word m' b n k h) ∙ (ap (λ (w : List ℕ). word w k) v ∙ part_word m a n k h);
     }
 
 -- the first word
 moved_first : (a b n : ℕ) (m m' : List ℕ) → 0 < n → Moved a b n m m' → word m' b ≡ word m a
 moved_first a b n m m' h M = ap (λ (k : ℕ). word m' k) (omega arith) ∙ M.moved 0 h ∙ ap (λ (k : ℕ). word m k) (omega arith)
 
-pub thread_moved : (m m₁ m₂ m₃ : List ℕ) (i j : ℕ) → i < word m 0 → j < word m 0 → thread_place (word m 0) ≤ length m →
-    m₁ ≡ take (thread_place j) m ++ (part m (thread_place i) 4 ++ drop (thread_place j + 4) m) →
-    m₂ ≡ take (thread_place j + 4) m₁ ++ (part m₁ (thread_place i + 4) 4 ++ drop (thread_place j + 4 + 4) m₁) →
-    m₃ ≡ take (thread_place j + 8) m₂ ++ (part m₂ (thread_place i + 8) 4 ++ drop (thread_place j + 8 + 4) m₂) →
-    rows_of m₃ ≡ put_threads (set (rows_of m).threads j (get_or (rows_of m).threads i no_thread)) (rows_of m)
-thread_moved m m₁ m₂ m₃ i j hi hj room e₁ e₂ e₃ =
+pub thread_moved : (m m' : List ℕ) (i j : ℕ) → i < word m 0 → j < word m 0 → thread_place (word m 0) ≤ length m →
+    m' ≡ copy_within m (thread_place i) (thread_place i + 12) (thread_place j) →
+    rows_of m' ≡ put_threads (set (rows_of m).threads j (get_or (rows_of m).threads i no_thread)) (rows_of m)
+thread_moved m m' i j hi hj room e =
     let a : ℕ = thread_place i in
     let b : ℕ = thread_place j in
-    let M₁ : Moved a b 4 m m₁ =
-    four_more a b 0 a b m m m₁ (omega arith) (omega arith) (λ k p q r s. omega arith) (not_yet a b m) (omega arith) (omega arith) e₁ in
-    let M₂ : Moved a b 8 m m₂ =
-    four_more a b 4 (a + 4) (b + 4) m m₁ m₂ refl refl (λ k p q r s. omega arith) M₁ (omega arith) (omega arith) e₂ in
-    let M : Moved a b 12 m m₃ =
-    four_more a b 8 (a + 8) (b + 8) m m₂ m₃ refl refl (λ k p q r s. omega arith) M₂ (omega arith) (omega arith) e₃ in
-    thread_put m m₃ j _ hj M.where_else
-    (thread_told m₃ b (word m a) (λ k. word m (a + k)) (moved_first a b 12 m m₃ (omega arith) M) (λ k p q. M.moved k (omega arith))
+    let M : Moved a b 12 m m' = block_moved a b 12 m m' (omega arith) (omega arith) e in
+    thread_put m m' j _ hj M.where_else
+    (thread_told m' b (word m a) (λ k. word m (a + k)) (moved_first a b 12 m m' (omega arith) M) (λ k p q. M.moved k (omega arith))
     ∙ sym (thread_entry m i hi))
 
 pub message_moved : (m m' : List ℕ) (i j : ℕ) → i < word m 0 + word m 1 → j < word m 0 + word m 1 →
     message_place (word m 0) (word m 0 + word m 1) ≤ length m →
-    m' ≡ take (message_place (word m 0) j) m ++ (part m (message_place (word m 0) i) 4 ++ drop (message_place (word m 0) j + 4) m) →
+    m' ≡ copy_within m (message_place (word m 0) i) (message_place (word m 0) i + 4) (message_place (word m 0) j) →
     rows_of m' ≡ put_messages (set (rows_of m).messages j (get_or (rows_of m).messages i no_message)) (rows_of m)
 message_moved m m' i j hi hj room e =
     let a : ℕ = message_place (word m 0) i in
     let b : ℕ = message_place (word m 0) j in
-    let M : Moved a b 4 m m' =
-    four_more a b 0 a b m m m' (omega arith) (omega arith) (λ k p q r s. omega arith) (not_yet a b m) (omega arith) (omega arith) e in
+    let M : Moved a b 4 m m' = block_moved a b 4 m m' (omega arith) (omega arith) e in
     message_put m m' j _ hj M.where_else
     (message_told m' b _ _ _ (moved_first a b 4 m m' (omega arith) M) (M.moved 1 (omega arith)) (M.moved 2 (omega arith))
     ∙ sym (message_entry m i hi))

@@ -319,33 +319,6 @@ pub fn thread_at(m: &[u32], i: usize) -> Thread
 
 // ---- a test on the thread at a place: its state is not made, so a walk over many is short
 
-// Does it wait for the clock?
-pub fn on_clock_at(m: &[u32], i: usize) -> bool
-    requires { Roomy (rows_of m.now) × (i < (rows_of m.now).limits.threads) }
-    ensures { result ≡ on_clock (get_or (rows_of m.now).threads i no_thread).state }
-{
-    let at = THREADS + i * RECORD;
-    looks::on_clock(m[at + 2], m[at + 3])
-}
-
-// Does it wait for this device?
-pub fn waits_at(m: &[u32], i: usize, d: u8) -> bool
-    requires { Roomy (rows_of m.now) × (i < (rows_of m.now).limits.threads) }
-    ensures { result ≡ waits_for d (get_or (rows_of m.now).threads i no_thread) }
-{
-    let at = THREADS + i * RECORD;
-    looks::at_device(d, m[at + 2], m[at + 3])
-}
-
-// Does it wait for clock or device?
-pub fn wakes_at(m: &[u32], i: usize) -> bool
-    requires { Roomy (rows_of m.now) × (i < (rows_of m.now).limits.threads) }
-    ensures { result ≡ wakes_from_outside (get_or (rows_of m.now).threads i no_thread).state }
-{
-    let at = THREADS + i * RECORD;
-    looks::wakes_from_outside(m[at + 2], m[at + 3])
-}
-
 // Would it receive from this sender?
 pub fn receives_at(m: &[u32], i: usize, sender: u8) -> bool
     requires { Roomy (rows_of m.now) × (i < (rows_of m.now).limits.threads) }
@@ -406,15 +379,6 @@ pub fn put_thread(m: &mut [u32], i: usize, t: Thread)
     hint_place(m, t.name, i);
 }
 
-// Four words are written at another place as they stand: it need not be known what they say.
-fn copy_four(m: &mut [u32], from: usize, to: usize)
-    requires { (from + 4 ≤ length m.old) × (to + 4 ≤ length m.old) }
-    ensures { m.new ≡ take to m.old ++ (part m.old from 4 ++ drop (to + 4) m.old) }
-{
-    let x = saying::four_at(&m[from..from + 4]);
-    saying::put_four(&mut m[to..to + 4], x);
-}
-
 // The thread at one place is written at another.
 pub fn move_thread(m: &mut [u32], from: usize, to: usize)
     requires { Roomy (rows_of m.old) × (from < (rows_of m.old).limits.threads) × (to < (rows_of m.old).limits.threads) }
@@ -424,9 +388,7 @@ pub fn move_thread(m: &mut [u32], from: usize, to: usize)
 {
     let a = THREADS + from * RECORD;
     let b = THREADS + to * RECORD;
-    copy_four(m, a, b);
-    copy_four(m, a + 4, b + 4);
-    copy_four(m, a + 8, b + 8);
+    m.copy_within(a..a + 12, b);
     let name = saying::byte(m[b]);
     hint_place(m, name, to);
 }
@@ -537,7 +499,8 @@ pub fn move_message(m: &mut [u32], from: usize, to: usize)
         (rows_of m.old) }
 {
     let base = THREADS + (m[LIMIT] as usize) * RECORD;
-    copy_four(m, base + from * MESSAGE, base + to * MESSAGE);
+    let at = base + from * MESSAGE;
+    m.copy_within(at..at + MESSAGE, base + to * MESSAGE);
 }
 
 // ---- held words, each at its device's place
@@ -598,12 +561,10 @@ pub fn held_told(m: &[u32]) -> bool
     requires { Roomy (rows_of m.now) }
     ensures { result ≡ all (λ h. ltb h.device devices) (rows_of m.now).held }
 {
-    let mut d = 0;
-    while d < numbers::HELD {
+    for d in 0..numbers::HELD {
         if m[HELD + d * 2] > 1 {
             return false;
         }
-        d += 1;
     }
     true
 }
@@ -614,10 +575,8 @@ fn clear_all_held(m: &mut [u32])
     requires { Roomy (rows_of m.old) }
     ensures { rows_of m.new ≡ put_held [] (rows_of m.old) }
 {
-    let mut d = 0;
-    while d < numbers::HELD {
+    for d in 0..numbers::HELD {
         m[HELD + d * 2] = 0;
-        d += 1;
     }
 }
 
@@ -651,18 +610,13 @@ pub fn shaped(m: &[u32], l: Limits) -> bool
 {
     let messages = l.threads + l.blocks;
     let need = THREADS + (l.threads as usize) * RECORD + (messages as usize) * MESSAGE;
-    if m.len() < need {
-        return false;
-    }
-    let right = [
-        m[LIMIT] == l.threads,
-        m[BLOCKS] == l.blocks,
-        m[COUNT] <= l.threads,
-        m[READIES] <= l.threads,
-        m[CLOCKS] <= l.threads,
-        m[LETTERS] <= messages,
-    ];
-    right.iter().all(|r| *r)
+    m.len() >= need
+        && m[LIMIT] == l.threads
+        && m[BLOCKS] == l.blocks
+        && m[COUNT] <= l.threads
+        && m[READIES] <= l.threads
+        && m[CLOCKS] <= l.threads
+        && m[LETTERS] <= messages
 }
 
 // ---- words as they stand, for a dump

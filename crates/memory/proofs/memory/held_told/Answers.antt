@@ -17,9 +17,9 @@ returns-then-m-d-gt1 c = sym (untold (flags c.args.m.now) (inside c.args.m.now) 
     (omega arith) c.if-m-d-gt1.true)
 
 pub loop-d-preserved : goal.loop-d-preserved
-loop-d-preserved c = (omega arith, below_more _ _ c.loop-d.invariant.1 c.if-m-d-gt1.false)
+loop-d-preserved c = below_more _ _ c.loop-d.invariant c.if-m-d-gt1.false
 
 pub returns : goal.returns
 unfolding rows_of
 returns c = sym (gentle_told (flags c.args.m.now) (inside c.args.m.now) 0 devices (omega arith)
-    (λ j p q. c.loop-d.invariant.1 j (omega arith)))
+    (λ j p q. c.loop-d.invariant j (omega arith)))
