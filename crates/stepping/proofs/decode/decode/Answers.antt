@@ -1,7 +1,6 @@
 -- `decode::decode` meets its contract: a law for each exit.
 use Prim.Native.Nat.{◌+◌, ◌*◌}
 use mathlib.Core.Path.{sym, ◌∙◌}
-use native.Mathlib.Omega.{arith}
 use borrow.Author.Tests.{not-true, not-false}
 use Rattle.stepping.proofs.Fields.{too_short, unknown, Head, wrong_length, wrong_size, whole}
 use Rattle.stepping.proofs.decode.decode.Goals as goal
@@ -35,18 +34,6 @@ returns-then-s-length c =
       gives = rw (c.wide.ensures.0, c.wide-2.ensures.0);
     } in
     sym (wrong_size (head) c.if-length-f.false c.if-s-length.true)
-
-pub meaning-requires : goal.meaning-requires
-meaning-requires c =
-    let head : Head c.args.s.now c.tag_facts-f.result (c.wide.result * 256 + c.wide-2.result) = record {
-      bytes = c.shared_slice_known-1.given;
-      long = c.if-s-lt3.false;
-      says = c.tag_facts-f.ensures;
-      known = not-false _ c.if-not-f.false;
-      gives = rw (c.wide.ensures.0, c.wide-2.ensures.0);
-    } in
-    let h = head in
-    rw (← h.says) (h.known, omega (arith, c.if-length-f.false, c.if-s-length.false))
 
 pub returns : goal.returns
 returns c =
