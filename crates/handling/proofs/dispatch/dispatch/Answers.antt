@@ -7,9 +7,6 @@ use Rattle.handling.proofs.Leaving.{as_it_was, and_hands}
 use Rattle.handling.proofs.Dispatching.{nobody_runs}
 use Rattle.handling.proofs.dispatch.dispatch.Goals as goal
 
-pub run_next-requires : goal.run_next-requires
-run_next-requires c = c.requires
-
 pub returns-in-NoRunner : goal.returns-in-NoRunner
 returns-in-NoRunner c =
     let h = c.run_next.ensures in

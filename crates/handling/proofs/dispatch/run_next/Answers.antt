@@ -1,5 +1,5 @@
 -- `dispatch::run_next` meets its contract: nobody is ready, or the front of the queue is taken.
-use Rattle.std.proofs.Common.{sym, ◌∙◌, arith}
+use Rattle.std.proofs.Common.{sym, ◌∙◌}
 use Rattle.store.specs.Store.{tables}
 use Rattle.rules.specs.Waking.{◌handing◌}
 use Rattle.handling.proofs.Leaving.{as_it_was, and_hands}
@@ -12,22 +12,9 @@ returns-then-ready_count-eq0 c =
     and_hands (as_it_was c.requires.holding)
     (nobody_ready T.ready (T handing c.args.given) (sym c.ready_count.ensures ∙ c.if-ready_count-eq0.true))
 
-pub ready_at-name-requires : goal.ready_at-name-requires
-ready_at-name-requires c =
-    (c.requires.holding.shaped, omega (arith, c.ready_count.ensures, c.if-ready_count-eq0.false))
-
-pub answer_of-answer-requires : goal.answer_of-answer-requires
-answer_of-answer-requires c = c.requires.holding
-
-pub turn-requires : goal.turn-requires
-turn-requires c = c.requires.holding
-
 pub drop_front-requires : goal.drop_front-requires
 drop_front-requires c =
     turned_front _ _ c.turn.ensures (λ e. c.if-ready_count-eq0.false (c.ready_count.ensures ∙ e))
-
-pub set_runner-requires : goal.set_runner-requires
-set_runner-requires c = c.drop_front.ensures.holding
 
 pub returns : goal.returns
 returns c =

@@ -4,18 +4,12 @@ use Rattle.store.specs.Store.{tables}
 use Rattle.handling.proofs.Dispatching.{working, halted, rests}
 use Rattle.handling.proofs.dispatch.status.Goals as goal
 
-pub thread_count-requires : goal.thread_count-requires
-thread_count-requires c = c.requires
-
 pub returns-then-thread_count-eq0 : goal.returns-then-thread_count-eq0
 returns-then-thread_count-eq0 c =
     halted
     (tables c.args.m.now)
     (sym c.runner.ensures ∙ c.in_default.is)
     (sym c.thread_count.ensures ∙ c.if-thread_count-eq0.true)
-
-pub some_wakes-requires : goal.some_wakes-requires
-some_wakes-requires c = c.requires
 
 pub returns-in-Runs : goal.returns-in-Runs
 returns-in-Runs c = working (tables c.args.m.now) _ _ (sym c.runner.ensures

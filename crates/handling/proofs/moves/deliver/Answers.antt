@@ -15,10 +15,6 @@ wake-requires c = (
       (sym c.is_awaited.ensures ∙ c.if-is_awaited.true),
 )
 
-pub queue-requires : goal.queue-requires
-queue-requires c =
-    (c.requires.0.holding, c.requires.1 (sym c.is_awaited.ensures ∙ c.if-is_awaited.false))
-
 pub returns-then-is_awaited : goal.returns-then-is_awaited
 returns-then-is_awaited c =
     let T = tables c.args.m.now in

@@ -2,8 +2,5 @@
 use Rattle.handling.proofs.Moving.{stopped}
 use Rattle.handling.proofs.moves.stop.Goals as goal
 
-pub set_runner-requires : goal.set_runner-requires
-set_runner-requires c = c.turn.ensures.holding
-
 pub returns : goal.returns
 returns c = stopped _ _ c.turn.ensures c.set_runner.ensures

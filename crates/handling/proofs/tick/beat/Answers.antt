@@ -1,19 +1,7 @@
 -- `tick::beat` meets its contract. The ready and the clock waiters are different threads, so the ready queue has room for all.
 use Rattle.handling.proofs.Ticking.{passed, beat_room, struck}
-use Rattle.std.proofs.Common.{refl, arith}
+use Rattle.std.proofs.Common.{refl}
 use Rattle.handling.proofs.tick.beat.Goals as goal
-
-pub since-since-requires : goal.since-since-requires
-since-since-requires c = c.requires.0.holding.shaped
-
-pub overflow_add-since : goal.overflow_add-since
-overflow_add-since c = omega (arith, c.since-since.ensures, c.requires.1)
-
-pub beats-beats-requires : goal.beats-beats-requires
-beats-beats-requires c = c.requires.0.holding.shaped
-
-pub set_time-requires : goal.set_time-requires
-set_time-requires c = c.requires.0.holding
 
 pub wake_clock-requires : goal.wake_clock-requires
 wake_clock-requires c =
@@ -24,9 +12,6 @@ wake_clock-requires c =
     refl
     c.set_time.ensures
     c.requires.0.inv
-
-pub set_time-requires-else-since-eq-BEAT : goal.set_time-requires-else-since-eq-BEAT
-set_time-requires-else-since-eq-BEAT c = c.requires.0.holding
 
 pub returns-then-since-eq-BEAT : goal.returns-then-since-eq-BEAT
 returns-then-since-eq-BEAT c =

@@ -6,12 +6,9 @@ use Rattle.rules.specs.Tables.{Tables}
 use Rattle.rules.specs.Tick.{beat, rotate, tick}
 use Rattle.laws.proofs.PlacesKept.{charge_inv, beat_inv}
 use Rattle.store.specs.Store.{tables}
-use Rattle.handling.proofs.Leaving.{and_then, carried, still_holds, holds}
+use Rattle.handling.proofs.Leaving.{and_then, carried, still_holds}
 use Rattle.handling.proofs.Ticking.{charge_since}
 use Rattle.handling.proofs.tick.tick.Goals as goal
-
-pub charge-requires : goal.charge-requires
-charge-requires c = (holds c.requires, c.requires.ruled.steady)
 
 pub beat-requires : goal.beat-requires
 beat-requires c =

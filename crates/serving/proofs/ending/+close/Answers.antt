@@ -17,9 +17,6 @@ grow_ended-requires t c = (
   c.requires.2,
 )
 
-pub ended_count-requires : goal.ended_count-requires
-ended_count-requires t c = c.grow_ended.ensures.0.finding
-
 pub returns-then-ended_count-before : goal.returns-then-ended_count-before
 returns-then-ended_count-before t c = (
   last_round c.grow_ended.ensures.0 (sym c.ended_count.ensures

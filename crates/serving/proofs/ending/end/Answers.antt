@@ -1,15 +1,10 @@
 -- `end` meets its contract: what the ended set leaves, with those released that miss a member.
-use mathlib.Core.Path.{◌∙◌}
 use Rattle.serving.proofs.EndingRounds.{release_room, ended}
 use Rattle.store.proofs.Marking.{no_marks, marks_of}
 use Rattle.serving.proofs.ending.end.Goals as goal
 
 pub ended_set-requires : goal.ended_set-requires
 ended_set-requires c = (c.requires.0, c.requires.1, no_marks)
-
-pub remove_ended-requires : goal.remove_ended-requires
-remove_ended-requires c =
-    (c.ended_set.ensures.0.finding, c.ended_set.ensures.1)
 
 pub release_ended-requires : goal.release_ended-requires
 release_ended-requires c = (
@@ -21,11 +16,6 @@ release_ended-requires c = (
   marks_of c.remove_ended.ensures.set
       c.ended_set.ensures.1,
 )
-
-pub shape_of-m : goal.shape_of-m
-shape_of-m c = c.release_ended.auto.m
-    ∙ (c.remove_ended.auto.m
-    ∙ c.ended_set.auto.m)
 
 pub returns : goal.returns
 returns c =

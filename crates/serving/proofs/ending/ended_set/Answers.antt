@@ -1,5 +1,4 @@
 -- `ended_set` meets its contract: the rounds begin with the named thread alone.
-use mathlib.Core.Path.{◌∙◌}
 use Rattle.serving.proofs.EndingRounds.{some_room, begun_room, begun_closed}
 use Rattle.serving.proofs.ending.ended_set.Goals as goal
 
@@ -20,9 +19,6 @@ close-requires c = (
       c.begin_ended.ensures.0,
   c.begin_ended.ensures.1,
 )
-
-pub shape_of-m : goal.shape_of-m
-shape_of-m c = c.close.auto.m ∙ c.begin_ended.auto.m
 
 pub returns : goal.returns
 returns c = (

@@ -3,9 +3,6 @@ use mathlib.Core.Path.{refl}
 use Rattle.serving.proofs.Asking.{newcomer_free, newcomer_room, created}
 use Rattle.serving.proofs.requests.create.Goals as goal
 
-pub next_name-name-requires : goal.next_name-name-requires
-next_name-name-requires c = c.requires.0.holding
-
 pub add_thread-requires : goal.add_thread-requires
 add_thread-requires c = (
   c.requires.0.holding,
@@ -20,9 +17,6 @@ join_ready-requires c = (
   newcomer_room c.requires.0 c.requires.2
       c.add_thread.ensures refl,
 )
-
-pub set_last-requires : goal.set_last-requires
-set_last-requires c = c.join_ready.ensures.holding
 
 pub returns : goal.returns
 returns c = rw c.from.ensures (

@@ -1,23 +1,10 @@
 -- `requests::free_behind` meets its contract. The loop: with the name that the walk has come to, the threads that are left give what all
 -- of them give, and have no lower name.
-use native.Mathlib.Omega.{arith}
 use Rattle.serving.proofs.Naming.{sets_out, moves_on, is_free, is_last}
 use Rattle.serving.proofs.requests.free_behind.Goals as goal
 
-pub thread_count-i-end-requires : goal.thread_count-i-end-requires
-thread_count-i-end-requires c = c.requires.shaped
-
-pub place_of-first-requires : goal.place_of-first-requires
-place_of-first-requires c = c.requires
-
 pub loop-i-init : goal.loop-i-init
 loop-i-init c = sets_out c.args.m.now _ _ _ c.successor-name.ensures c.place_of-first.ensures
-
-pub name_at-requires : goal.name_at-requires
-name_at-requires c = (
-  c.requires.shaped,
-  omega (arith, c.loop-i-test.true, c.thread_count-i-end.ensures),
-)
 
 pub returns-then-name_at-name : goal.returns-then-name_at-name
 returns-then-name_at-name c =

@@ -3,15 +3,6 @@ use mathlib.Core.Path.{◌∙◌}
 use Rattle.serving.proofs.Naming.{found_above, comes_round}
 use Rattle.serving.proofs.requests.next_name.Goals as goal
 
-pub last-requires : goal.last-requires
-last-requires c = c.requires.shaped
-
-pub free_behind-name-requires : goal.free_behind-name-requires
-free_behind-name-requires c = c.requires
-
-pub free_behind-requires : goal.free_behind-requires
-free_behind-requires c = c.requires
-
 pub returns-then-name-eq0 : goal.returns-then-name-eq0
 returns-then-name-eq0 c =
     c.free_behind.ensures ∙ comes_round c.args.m.now c.requires _ _ c.last.ensures

@@ -7,9 +7,6 @@ use Rattle.store.specs.Store.{tables}
 use Rattle.serving.proofs.Asking.{by_target}
 use Rattle.serving.proofs.requests.terminate.Goals as goal
 
-pub end-requires : goal.end-requires
-end-requires c = (c.requires.0, c.requires.1)
-
 pub end-requires-in-Named : goal.end-requires-in-Named
 unfolding ends_nobody
 end-requires-in-Named c = (c.requires.0, not_false _ (ap (ends_nobody (tables _)) (sym c.in-Named.is) ∙ c.requires.2))

@@ -2,9 +2,6 @@
 use Rattle.serving.proofs.Asking.{clock_room, clocked}
 use Rattle.serving.proofs.requests.wait_for_clock.Goals as goal
 
-pub stop-requires : goal.stop-requires
-stop-requires c = c.requires.0
-
 pub join_clock-requires : goal.join_clock-requires
 join_clock-requires c = (
   c.stop.ensures.holding,

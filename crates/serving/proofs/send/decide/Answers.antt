@@ -1,12 +1,8 @@
 -- `send::decide` meets its contract: the decision 0 wakes the one trapped thread, another ends it.
-use mathlib.Core.Path.{◌∙◌}
 use Rattle.store.specs.Store.{tables}
 use Rattle.handling.proofs.Leaving.{in_words}
 use Rattle.serving.proofs.Sending.{decided_live, decided_room, decided_on, decided_over}
 use Rattle.serving.proofs.send.decide.Goals as goal
-
-pub discard_notice-requires : goal.discard_notice-requires
-discard_notice-requires c = c.requires.0.holding
 
 pub wake-requires : goal.wake-requires
 wake-requires c =
@@ -16,17 +12,11 @@ pub end-requires : goal.end-requires
 end-requires c =
     (c.requires.0, decided_live c.requires.0 c.args.me c.args.to c.requires.1)
 
-pub shape_of-m-then-word-eq0 : goal.shape_of-m-then-word-eq0
-shape_of-m-then-word-eq0 c = c.wake.auto.m ∙ c.discard_notice.auto.m
-
 pub returns-then-word-eq0 : goal.returns-then-word-eq0
 returns-then-word-eq0 c =
     decided_on c.requires.0 c.args.me c.args.to c.requires.1 c.args.word
     c.if-word-eq0.true
     c.discard_notice.ensures c.wake.ensures
-
-pub shape_of-m-else-word-eq0 : goal.shape_of-m-else-word-eq0
-shape_of-m-else-word-eq0 c = c.end.auto.m
 
 pub returns-else-word-eq0 : goal.returns-else-word-eq0
 returns-else-word-eq0 c =

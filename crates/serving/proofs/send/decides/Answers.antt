@@ -4,9 +4,6 @@ use Rattle.store.specs.Store.{tables}
 use Rattle.serving.proofs.Sending.{decides_by}
 use Rattle.serving.proofs.send.decides.Goals as goal
 
-pub trapped_on-requires : goal.trapped_on-requires
-trapped_on-requires c = c.requires
-
 pub returns : goal.returns
 returns c =
     c.trapped_on.ensures ∙ decides_by (tables c.args.m.now) c.requires.once c.args.me c.args.to

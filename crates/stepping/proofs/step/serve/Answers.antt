@@ -13,9 +13,6 @@ pub send-requires : goal.send-requires
 send-requires c =
     (holds c.requires.0, message_room c.requires.0.ruled _ _ c.requires.2 _ _ c.in-Send.is)
 
-pub receive-requires : goal.receive-requires
-receive-requires c = c.requires.0.holding
-
 pub create_brother-requires : goal.create_brother-requires
 create_brother-requires c = (
   holds c.requires.0,
@@ -44,9 +41,6 @@ pub set_manager-requires : goal.set_manager-requires
 set_manager-requires c =
     (holds c.requires.0, caller_lives c.requires.0.ruled _ c.requires.1)
 
-pub get_cpu_time-requires : goal.get_cpu_time-requires
-get_cpu_time-requires c = c.requires.0.holding
-
 pub wait_for_clock-requires : goal.wait_for_clock-requires
 wait_for_clock-requires c =
     (c.requires.0.holding, waiting_room c.requires.0.ruled _ c.requires.1)
@@ -55,54 +49,29 @@ pub wait_for_io-requires : goal.wait_for_io-requires
 wait_for_io-requires c =
     (c.requires.0, device_known _ c.in-WaitForIo.is c.requires.3)
 
-pub trap-requires : goal.trap-requires
-trap-requires c =
-    (c.requires.0, c.requires.1)
-
-pub shape_of-m-in-Send : goal.shape_of-m-in-Send
-shape_of-m-in-Send c = c.send.auto.m
-
 pub returns-in-Send : goal.returns-in-Send
 unfolding serve
 returns-in-Send c = rw c.in-Send.is (and_hands c.send.ensures refl)
-
-pub shape_of-m-in-Receive : goal.shape_of-m-in-Receive
-shape_of-m-in-Receive c = c.receive.auto.m
 
 pub returns-in-Receive : goal.returns-in-Receive
 unfolding serve
 returns-in-Receive c = rw c.in-Receive.is c.receive.ensures
 
-pub shape_of-m-in-CreateBrother : goal.shape_of-m-in-CreateBrother
-shape_of-m-in-CreateBrother c = c.create_brother.auto.m
-
 pub returns-in-CreateBrother : goal.returns-in-CreateBrother
 unfolding serve
 returns-in-CreateBrother c = rw c.in-CreateBrother.is c.create_brother.ensures
-
-pub shape_of-m-in-CreateSon : goal.shape_of-m-in-CreateSon
-shape_of-m-in-CreateSon c = c.create_son.auto.m
 
 pub returns-in-CreateSon : goal.returns-in-CreateSon
 unfolding serve
 returns-in-CreateSon c = rw c.in-CreateSon.is c.create_son.ensures
 
-pub shape_of-m-in-Terminate : goal.shape_of-m-in-Terminate
-shape_of-m-in-Terminate c = c.terminate.auto.m
-
 pub returns-in-Terminate : goal.returns-in-Terminate
 unfolding serve
 returns-in-Terminate c = rw c.in-Terminate.is c.terminate.ensures
 
-pub shape_of-m-in-SetManager : goal.shape_of-m-in-SetManager
-shape_of-m-in-SetManager c = c.set_manager.auto.m
-
 pub returns-in-SetManager : goal.returns-in-SetManager
 unfolding serve
 returns-in-SetManager c = rw c.in-SetManager.is c.set_manager.ensures
-
-pub shape_of-m-in-GetCpuTime : goal.shape_of-m-in-GetCpuTime
-shape_of-m-in-GetCpuTime c = refl
 
 pub returns-in-GetCpuTime : goal.returns-in-GetCpuTime
 unfolding serve
@@ -110,22 +79,13 @@ returns-in-GetCpuTime c =
     rw c.in-GetCpuTime.is
     (and_hands (as_it_was c.requires.0.holding) (ap (λ (a : Answer). tables c.args.m.now handing a) c.get_cpu_time.ensures))
 
-pub shape_of-m-in-WaitForClock : goal.shape_of-m-in-WaitForClock
-shape_of-m-in-WaitForClock c = c.wait_for_clock.auto.m
-
 pub returns-in-WaitForClock : goal.returns-in-WaitForClock
 unfolding serve
 returns-in-WaitForClock c = rw c.in-WaitForClock.is c.wait_for_clock.ensures
 
-pub shape_of-m-in-WaitForIo : goal.shape_of-m-in-WaitForIo
-shape_of-m-in-WaitForIo c = c.wait_for_io.auto.m
-
 pub returns-in-WaitForIo : goal.returns-in-WaitForIo
 unfolding serve
 returns-in-WaitForIo c = rw c.in-WaitForIo.is c.wait_for_io.ensures
-
-pub shape_of-m-in-Trap : goal.shape_of-m-in-Trap
-shape_of-m-in-Trap c = c.trap.auto.m
 
 pub returns-in-Trap : goal.returns-in-Trap
 unfolding serve
