@@ -4,7 +4,8 @@ ghost use Rattle.faults.specs.Order.{seen as seen_of, misplaced_behind, after as
 
 use rules::tags;
 
-// What stood before a field, by default nothing: the place of the nearest one in the order of a dump, and whether a field 1, 3 and 4 was among them.
+// What stood before a field, by default nothing: the place of the nearest one in the order of a dump, and whether a field 1, 3 and 4 was
+// among them. The flags are what the document asks, once for each of three tags.
 #[derive(Clone, Copy, Default)]
 pub struct Before {
     place: u8,
