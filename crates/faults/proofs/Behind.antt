@@ -1,12 +1,5 @@
 -- What the code keeps of the fields before one tells what the rules ask of their tags.
-use Rattle.std.proofs.Common.{◌==◌}
-use Prim.Native.Nat.{ℕ, zero, suc}
-use mathlib.Core.Bool.{Bool, true, false, ◌&&◌, ◌||◌, not}
-use mathlib.Core.List.{List, [], ◌∷◌}
-use mathlib.Core.Path.{◌≡◌, refl, sym, ap, ap₂, ◌∙◌}
-use native.Mathlib.Omega.{arith}
-use lib.Dec.{ltb}
-use borrow.Author.Tests.{ne_eqb}
+use Rattle.std.proofs.Common.{◌==◌, ℕ, zero, suc, Bool, true, false, ◌&&◌, ◌||◌, not, List, [], ◌∷◌, ◌≡◌, refl, sym, ap, ap₂, ◌∙◌, arith, ltb, ne_eqb}
 use Rattle.rules.specs.Lists.{any, has}
 use Rattle.rules.specs.Tags.{head_tag, ready_tag, clock_tag, dump_rows, dump_facts, dump_facts_in}
 use Rattle.rules.specs.Load.{Field}

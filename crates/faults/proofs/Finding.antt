@@ -1,7 +1,5 @@
 -- The first of a list is the verdict, and where the list is empty those behind it count.
-use Rattle.std.proofs.Common.{ℕ, ◌≡◌, List, [], ◌∷◌, Some, None, refl, sym, ap}
-use mathlib.Core.Bool.{true≢false}
-use Rattle.std.specs.Option.{is_some, unwrap_or}
+use Rattle.std.proofs.Common.{ℕ, ◌≡◌, List, [], ◌∷◌, Some, None, refl, sym, ap, true≢false, is_some, unwrap_or}
 use Rattle.rules.specs.Faults.{earliest}
 use Rattle.rules.specs.declared.Verdict.{Verdict}
 use Rattle.faults.specs.Passes.{earliest_of}

@@ -1,8 +1,6 @@
 -- What the tests of ranges and lengths rest on.
-use Rattle.std.proofs.Common.{ℕ, zero, suc, ◌==◌, ◌&&◌, ◌≡◌, Bool, true, false, not, List, length, refl, sym, ap, ◌∙◌, arith}
+use Rattle.std.proofs.Common.{ℕ, zero, suc, ◌==◌, ◌&&◌, ◌≡◌, Bool, true, false, not, List, length, refl, sym, ap, ◌∙◌, arith, ltb, ne_eqb, le-ltb, eqb-true}
 use mathlib.Core.Bool.{false≢true}
-use lib.Dec.{ltb}
-use borrow.Author.Tests.{ne_eqb, le-ltb, eqb-true}
 use Rattle.rules.specs.Lists.{any}
 use Rattle.rules.specs.Tags.{dump_facts, dump_facts_in}
 use Rattle.rules.specs.Codes.{status_code}

@@ -1,11 +1,7 @@
 -- The marks of live names: those of the fields so far are there.
-use Rattle.std.proofs.Common.{ℕ, zero, suc, ◌+◌, ◌<◌, ◌≡◌, Bool, true, false, ◌||◌, ◌&&◌, ◌==◌, List, [], ◌∷◌, map, length, get_or, set, replicate}
-use Rattle.std.proofs.Common.{refl, sym, ap, ◌∙◌, arith, length-set, Some, None}
-use Rattle.std.specs.Borrow.{Bor}
-use mathlib.Core.Logic.{◌≢◌}
+use Rattle.std.proofs.Common.{ℕ, zero, suc, ◌+◌, ◌<◌, ◌≡◌, Bool, true, false, ◌||◌, ◌&&◌, ◌==◌, List, [], ◌∷◌, map, length, get_or, set, replicate, refl, sym, ap, ◌∙◌, arith, length-set, Some, None, Bor, ◌≢◌, get_or-set_same, get_or-set_other, eq-eqb, ne_eqb, eqb-true}
 use lib.ListN.{length-replicate}
-use lib.Seq.{get_or-set_same, get_or-set_other}
-use borrow.Author.Tests.{eq-eqb, ne_eqb, eqb-true, eqb-false}
+use borrow.Author.Tests.{eqb-false}
 use Rattle.rules.specs.Lists.{any, keep}
 use Rattle.rules.specs.Tables.{named, live}
 use Rattle.rules.specs.Tags.{thread_tag}

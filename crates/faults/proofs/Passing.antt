@@ -1,9 +1,6 @@
 -- A pass finds the first of the rules' offsets.
-use Rattle.std.proofs.Common.{ℕ, ◌+◌, ◌≡◌, Bool, true, false, ◌||◌, ◌&&◌, not, cond, if◌then◌else◌, ◌==◌, List, [], ◌∷◌, ◌++◌, map, refl, sym, ap, ◌∙◌, length, Option, Some, None, find, option_map}
-use mathlib.Core.Bool.{true≢false}
+use Rattle.std.proofs.Common.{ℕ, ◌+◌, ◌≡◌, Bool, true, false, ◌||◌, ◌&&◌, not, cond, if◌then◌else◌, ◌==◌, List, [], ◌∷◌, ◌++◌, map, refl, sym, ap, ◌∙◌, length, Option, Some, None, find, option_map, true≢false, ltb, Bor, is_some, MatchOption}
 use Rattle.std.specs.Bool.{⊤}
-use lib.Dec.{ltb}
-use Rattle.std.specs.Borrow.{Bor}
 use Rattle.std.proofs.lemmas.Iterator.{YieldsList}
 use Rattle.std.proofs.lemmas.Iterator.Search.{find_from_yields_List}
 use Rattle.std.specs.Iterator.{YieldsThen}
@@ -13,7 +10,6 @@ use Rattle.std.specs.List.{FoldsTo}
 use Rattle.std.proofs.lemmas.Iterator.Consumers.{YieldsList-from_shown}
 use Rattle.std.proofs.lemmas.Iterator.Adapters.{option_map_id}
 use Rattle.std.specs.Bool.{then_some}
-use Rattle.std.specs.Option.{is_some, MatchOption}
 use Rattle.rules.specs.Lists.{keep, any, has}
 use Rattle.rules.specs.Fields.{complete, unread}
 use Rattle.rules.specs.Tags.{dump_rows}

@@ -1,10 +1,5 @@
 -- The fields that are still to come, as the code goes over them.
-use Rattle.std.proofs.Common.{ℕ, ◌+◌, ◌-◌, ◌≡◌, Bool, ◌||◌, List, [], ◌∷◌, true, false, refl, sym, ap, ap₂, ◌∙◌}
-use Rattle.std.proofs.Common.{length, length-drop, take, drop, Some, None, arith}
-use mathlib.Core.Bool.{true≢false}
-use Rattle.std.specs.Option.{is_some}
-use lib.Dec.{ltb}
-use lib.Seq.{length-take-le, drop-drop}
+use Rattle.std.proofs.Common.{ℕ, ◌+◌, ◌-◌, ◌≡◌, Bool, ◌||◌, List, [], ◌∷◌, true, false, refl, sym, ap, ap₂, ◌∙◌, length, length-drop, take, drop, Some, None, arith, true≢false, is_some, ltb, length-take-le, drop-drop}
 use Rattle.rules.specs.Fields.{field_size, complete, unread}
 use Rattle.rules.specs.Load.{as_field}
 use Rattle.laws.proofs.Batch.{complete_none, complete_first}

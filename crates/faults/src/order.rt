@@ -19,7 +19,7 @@ fn place_of(tag: u8) -> u8
 }
 
 // What stood before a field, by default nothing: the place of the nearest one in the order of a dump, and whether a field 1, 3 and 4 was
-// among them.
+// among them. The flags are what the document asks, once for each of three tags.
 #[derive(Clone, Copy, Default)]
 pub struct Before {
     place: u8,

@@ -1,9 +1,5 @@
 -- The first field of some bytes: how long it is at least and at most. Then the field at a place in the bytes.
-use Prim.Native.Nat.{ℕ, ◌+◌, ◌≤◌, ◌<◌}
-use mathlib.Core.Path.{◌≡◌, ap}
-use mathlib.Core.List.{List, [], ◌∷◌}
-use native.Mathlib.Omega.{arith}
-use lib.ListN.{length, drop, length-drop}
+use Rattle.std.proofs.Common.{ℕ, ◌+◌, ◌≤◌, ◌<◌, ◌≡◌, ap, List, [], ◌∷◌, arith, length, drop, length-drop}
 use Rattle.fields.specs.Fields.{field_size, whole, cut}
 use Rattle.fields.specs.declared.Cut.{Cut}
 

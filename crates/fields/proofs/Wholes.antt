@@ -1,6 +1,5 @@
 -- The whole fields of some bytes, one after the other.
-use Rattle.std.proofs.Common.{ℕ, ◌+◌, ◌-◌, ◌≡◌, ◌≤◌, List, [], ◌∷◌, true, false, sym, ap₂, ◌∙◌, length, length-drop, take, drop, arith}
-use lib.Seq.{drop-drop}
+use Rattle.std.proofs.Common.{ℕ, ◌+◌, ◌-◌, ◌≡◌, ◌≤◌, List, [], ◌∷◌, true, false, sym, ap₂, ◌∙◌, length, length-drop, take, drop, arith, drop-drop}
 use Rattle.rules.specs.Fields.{field_size, complete}
 use Rattle.laws.proofs.Batch.{whole_within, complete_none, complete_first}
 use Rattle.fields.specs.Fields.{cut}
