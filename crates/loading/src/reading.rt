@@ -31,7 +31,7 @@ fn read_threads(m: &mut [u32], bytes: &[u8], from: usize) -> usize
         × ThreadsRead (drop from bytes.now) (tables m.new).threads (drop result bytes.now) }
 {
     let mut at = from;
-    for n in 0..numbers::THREADS {
+    for _n in 0..numbers::THREADS {
         let Some(value) = opening::value_at(bytes, at, tags::THREAD, tags::THREAD_SIZE) else {
             return at;
         };
@@ -120,7 +120,7 @@ fn read_messages(m: &mut [u32], bytes: &[u8], from: usize) -> usize
         × MessagesRead (drop from bytes.now) (tables m.new).messages (drop result bytes.now) }
 {
     let mut at = from;
-    for n in 0..numbers::MESSAGES {
+    for _n in 0..numbers::MESSAGES {
         let Some(value) = opening::value_at(bytes, at, tags::MESSAGE, tags::MESSAGE_SIZE) else {
             return at;
         };
@@ -138,7 +138,7 @@ fn read_held(m: &mut [u32], bytes: &[u8], from: usize) -> usize
         × HeldRead (drop from bytes.now) (tables m.new).held (drop result bytes.now) }
 {
     let mut at = from;
-    for n in 0..numbers::HELD {
+    for _n in 0..numbers::HELD {
         let Some(value) = opening::value_at(bytes, at, tags::HELD, tags::HELD_SIZE) else {
             return at;
         };
