@@ -1,4 +1,5 @@
-// Bytes at the front of a lent buffer. Each function answers how many it put; those behind stay.
+// Bytes at the front of a lent buffer. Each function answers how many it put; those behind stay. No cursor keeps the buffer beside a place:
+// document 01 names the form, a field "is written into the rest of the buffer behind the last one" (docs/FORMS.md).
 #![tactic(auto)]
 
 ghost use Rattle.std.specs.Prelude.{◌≤◌, length};

@@ -82,6 +82,8 @@ fn write_thread(t: ThreadWords<'_>, out: &mut [u8]) -> usize
     tags::THREAD_FIELD
 }
 
+// Threads and messages have a loop each: one function for both needs a bound on the walk and a clause on what the writer does to the buffer
+// that it is lent, which is longer than two loops of one line.
 fn write_threads(m: &[u32], out: &mut [u8]) -> usize
     requires { Shaped m.now × ((before_value + thread_size) * length (tables m.now).threads ≤ length out.old) }
     ensures { Puts (each (λ t. field thread_tag (thread_value t)) (tables m.now).threads) out.old

@@ -1,8 +1,8 @@
 // The first stage of reading: the fields are cut in the order of a dump, by tag and length, and their values put into a lent memory.
-ghost use Rattle.std.specs.Prelude.{◌≡◌, [], ◌∷◌, ◌++◌, ◌+◌, ◌≤◌, ◌<◌, length, drop};
+ghost use Rattle.std.specs.Prelude.{◌≡◌, ℕ, [], ◌∷◌, ◌++◌, ◌+◌, ◌≤◌, ◌<◌, length, drop};
 ghost use Rattle.rules.specs.Numbers.{small};
 ghost use Rattle.rules.specs.Tables.{with_threads, with_messages, with_held};
-ghost use Rattle.rules.specs.Tags.{before_value, head_size};
+ghost use Rattle.rules.specs.Tags.{before_value, head_size, ready_tag, clock_tag};
 ghost use Rattle.memory.specs.Layout.{size};
 ghost use Rattle.store.specs.Store.{limits, tables, Shaped, Holding, Leaves, Fills};
 ghost use Rattle.loading.specs.Reading.{Small, Empty, head_from, names_in, with_names, ThreadsRead, MessagesRead, HeldRead};
@@ -22,6 +22,8 @@ fn read_head(m: &mut [u32], bytes: &[u8])
     store::set_time(m, bytes[7], values::word_at(bytes, 8));
 }
 
+// Each row has its loop: one function for the three needs a trait with a law for each thing that they differ in, and its impls are longer
+// than the loops.
 fn read_threads(m: &mut [u32], bytes: &[u8], from: usize) -> usize
     requires { Small m.old × ((tables m.old).threads ≡ []) × (from ≤ length bytes.now) }
     ensures { (result ≤ length bytes.now)
@@ -29,7 +31,7 @@ fn read_threads(m: &mut [u32], bytes: &[u8], from: usize) -> usize
         × ThreadsRead (drop from bytes.now) (tables m.new).threads (drop result bytes.now) }
 {
     let mut at = from;
-    for n in 0..numbers::THREADS {
+    for _n in 0..numbers::THREADS {
         let Some(value) = opening::value_at(bytes, at, tags::THREAD, tags::THREAD_SIZE) else {
             return at;
         };
@@ -52,38 +54,62 @@ fn count_names(bytes: &[u8], from: usize, tag: u8) -> Option<usize>
     }
 }
 
-// A name behind the others of a queue.
-fn fill_name(m: &mut [u32], tag: u8, name: u8)
-    requires { Shaped m.old × (length (names_in tag (tables m.old)) < (limits m.old).threads) }
-    ensures { Fills m.old m.new
-        (with_names tag (names_in tag (tables m.old) ++ (name ∷ [])) (tables m.old)) }
-{
-    if tag == tags::READY {
-        store::fill_ready(m, name);
-        return;
-    }
-    store::fill_clock(m, name);
+// A queue that a field of names fills.
+trait Queue {
+    ghost TAG: { ℕ };
+
+    const TAG: u8;
+
+    // A name behind the others.
+    fn fill(m: &mut [u32], name: u8)
+        requires { Shaped m.old × (length (names_in TAG (tables m.old)) < (limits m.old).threads) }
+        ensures { Fills m.old m.new
+            (with_names TAG (names_in TAG (tables m.old) ++ (name ∷ [])) (tables m.old)) };
 }
 
-fn fill_names(m: &mut [u32], names: &[u8], tag: u8)
-    requires { Small m.old × (names_in tag (tables m.old) ≡ []) × (length names.now ≤ small.threads) }
-    ensures { Fills m.old m.new (with_names tag names.now (tables m.old)) }
+struct ReadyNames;
+
+impl Queue for ReadyNames {
+    ghost TAG = { ready_tag };
+
+    const TAG: u8 = tags::READY;
+
+    fn fill(m: &mut [u32], name: u8) {
+        store::fill_ready(m, name);
+    }
+}
+
+struct ClockNames;
+
+impl Queue for ClockNames {
+    ghost TAG = { clock_tag };
+
+    const TAG: u8 = tags::CLOCK;
+
+    fn fill(m: &mut [u32], name: u8) {
+        store::fill_clock(m, name);
+    }
+}
+
+fn fill_names<Q: Queue>(m: &mut [u32], names: &[u8])
+    requires { Small m.old × (names_in Q.TAG (tables m.old) ≡ []) × (length names.now ≤ small.threads) }
+    ensures { Fills m.old m.new (with_names Q.TAG names.now (tables m.old)) }
 {
     for name in names {
-        fill_name(m, tag, *name);
+        Q::fill(m, *name);
     }
 }
 
 // A field of names: its length is how many. It answers the place behind the field, if one stands there.
-fn read_names(m: &mut [u32], bytes: &[u8], from: usize, tag: u8) -> Option<usize>
-    requires { Small m.old × (names_in tag (tables m.old) ≡ []) × (from ≤ length bytes.now) }
-    ensures { Fills m.old m.new (with_names tag (names_in tag (tables m.new)) (tables m.old))
-        × NamesRead tag bytes.now from result (names_in tag (tables m.new)) }
+fn read_names<Q: Queue>(m: &mut [u32], bytes: &[u8], from: usize) -> Option<usize>
+    requires { Small m.old × (names_in Q.TAG (tables m.old) ≡ []) × (from ≤ length bytes.now) }
+    ensures { Fills m.old m.new (with_names Q.TAG (names_in Q.TAG (tables m.new)) (tables m.old))
+        × NamesRead Q.TAG bytes.now from result (names_in Q.TAG (tables m.new)) }
 {
-    let n = count_names(bytes, from, tag)?;
+    let n = count_names(bytes, from, Q::TAG)?;
     let start = from + tags::BEFORE_VALUE;
     let end = start + n;
-    fill_names(m, &bytes[start..end], tag);
+    fill_names::<Q>(m, &bytes[start..end]);
     Some(end)
 }
 
@@ -94,7 +120,7 @@ fn read_messages(m: &mut [u32], bytes: &[u8], from: usize) -> usize
         × MessagesRead (drop from bytes.now) (tables m.new).messages (drop result bytes.now) }
 {
     let mut at = from;
-    for n in 0..numbers::MESSAGES {
+    for _n in 0..numbers::MESSAGES {
         let Some(value) = opening::value_at(bytes, at, tags::MESSAGE, tags::MESSAGE_SIZE) else {
             return at;
         };
@@ -112,7 +138,7 @@ fn read_held(m: &mut [u32], bytes: &[u8], from: usize) -> usize
         × HeldRead (drop from bytes.now) (tables m.new).held (drop result bytes.now) }
 {
     let mut at = from;
-    for n in 0..numbers::HELD {
+    for _n in 0..numbers::HELD {
         let Some(value) = opening::value_at(bytes, at, tags::HELD, tags::HELD_SIZE) else {
             return at;
         };
@@ -132,10 +158,10 @@ fn read_rest(m: &mut [u32], bytes: &[u8]) -> bool
     ensures { RestFound (tables m.old) bytes.now m.new result }
 {
     let threads = read_threads(m, bytes, tags::HEAD_FIELD);
-    let Some(ready) = read_names(m, bytes, threads, tags::READY) else {
+    let Some(ready) = read_names::<ReadyNames>(m, bytes, threads) else {
         return false;
     };
-    let Some(clock) = read_names(m, bytes, ready, tags::CLOCK) else {
+    let Some(clock) = read_names::<ClockNames>(m, bytes, ready) else {
         return false;
     };
     let messages = read_messages(m, bytes, clock);

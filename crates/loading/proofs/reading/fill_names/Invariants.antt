@@ -3,4 +3,4 @@ use Rattle.loading.proofs.Filling.{Naming}
 use Rattle.loading.proofs.reading.fill_names.Given as goal
 
 abbrev pub invariant-loop-name : goal.invariant-loop-name
-invariant-loop-name l = Naming l.tag l.names l.initial.m l.m l.name-index
+invariant-loop-name g l = Naming g.Q.Queue.TAG l.names l.initial.m l.m l.name-index

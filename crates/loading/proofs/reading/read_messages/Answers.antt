@@ -22,7 +22,7 @@ loop-n-preserved c =
     (c.value_at.ensures.opened _ c.in-Some.is).0
     (read_value c.value_at.ensures message_from c.in-Some.is c.read_message.ensures)
     c.fill_message.ensures
-    (one_longer (tables l.m).messages c.read_message.result l.n l.invariant.holds)
+    (one_longer (tables l.m).messages c.read_message.result l._n l.invariant.holds)
     (λ xs zs f e. refl)
     c.fill_message.auto.m
 

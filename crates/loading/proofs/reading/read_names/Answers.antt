@@ -4,4 +4,4 @@ use Rattle.loading.proofs.Filling.{named, named_now}
 use Rattle.loading.proofs.reading.read_names.Goals as goal
 
 pub returns : goal.returns
-returns c = (named c.args.tag _ _ _ c.fill_names.ensures, names_read _ _ _ _ _ c.in_ok-n.ensures (named_now c.args.tag _ _ _ c.fill_names.ensures))
+returns g c = (named g.Q.Queue.TAG _ _ _ c.fill_names.ensures, names_read _ _ _ _ _ (rw c.TAG.ensures at c.in_ok-n.ensures) (named_now g.Q.Queue.TAG _ _ _ c.fill_names.ensures))

@@ -22,7 +22,7 @@ loop-n-preserved c =
     (c.value_at.ensures.opened _ c.in-Some.is).0
     (read_value c.value_at.ensures thread_from c.in-Some.is c.read_thread.ensures)
     c.fill_thread.ensures
-    (one_longer (tables l.m).threads c.read_thread.result l.n l.invariant.holds)
+    (one_longer (tables l.m).threads c.read_thread.result l._n l.invariant.holds)
     (λ xs zs f e. refl)
     c.fill_thread.auto.m
 
