@@ -84,7 +84,8 @@ pub fn batch<'a>(m: &mut [u32], events: &'a [u8], out: &mut [u32], refusal: &mut
 {
     let taken = serve(m, events, out);
     *refusal = told(taken);
-    cuts::rest_at(events, taken.unwrap_or(0))
+    let used = taken.unwrap_or(0);
+    cuts::rest_at(events, used)
 }
 
 // The same by value.

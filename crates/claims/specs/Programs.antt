@@ -32,5 +32,5 @@ module _ {m : List ℕ} {r : Run} {input coming written end : List ℕ} (b : Beg
 -- In a buffer of 65,538 bytes or more no read is asked for nothing, so that lack of room is never told as the end.
 pub reads_with_room : {m : List ℕ} {r : Run} {input out m' input' out' : List ℕ} {v : Run} (ρ : Rounds m r input out m' input' out' v) →
     Right m r (length input) (length out) → ((i : ℕ) → get_or input i 0 < 256) → 160 ≤ length out →
-    65538 ≤ length input → ρ.served.filled ≡ 0 → 0 < length input - (ρ.served.held - ρ.served.at)
+    65538 ≤ length input → ρ.served.filled ≡ 0 → 0 < length input - (ρ.served.window.held - ρ.served.window.at)
 reads_with_room = stream_whole_runs.reads_with_room

@@ -55,8 +55,7 @@ fn run_in(m: &mut [u32], s: &[u8]) -> u64
     let mut at = 0;
     while at < s.len() {
         let end = field_end(s, at);
-        let d = step::step(m, &s[at..end]);
-        if d.refusal == 0 {
+        if step::step(m, &s[at..end]).refusal == 0 {
             accepted += 1;
         }
         at = end;
@@ -64,14 +63,14 @@ fn run_in(m: &mut [u32], s: &[u8]) -> u64
     accepted
 }
 
-// The same with the check at each event.
+// The same with the check at each event. The two loops are two: the step of the first asks that the tables stand, which a closure of one
+// loop could promise only by a law of its own, longer than this loop.
 fn run_lent(m: &mut [u32], s: &[u8]) -> u64 {
     let mut accepted: u64 = 0;
     let mut at = 0;
     while at < s.len() {
         let end = field_end(s, at);
-        let d = lending::step::step_in(m, &s[at..end]);
-        if d.refusal == 0 {
+        if lending::step::step_in(m, &s[at..end]).refusal == 0 {
             accepted += 1;
         }
         at = end;
@@ -112,15 +111,13 @@ pub extern "C" fn gauge_lent(s: &[u8]) -> u64 {
 // How often, of 1,000 times, a memory passes the check. The beats change, so that no check can be left out.
 fn passes(m: &mut [u32]) -> u64 {
     let mut passed: u64 = 0;
-    let mut i: u32 = 0;
-    while i < 1000 {
+    for i in 0..1000u32 {
         if m.len() > 6 {
             m[6] = i;
         }
         if check::check(m) {
             passed += 1;
         }
-        i += 1;
     }
     passed
 }
@@ -139,13 +136,10 @@ fn writes(m: &[u32], out: &mut [u8]) -> u64
     requires { (stands small m.now ≡ true) × (1241 ≤ length out.old) }
 {
     let mut written: u64 = 0;
-    let mut i: u32 = 0;
-    while i < 1000 {
-        let n = writing::write_dump(m, out);
-        if 0 < n {
+    for _ in 0..1000u32 {
+        if 0 < writing::write_dump(m, out) {
             written += 1;
         }
-        i += 1;
     }
     written
 }
@@ -165,13 +159,10 @@ fn reads(m: &mut [u32], bytes: &[u8]) -> u64
     requires { size small ≤ length m.old }
 {
     let mut good: u64 = 0;
-    let mut i: u32 = 0;
-    while i < 1000 {
-        let v = load::load_in(m, bytes);
-        if v.refusal == 0 {
+    for _ in 0..1000u32 {
+        if load::load_in(m, bytes).refusal == 0 {
             good += 1;
         }
-        i += 1;
     }
     good
 }
@@ -188,10 +179,8 @@ fn answers(m: &mut [u32], bytes: &[u8], times: u64) -> Verdict
     requires { size small ≤ length m.old }
 {
     let mut v = load::load_in(m, bytes);
-    let mut i: u64 = 1;
-    while i < times {
+    for _ in 1..times {
         v = load::load_in(m, bytes);
-        i += 1;
     }
     v
 }
@@ -228,8 +217,7 @@ pub extern "C" fn gauge_start(m: &mut [u32]) {
 // One step on a lent memory: its refusal. For the stack that it takes.
 #[unsafe(no_mangle)]
 pub extern "C" fn gauge_slice(m: &mut [u32], event: &[u8]) -> u8 {
-    let d = lending::step::step_in(m, event);
-    d.refusal
+    lending::step::step_in(m, event).refusal
 }
 
 // A batch on a lent memory: its refusal.
@@ -244,7 +232,5 @@ pub extern "C" fn gauge_batch(m: &mut [u32], events: &[u8], out: &mut [u32]) -> 
 #[unsafe(no_mangle)]
 pub extern "C" fn gauge_value(event: &[u8]) -> u8 {
     let t = start::start_value();
-    let o = lending::step::step_value(t, event);
-    let d = o.decision;
-    d.refusal
+    lending::step::step_value(t, event).decision.refusal
 }

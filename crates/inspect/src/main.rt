@@ -2,11 +2,11 @@
 // decimal.
 #![tactic(auto)]
 
-ghost use Rattle.std.specs.Prelude.{◌≡◌, ◌≤◌, length};
+ghost use Rattle.std.specs.Prelude.{◌≡◌, length};
 
 use lines::{decimal, tables};
 use loading::load;
-use printing::{Span, window};
+use printing::{Reading, Span};
 
 // Room for the input. All of it must be there to be judged, so that bytes that fill the buffer are not.
 const ROOM: usize = 1048576;
@@ -14,68 +14,53 @@ const ROOM: usize = 1048576;
 // Each round but the last reads a byte or more.
 const ROUNDS: u64 = 1048577;
 
+// Why the program stops before its output.
+const CANNOT_READ: &str = "inspect: cannot read\n";
+
+const CANNOT_WRITE: &str = "inspect: cannot write\n";
+
+const TOO_LONG: &str = "inspect: too long\n";
+
 fn buffer() -> [u8; 1048576]
     ensures { 1048576 ≡ length result }
 {
     [0; ROOM]
 }
 
-fn say(rt: &impl Eprint, text: &str) {
-    let _ = rt.eprint(text);
-}
-
-// The first n bytes are written, all of them; or nothing more is to be written.
-fn print(rt: &(impl Print + Eprint), out: &[u8], n: usize) -> bool
-    requires { n ≤ length out.now }
-{
-    if rt.write_all(&out[..n]).is_ok() {
-        return true;
-    }
-    say(rt, "inspect: cannot write\n");
-    false
-}
-
-// A line of two numbers.
-fn print_verdict(rt: &(impl Print + Eprint), refusal: u64, offset: u64, out: &mut [u8]) -> bool
-    requires { 65536 ≤ length out.old }
-    ensures { length out.new ≡ length out.old }
-{
-    let row = [refusal, offset];
-    let k = decimal::put_numbers(out, &row);
-    print(rt, out, k)
-}
-
-fn main(rt: HostRuntime) {
+fn run(rt: &HostRuntime) -> Result<(), &'static str> {
     let mut m = stream::room();
     let mut input = buffer();
     let mut out = stream::output_buffer();
     let mut w = Span {
         at: 0,
         held: 0,
-        ended: false,
-        failed: false,
+        reading: Reading::Open,
     };
     let mut reader = rt.stdin();
-    let mut rounds = ROUNDS;
-    while 0 < rounds && !w.ended {
-        rounds -= 1;
-        w = window::refill(&mut reader, &mut input, w);
-        if w.failed {
-            say(&rt, "inspect: cannot read\n");
-            return;
+    for _ in 0..ROUNDS {
+        if w.reading == Reading::Ended {
+            break;
+        }
+        w = w.refill(&mut reader, &mut input);
+        if w.reading == Reading::Failed {
+            return Err(CANNOT_READ);
         }
     }
-    let held = w.held;
-    if held == ROOM {
-        say(&rt, "inspect: too long\n");
-        return;
+    if w.held == ROOM {
+        return Err(TOO_LONG);
     }
-    let v = load::load_in(&mut m, &input[..held]);
-    if !print_verdict(&rt, v.refusal as u64, v.offset as u64, &mut out) {
-        return;
+    let v = load::load_in(&mut m, &input[..w.held]);
+    let k = decimal::put_numbers(&mut out, &[v.refusal as u64, v.offset as u64]);
+    rt.write_all(&out[..k]).or(Err(CANNOT_WRITE))?;
+    if v.refusal != 0 {
+        return Ok(());
     }
-    if v.refusal == 0 {
-        let n = tables::put_tables(&mut out, &m);
-        print(&rt, &out, n);
+    let n = tables::put_tables(&mut out, &m);
+    rt.write_all(&out[..n]).or(Err(CANNOT_WRITE))
+}
+
+fn main(rt: HostRuntime) {
+    if let Err(text) = run(&rt) {
+        let _ = rt.eprint(text);
     }
 }

@@ -1,11 +1,6 @@
--- `answers` is safe and ends: the memory keeps its length.
-use Prim.Native.Nat.{◌-◌}
-use mathlib.Core.Path.{◌≡◌}
-use lib.ListN.{length}
+-- `answers`: the memory keeps its length.
+use Rattle.std.proofs.Common.{◌≡◌, length}
 use Rattle.gauge.proofs.answers.Given as goal
 
-abbrev pub invariant-loop-i : goal.invariant-loop-i
-invariant-loop-i l = length l.m ≡ length l.initial.m
-
-abbrev pub decreases-loop-i : goal.decreases-loop-i
-decreases-loop-i l = l.times - l.i
+abbrev pub invariant-loop : goal.invariant-loop
+invariant-loop l = length l.m ≡ length l.initial.m

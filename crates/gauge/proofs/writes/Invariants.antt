@@ -1,11 +1,6 @@
--- `writes` is safe and ends: the dump of a memory that stands fits, and the buffer keeps its length.
-use Prim.Native.Nat.{◌≤◌, ◌-◌}
-use mathlib.Core.Path.{◌≡◌}
-use lib.ListN.{length}
+-- `writes`: the buffer keeps its length, and no more were written than were tried.
+use Rattle.std.proofs.Common.{◌≡◌, ◌≤◌, length}
 use Rattle.gauge.proofs.writes.Given as goal
 
-abbrev pub invariant-loop-i : goal.invariant-loop-i
-invariant-loop-i l = (length l.out ≡ length l.initial.out) × (l.written ≤ l.i) × (l.i ≤ 1000)
-
-abbrev pub decreases-loop-i : goal.decreases-loop-i
-decreases-loop-i l = 1000 - l.i
+abbrev pub invariant-loop : goal.invariant-loop
+invariant-loop l = (length l.out ≡ length l.initial.out) × (l.written ≤ l.counter)
