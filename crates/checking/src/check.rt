@@ -13,10 +13,7 @@ pub fn check_for(m: &[u32], threads: u32, blocks: u32) -> bool
     requires { (threads < names) × (blocks ≤ most_blocks) }
     ensures { result ≡ stands (record { threads = threads; blocks = blocks }) m.now }
 {
-    if !rows::shaped(m, threads, blocks) {
-        return false;
-    }
-    rules_met::rules_met(m)
+    rows::shaped(m, threads, blocks) && rules_met::rules_met(m)
 }
 
 pub fn check(m: &[u32]) -> bool

@@ -11,14 +11,12 @@ use borrow.Author.Tests.{lt-ltb, le-ltb, le-leb, lt-leb}
 use Rattle.rules.specs.Lists.{all, chain}
 use Rattle.rules.specs.Numbers.{names}
 use Rattle.memory.specs.Memory.{rows_of}
-use Rattle.indexing.proofs.Tallying.{Tallied, tally_next}
 use Rattle.memory.specs.Rows.{view, Roomy}
 use Rattle.memory.proofs.Sizes.{threads_long, messages_long, ready_long, clock_long}
 use Rattle.moving.proofs.Loops.{Passed, all_starts, all_next, all_fails, all_ends}
 use Rattle.store.specs.Store.{Shaped, tables, limits}
 use Rattle.indexing.specs.Queue.{queue}
 use Rattle.laws.specs.Words.{Thread}
-use Rattle.indexing.proofs.Indexing.{Filled, fill_next}
 use Rattle.indexing.proofs.Chains.{Linked, link_starts, link_next, link_fails, link_ends}
 
 module _ {A : Type 0} (p : A → Bool) (k : ℕ) (r : List A) where
@@ -115,17 +113,7 @@ module _ (m : List ℕ) (F : Shaped m) where
   names_within =
       le-leb (length (view (rows_of m)).threads) (rows_of m).limits.threads (omega (arith, read_length (rows_of m).count refl, counted))
 
--- the index, filled with names as they were read
-pub fill_read : (n : ℕ) (ts : List Thread) (at : List ℕ) (i x : ℕ) (d : Thread) → Filled n ts at i → 0 < i → x ≡ (get_or ts (i - 1) d).name →
-    x < 256 → Filled n ts (set at x (i - 1)) (i - 1)
-fill_read n ts at i x d F h e b = rw e (fill_next n ts at i d F h (omega arith))
-
 -- either queue has room for every thread
 pub queue_long : (m : List ℕ) (ready : Bool) → length (queue ready (rows_of m)) ≡ (rows_of m).limits.threads
 queue_long m true = ready_long m
 queue_long m false = clock_long m
-
--- counts, with names as they were read
-pub tally_read : (n : ℕ) (r c : List ℕ) (i x : ℕ) → Tallied n r c i → i < n → x ≡ get_or r i 0 → x < 256 →
-    Tallied n r (set c x (get_or c x 0 + 1)) (i + 1)
-tally_read n r c i x T h e b = rw e (tally_next n r c i T h (omega arith))

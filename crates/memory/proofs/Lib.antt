@@ -5,3 +5,4 @@ pub mod Helds
 pub mod Clears
 pub mod Sizes
 pub mod Walks
+pub mod Listing
