@@ -4,13 +4,12 @@ use Prim.Native.Nat.{ℕ}
 use mathlib.Core.Path.{◌≡◌, refl, sym, ap, ap₂, ◌∙◌}
 use mathlib.Core.Bool.{Bool, true, false, ◌&&◌, not}
 use mathlib.Core.List.{List, [], ◌∷◌, Memᴰ}
-use Rattle.rules.specs.Lists.{all, any, count}
-use Rattle.rules.specs.Tables.{named, live}
+use Rattle.rules.specs.Lists.{all, any}
 use Rattle.rules.specs.States.{receives}
 use Rattle.rules.specs.Waking.{accepts}
 use Rattle.rules.specs.TableRules.{no_match}
 use Rattle.laws.specs.Words.{State, Running, Ready, Receiving, Clock, Device, Trapped, Thread, Message}
-use Rattle.laws.proofs.Tests.{and_left, and_right, and_false, not_true, by_if, ◌&◌}
+use Rattle.laws.proofs.Tests.{and_false, not_true}
 use Rattle.laws.proofs.Tally.{none_any, not_any, all_of, all_at}
 
 -- ---- of any tests

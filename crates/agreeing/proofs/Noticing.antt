@@ -1,6 +1,6 @@
 -- The rule on notices by one pass over the messages: marks at the places of senders say how many notices of each were met.
 -- Names are distinct, so that a notice is the one thread's alone.
-use Rattle.std.proofs.Common.{◌==◌, ◌≡◌, ℕ, zero, suc, ◌+◌, ◌<◌, ◌≤◌, Bool, true, false, ◌&&◌, ◌||◌, not, leb, List, [], ◌∷◌, ◌++◌, length, get_or, take, refl, sym, ap, ◌∙◌, Some, None, position, arith}
+use Rattle.std.proofs.Common.{◌==◌, ◌≡◌, ℕ, zero, suc, ◌+◌, ◌<◌, ◌≤◌, Bool, true, false, ◌&&◌, ◌||◌, not, leb, List, [], ◌∷◌, ◌++◌, length, get_or, refl, sym, ap, ◌∙◌, Some, None, position, arith}
 use Rattle.std.proofs.Math.ListN.{set, replicate}
 use mathlib.Core.Logic.{◌≢◌}
 use borrow.Author.Tests.{le-leb, lt-leb}

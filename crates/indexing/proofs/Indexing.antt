@@ -19,7 +19,7 @@ use Rattle.laws.proofs.Single.{any_one, any_neither}
 use Rattle.indexing.proofs.Passing.{read_length}
 use Rattle.moving.proofs.Loops.{cut_cons, cut_end}
 use Rattle.moving.proofs.Found.{any_place, any_no, passes_at}
-use Rattle.std.proofs.Common.{cond, Option, Some, None, position}
+use Rattle.std.proofs.Common.{cond, Some, None, position}
 use Rattle.std.specs.Bool.{then_some}
 use Rattle.std.specs.Option.{is_some}
 use Rattle.memory.proofs.Listing.{position_is, some_if, found, nowhere}

@@ -1,17 +1,16 @@
 -- Marks: none at first, one more where a number is met, and what that says of how often it is met in all.
-use Prim.Native.Nat.{ℕ, suc, ◌+◌, ◌≤◌, ◌<◌}
+use Prim.Native.Nat.{ℕ, suc, ◌≤◌, ◌<◌}
 use mathlib.Core.Path.{◌≡◌, refl, sym, ap, ◌∙◌}
 use mathlib.Core.Logic.{◌≢◌, ⊎_elim}
 use mathlib.Core.Bool.{Bool, true, false}
 use mathlib.Core.List.{List, [], ◌∷◌, ◌++◌, Memᴰ, append-nil}
 use Rattle.std.proofs.Common.{append_assoc}
-use native.Mathlib.Numerals.{add-one}
 use native.Mathlib.Omega.{arith}
-use lib.ListN.{length, take, drop, get_or, set, replicate, length-set, length-replicate, get_or-replicate, take-append-drop}
-use lib.Seq.{get_or-set_same, get_or-set_other, take-suc, take-take}
-use Rattle.rules.specs.Lists.{one_if, all, count}
+use lib.ListN.{length, get_or, set, replicate, length-set, length-replicate, get_or-replicate}
+use lib.Seq.{get_or-set_same, get_or-set_other}
+use Rattle.rules.specs.Lists.{one_if, all}
 use Rattle.laws.proofs.Tests.{◌&◌, clash, same?}
-use Rattle.laws.proofs.Tally.{count_append, all_at}
+use Rattle.laws.proofs.Tally.{all_at}
 use Rattle.indexing.specs.Marks.{Marked}
 
 -- ---- marks
@@ -40,21 +39,6 @@ module _ (n : ℕ) (f g : ℕ → ℕ) (marks : List Bool) (M : Marked n f marks
             (same? k j);
         few = λ k l. ⊎_elim (λ e. rw e.0 (omega (arith, there))) (λ e. omega (arith, others k l e.0, M.few k l)) (same? k j);
       }
-
--- ---- how many pass of the first ones
-module _ {A : Type 0} (p : A → Bool) (xs : List A) where
-  pub count_first : (i : ℕ) (d : A) → i < length xs → count p (take (i + 1) xs) ≡ count p (take i xs) + one_if (p (get_or xs i d))
-  unfolding count
-  count_first i d h =
-      ap (λ (k : ℕ). count p (take k xs)) (add-one i)
-      ∙ (ap (count p) (take-suc xs i d h) ∙ (count_append p (take i xs) (get_or xs i d ∷ []) ∙ omega arith))
-
-  pub count_within : (i n : ℕ) → i ≤ n → count p (take i xs) ≤ count p (take n xs)
-  count_within i n h =
-      let a = ap (count p) (take-append-drop i (take n xs)) in
-      let b = count_append p (take i (take n xs)) (drop i (take n xs)) in
-      let e : count p (take i (take n xs)) ≡ count p (take i xs) = ap (count p) (take-take i n xs h) in
-      omega arith
 
 -- ---- a test of all
 module _ {A : Type 0} (p : A → Bool) where

@@ -13,7 +13,7 @@ use Rattle.rules.specs.Tables.{named}
 use Rattle.laws.specs.Words.{Thread, Parent, NoParent, ParentIs}
 use Rattle.laws.proofs.Tests.{same?}
 use Rattle.memory.specs.Rows.{place}
-use Rattle.std.proofs.Common.{cond, Option, Some, None, position, if◌then◌else◌}
+use Rattle.std.proofs.Common.{cond, Some, None, position, if◌then◌else◌}
 use Rattle.std.specs.Option.{unwrap_or}
 use Rattle.memory.proofs.Listing.{position_is}
 use Rattle.ranging.specs.Upward.{above, Upward}

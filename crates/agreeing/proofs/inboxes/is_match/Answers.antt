@@ -1,5 +1,5 @@
 -- `inboxes::is_match` meets its contract: the thread of the receiver's name is the only one that could accept the message.
-use Rattle.std.proofs.Common.{◌≡◌, ℕ, List, Some, None, position, sym, ap, ap₂, ◌∙◌}
+use Rattle.std.proofs.Common.{◌≡◌, ℕ, List, Some, position, sym, ap, ap₂, ◌∙◌}
 use Rattle.rules.specs.Tables.{named}
 use Rattle.rules.specs.States.{receives}
 use Rattle.laws.specs.Words.{Thread}

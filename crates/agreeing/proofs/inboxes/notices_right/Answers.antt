@@ -1,5 +1,5 @@
 -- `inboxes::notices_right` meets its contract. The loop: the notices passed are right, and the marks say of whom they were.
-use Rattle.std.proofs.Common.{◌≡◌, ◌∙◌, ℕ, List, position, refl, sym, ap, ap₂, arith}
+use Rattle.std.proofs.Common.{◌∙◌, ℕ, List, position, refl, sym, ap, ap₂, arith}
 use Rattle.rules.specs.Tables.{named}
 use Rattle.rules.specs.States.{awaits}
 use Rattle.rules.specs.Waking.{is_ordinary}

@@ -1,5 +1,5 @@
 -- `managers::names_live` meets its contract.
-use Rattle.std.proofs.Common.{rules, Bool, ℕ, List, ap, ◌&&◌, ◌||◌, ◌∙◌}
+use Rattle.std.proofs.Common.{rules, Bool, ℕ, List, ap, ◌&&◌, ◌∙◌}
 use borrow.Author.Tests.{tests}
 use Rattle.std.proofs.lemmas.Iterator.Search.{all_from_yields_List}
 use Rattle.std.proofs.lemmas.Iterator.Consumers.{YieldsList-from_first}

@@ -1,5 +1,5 @@
 -- `managers::trapped_right` meets its contract.
-use Rattle.std.proofs.Common.{rules, Bool, ◌&&◌, ◌||◌, ◌∙◌}
+use Rattle.std.proofs.Common.{rules, Bool, ◌∙◌}
 use borrow.Author.Tests.{tests}
 use Rattle.std.proofs.lemmas.Iterator.Search.{all_from_yields_List}
 use Rattle.std.proofs.lemmas.Iterator.Consumers.{YieldsList-from_first}

@@ -1,5 +1,5 @@
 -- `places::all_agree` meets its contract: each thread is looked up in the counts of both queues.
-use Rattle.std.proofs.Common.{◌≡◌, rules, Bool, ℕ, get_or, ◌∙◌}
+use Rattle.std.proofs.Common.{◌≡◌, rules, Bool, get_or, ◌∙◌}
 use borrow.Author.Tests.{tests}
 use Rattle.std.proofs.lemmas.Iterator.Search.{all_from_yields_List}
 use Rattle.std.proofs.lemmas.Iterator.Consumers.{YieldsList-from_first}

@@ -1,5 +1,5 @@
 -- `places::tally` meets its contract. The loop: the counts of the names passed.
-use Rattle.std.proofs.Common.{◌∷◌, ap, refl, length, length-append, ◌∙◌, subst, ℕ, List, ◌≡◌, get_or, sym, arith}
+use Rattle.std.proofs.Common.{◌∷◌, ap, refl, length, length-append, ◌∙◌, subst, ℕ, List, ◌≡◌, get_or, arith}
 use Rattle.rules.specs.Lists.{times_in}
 use Rattle.indexing.proofs.Marking.{walk_here, walk_next, walk_ends}
 use Rattle.indexing.proofs.Tallying.{tally_starts, tally_next, tally_low}

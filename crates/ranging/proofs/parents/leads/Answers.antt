@@ -1,6 +1,6 @@
 -- `parents::leads` meets its contract. The loop: the steps so far led to a place, neither before the start nor above all. n + 1 steps are
 -- tried.
-use Rattle.std.proofs.Common.{ap, ◌∙◌, ◌⊎◌, inl, inr, ℕ, get_or, arith}
+use Rattle.std.proofs.Common.{inl, inr, arith}
 use Rattle.ranging.proofs.Leading.{go_starts, go_next, go_leads, go_ends}
 use Rattle.ranging.proofs.parents.leads.Goals.{then-at-i-via-then-at-i, then-at-i-via-else-at-i+then-up-at}
 use Rattle.ranging.proofs.parents.leads.Goals as goal
