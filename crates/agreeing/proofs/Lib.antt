@@ -1,3 +1,2 @@
 pub mod Inboxing
 pub mod Noticing
-pub mod Widths

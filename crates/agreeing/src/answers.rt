@@ -1,11 +1,13 @@
 // Answers have their forms and wait only for ready threads.
+#![tactic(auto, unfolding(rules::specs::TableRules::answer_in_range, rules::specs::TableRules::is_nothing, store::specs::Store::Shaped, store::specs::Store::tables))]
+
 ghost use Rattle.std.specs.Prelude.{◌≡◌, ◌&&◌, ◌||◌};
 ghost use Rattle.rules.specs.States.{is_ready as is_ready_of};
 ghost use Rattle.rules.specs.TableRules.{answer_in_range as answer_in_range_of, is_nothing as is_nothing_of};
 ghost use Rattle.rules.specs.TableRules.{answers_right as answers_right_of};
 ghost use Rattle.store.specs.Store.{Shaped, tables};
 
-use memory::memory as rows;
+use memory::records;
 use rules::{Answer, State, numbers};
 use words::states;
 
@@ -14,23 +16,10 @@ fn answer_in_range(a: Answer) -> bool
     ensures { result ≡ answer_in_range_of a }
 {
     match a {
-        Answer::Nothing => true,
-        Answer::FromMessage(n, _) => n < numbers::NAMES,
-        Answer::FromNotice(n, _) => n < numbers::NAMES,
-        Answer::SenderGone(n) => n < numbers::NAMES,
-        Answer::Result(_) => true,
-    }
-}
-
-fn is_nothing(a: Answer) -> bool
-    ensures { result ≡ is_nothing_of a }
-{
-    match a {
-        Answer::Nothing => true,
-        Answer::FromMessage(_, _) => false,
-        Answer::FromNotice(_, _) => false,
-        Answer::SenderGone(_) => false,
-        Answer::Result(_) => false,
+        Answer::FromMessage(n, _) | Answer::FromNotice(n, _) | Answer::SenderGone(n) => {
+            n < numbers::NAMES
+        }
+        _ => true,
     }
 }
 
@@ -38,30 +27,12 @@ fn is_nothing(a: Answer) -> bool
 fn answer_right(s: State, a: Answer) -> bool
     ensures { result ≡ (answer_in_range_of a && (is_ready_of s || is_nothing_of a)) }
 {
-    if !answer_in_range(a) {
-        return false;
-    }
-    if states::is_ready(s) {
-        true
-    } else {
-        is_nothing(a)
-    }
+    answer_in_range(a) && (states::is_ready(s) || a == Answer::Nothing)
 }
 
 pub fn answers_right(m: &[u32]) -> bool
     requires { Shaped m.now }
     ensures { result ≡ answers_right_of (tables m.now) }
 {
-    let n = rows::count(m);
-    let mut i = 0;
-    while i < n {
-        let s = rows::state_at(m, i);
-        let a = rows::answer_at(m, i);
-        if answer_right(s, a) {
-            i += 1;
-        } else {
-            return false;
-        }
-    }
-    true
+    records::threads(m).all(|t| answer_right(t.state(), t.answer()))
 }

@@ -1,100 +1,68 @@
 // A receiver's inbox holds no match; senders and receivers are live; ordinary messages within the limit; notices.
-// Each rule is one pass over the messages: `at` says where the thread of a name stands.
-ghost use Rattle.std.specs.Prelude.{◌≡◌, ℕ, ◌≤◌, ◌==◌};
-ghost use Rattle.rules.specs.Lists.{count};
+// Each rule is one pass over the messages: the index says where the thread of a name stands.
+#![tactic(auto, unfolding(store::specs::Store::Shaped, store::specs::Store::tables, store::specs::Store::limits))]
+
+ghost use Rattle.std.specs.Prelude.{◌≡◌, ◌&&◌};
+ghost use Rattle.rules.specs.Lists.{any};
+ghost use Rattle.rules.specs.Tables.{named, live as live_of};
+ghost use Rattle.rules.specs.States.{awaits};
+ghost use Rattle.rules.specs.Waking.{accepts};
 ghost use Rattle.rules.specs.TableRules.{inboxes_right as inboxes_right_of, messages_right as messages_right_of};
 ghost use Rattle.rules.specs.TableRules.{notices_right as notices_right_of};
-ghost use Rattle.store.specs.Store.{Shaped, tables, limits};
-ghost use Rattle.indexing.specs.Index.{Indexed};
+ghost use Rattle.store.specs.Store.{tables, limits};
 
-use indexing::index;
+use indexing::index::Index;
 use memory::memory as rows;
+use memory::records::{self, MessageWords};
+use moving::messages;
 use words::states;
 
 // A message is a match exactly if the thread of its receiver's name would receive from its sender. Names are distinct.
-pub fn inboxes_right(m: &[u32], at: &[u8; 256]) -> bool
-    requires { Shaped m.now × Indexed (tables m.now).threads at.now
-        × ((k : ℕ) → count (λ t. k == t.name) (tables m.now).threads ≤ 1) }
-    ensures { result ≡ inboxes_right_of (tables m.now) }
+fn is_match(x: &Index<'_>, l: &MessageWords<'_>) -> bool
+    ensures { result ≡ any (accepts l.now) (tables x.now).threads }
 {
-    let n = rows::count(m);
-    let k = rows::letters(m);
-    let mut i = 0;
-    while i < k {
-        let to = rows::receiver_at(m, i);
-        let j = index::place_of(at, to);
-        if j < n {
-            let s = rows::state_at(m, j);
-            let from = rows::sender_at(m, i);
-            if states::receives(from, s) {
-                return false;
-            }
-            i += 1;
-        } else {
-            i += 1;
-        }
+    match x.place_of(l.to()) {
+        Some(j) => records::record(x.words(), j).receives(l.from()),
+        None => false,
     }
-    true
 }
 
-// Both ends of each message are live. Ordinary messages are counted on the way.
-pub fn messages_right(m: &[u32], at: &[u8; 256]) -> bool
-    requires { Shaped m.now × Indexed (tables m.now).threads at.now }
-    ensures { result ≡ messages_right_of (limits m.now) (tables m.now) }
+pub fn inboxes_right(x: &Index<'_>) -> bool
+    ensures { result ≡ inboxes_right_of (tables x.now) }
 {
-    let n = rows::count(m);
-    let k = rows::letters(m);
-    let mut used = 0;
-    let mut i = 0;
-    while i < k {
-        let to = rows::receiver_at(m, i);
-        if index::place_of(at, to) >= n {
-            return false;
-        }
-        let from = rows::sender_at(m, i);
-        if index::place_of(at, from) >= n {
-            return false;
-        }
-        let kind = rows::kind_at(m, i);
-        if states::is_ordinary(kind) {
-            used += 1;
-            i += 1;
-        } else {
-            i += 1;
-        }
-    }
-    used <= rows::blocks(m)
+    records::messages(x.words()).all(|l| !is_match(x, &l))
+}
+
+fn ends_live(x: &Index<'_>, l: &MessageWords<'_>) -> bool
+    ensures { result ≡ (live_of l.now.to (tables x.now) && live_of l.now.from (tables x.now)) }
+{
+    x.is_live(l.to()) && x.is_live(l.from())
+}
+
+pub fn messages_right(x: &Index<'_>) -> bool
+    ensures { result ≡ messages_right_of (limits x.now) (tables x.now) }
+{
+    let m = x.words();
+    records::messages(m).all(|l| ends_live(x, &l)) && messages::blocks_used(m) <= rows::blocks(m)
 }
 
 // A notice's sender is trapped on its receiver, and it is the sender's first: `seen` marks the places of senders met. Names are distinct.
-pub fn notices_right(m: &[u32], at: &[u8; 256]) -> bool
-    requires { Shaped m.now × Indexed (tables m.now).threads at.now
-        × ((k : ℕ) → count (λ t. k == t.name) (tables m.now).threads ≤ 1) }
-    ensures { result ≡ notices_right_of (tables m.now) }
+pub fn notices_right(x: &Index<'_>) -> bool
+    ensures { result ≡ notices_right_of (tables x.now) }
 {
-    let n = rows::count(m);
-    let k = rows::letters(m);
-    let mut seen = [0u8; 256];
-    let mut i = 0;
-    while i < k {
-        let kind = rows::kind_at(m, i);
-        if states::is_ordinary(kind) {
-            i += 1;
-        } else {
-            let l = rows::message_at(m, i);
-            let j = index::place_of(at, l.from);
-            if j >= n {
-                return false;
-            }
-            if !rows::trapped_on_at(m, j, l.to) {
-                return false;
-            }
-            if seen[j] != 0 {
-                return false;
-            }
-            seen[j] = 1;
-            i += 1;
+    let m = x.words();
+    let mut seen = [false; 256];
+    for l in records::messages(m) {
+        if states::is_ordinary(l.kind()) {
+            continue;
         }
+        let Some(j) = x.place_of(l.from()) else {
+            return false;
+        };
+        if !records::record(m, j).awaits(l.to()) || seen[j] {
+            return false;
+        }
+        seen[j] = true;
     }
     true
 }

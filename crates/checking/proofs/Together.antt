@@ -34,20 +34,25 @@ one_of true false c e f g h = g refl
 one_of true true false e f g h = h refl
 one_of true true true e f g h = absurd (true≢false e)
 
+-- groups of tests, each of which breaks x where it fails
+groups : (r p d m t x : Bool) → (r ≡ false → false ≡ x) → (p ≡ false → false ≡ x) → (d ≡ false → false ≡ x) → (m ≡ false → false ≡ x) →
+    (r ≡ true → p ≡ true → d ≡ true → m ≡ true → t ≡ x) → (r && p && d && m && t) ≡ x
+groups false p d m t x fr fp fd fm h = fr refl
+groups true false d m t x fr fp fd fm h = fp refl
+groups true true false m t x fr fp fd fm h = fd refl
+groups true true true false t x fr fp fd fm h = fm refl
+groups true true true true t x fr fp fd fm h = h refl refl refl refl
+
 -- ---- of the rules' tests
 
 module _ (L : Limits) (T : Tables) where
   -- Where the test at the place k of the list fails, the rules do.
-  pub broken_at : (k : ℕ) → get_or (table_tests L T) k true ≡ false → false ≡ table_rules L T
+  broken_at : (k : ℕ) → get_or (table_tests L T) k true ≡ false → false ≡ table_rules L T
   unfolding table_rules
   broken_at k e = fails_at (table_tests L T) k e
 
-  -- The same of the tests on messages.
-  pub broken_messages : (inboxes_right T && messages_right L T && notices_right T) ≡ false → false ≡ table_rules L T
-  broken_messages e = one_of (inboxes_right T) (messages_right L T) (notices_right T) e (broken_at 7) (broken_at 8) (broken_at 9)
-
   -- Where all but the three on threads pass, these decide.
-  pub three_left : ranges T ≡ true → names_right L T ≡ true → parents_right T ≡ true → places_agree T ≡ true → devices_right T ≡ true →
+  three_left : ranges T ≡ true → names_right L T ≡ true → parents_right T ≡ true → places_agree T ≡ true → devices_right T ≡ true →
       (inboxes_right T && messages_right L T && notices_right T) ≡ true → runner_right T.ready T.runner ≡ true → orders_right T ≡ true
       → (names_live T && trapped_right T && answers_right T) ≡ table_rules L T
   unfolding table_rules
@@ -57,6 +62,35 @@ module _ (L : Limits) (T : Tables) where
       (inboxes_right T) (messages_right L T) (notices_right T) (runner_right T.ready T.runner) (answers_right T) (orders_right T) pa
       pb pc pd pe q.0 q.1 q.2 pk pm
 
+  -- The groups in which the code asks them.
+  abbrev pub rows : Bool
+  rows = ranges T && names_right L T && orders_right T
+
+  abbrev pub on_places : Bool
+  on_places = parents_right T && places_agree T && runner_right T.ready T.runner
+
+  abbrev pub on_messages : Bool
+  on_messages = inboxes_right T && messages_right L T && notices_right T
+
+  abbrev pub on_threads : Bool
+  on_threads = names_live T && trapped_right T && answers_right T
+
+  pub broken_rows : rows ≡ false → false ≡ table_rules L T
+  broken_rows e = one_of (ranges T) (names_right L T) (orders_right T) e (broken_at 0) (broken_at 1) (broken_at 12)
+
+  pub in_groups : (rows && on_places && devices_right T && on_messages && on_threads) ≡ table_rules L T
+  in_groups =
+      groups rows on_places (devices_right T) on_messages on_threads (table_rules L T)
+      broken_rows
+      (λ e. one_of (parents_right T) (places_agree T) (runner_right T.ready T.runner) e (broken_at 2) (broken_at 3) (broken_at 10))
+      (broken_at 4)
+      (λ e. one_of (inboxes_right T) (messages_right L T) (notices_right T) e (broken_at 7) (broken_at 8) (broken_at 9))
+      (λ r p d m.
+      let a = three (ranges T) (names_right L T) (orders_right T) r in
+      let b = three (parents_right T) (places_agree T) (runner_right T.ready T.runner) p in
+      three_left a.0 a.1 b.0 b.1 d m b.2 a.2)
+
   -- Names that rise are distinct.
-  pub names_once : names_right L T ≡ true → (n : ℕ) → count (λ t. n == t.name) T.threads ≤ 1
-  names_once h n = up_once (λ t. t.name) n T.threads (three _ _ _ h).0
+  pub names_once : rows ≡ true → (n : ℕ) → count (λ t. n == t.name) T.threads ≤ 1
+  names_once h n =
+      up_once (λ t. t.name) n T.threads (three _ _ _ (three (ranges T) (names_right L T) (orders_right T) h).1).0

@@ -2,19 +2,27 @@
 use Rattle.std.proofs.Common.{if◌then◌else◌}
 use Prim.Native.Nat.{ℕ, suc, ◌+◌, ◌-◌, ◌≤◌, ◌<◌}
 use mathlib.Core.Path.{◌≡◌, refl, sym, ap, ◌∙◌}
-use mathlib.Core.Bool.{Bool, true, false}
+use mathlib.Core.Bool.{Bool, true, false, ◌&&◌}
 use mathlib.Core.List.{List, ◌∷◌}
 use native.Mathlib.Omega.{arith}
 use lib.Dec.{ltb, eqb}
 use lib.ListN.{length, take, drop, get_or, set, replicate, length-set, length-replicate, get_or-replicate}
-use lib.Seq.{get_or-set_same, get_or-set_other}
+use lib.Seq.{get_or-set_same, get_or-set_other, get_or-take}
 use borrow.Author.Tests.{eqb-true, eqb-false}
-use Rattle.rules.specs.Lists.{any}
+use Rattle.rules.specs.Lists.{any, count}
 use Rattle.rules.specs.Tables.{named}
 use Rattle.rules.specs.declared.Thread.{Thread}
-use Rattle.memory.specs.Rows.{place}
+use Rattle.memory.specs.Rows.{view, place, no_thread}
+use Rattle.memory.specs.Memory.{rows_of}
+use Rattle.store.specs.Store.{Shaped, tables}
+use Rattle.laws.proofs.Single.{any_one, any_neither}
+use Rattle.indexing.proofs.Passing.{read_length}
 use Rattle.moving.proofs.Loops.{cut_cons, cut_end}
-use Rattle.moving.proofs.Found.{any_place}
+use Rattle.moving.proofs.Found.{any_place, any_no, passes_at}
+use Rattle.std.proofs.Common.{cond, Some, None, position}
+use Rattle.std.specs.Bool.{then_some}
+use Rattle.std.specs.Option.{is_some}
+use Rattle.memory.proofs.Listing.{position_is, some_if, found, nowhere}
 use Rattle.indexing.specs.Index.{Indexed}
 
 -- ---- filling it
@@ -72,16 +80,50 @@ module _ (n : ℕ) (ts : List Thread) where
       let e : i ≡ 0 = omega arith in
       record { size = F.size; finds = λ m w. F.so m w ∙ ap (λ (j : ℕ). j + place (named m) (drop j (take n ts))) e ∙ omega arith }
 
+-- names as they were read
+pub fill_read : (n : ℕ) (ts : List Thread) (at : List ℕ) (i x : ℕ) (d : Thread) → Filled n ts at i → 0 < i → x ≡ (get_or ts (i - 1) d).name →
+    x < 256 → Filled n ts (set at x (i - 1)) (i - 1)
+fill_read n ts at i x d F h e b = rw e (fill_next n ts at i d F h (omega arith))
+
 -- ---- a look into it
 
-module _ (ts : List Thread) (at : List ℕ) (I : Indexed ts at) (m : ℕ) (low : m < 256) where
-  -- a name is live exactly if its place is below the number of threads
-  look_any : any (named m) ts ≡ ltb (get_or at m 0) (length ts)
-  look_any = any_place (named m) ts ∙ ap (λ (k : ℕ). ltb k (length ts)) (sym (I.finds m low))
+some_then : (b : Bool) (k : ℕ) → then_some b k ≡ cond b (Some k) None
+some_then true k = refl
+some_then false k = refl
 
-  -- the same where i was found there, of n threads
-  pub look_live : (i n : ℕ) → i ≡ get_or at m 0 → length ts ≡ n → ltb i n ≡ any (named m) ts
-  look_live i n e l = sym (look_any ∙ (ap (λ (k : ℕ). ltb k (length ts)) (sym e) ∙ ap (ltb i) l))
+-- where i was found there, of n threads
+pub look_position : (ts : List Thread) (at : List ℕ) → Indexed ts at → (m : ℕ) → m < 256 → (i n : ℕ) → i ≡ get_or at m 0 → length ts ≡ n →
+    then_some (ltb i n) i ≡ position (named m) ts
+look_position ts at I m low i n e l = some_then _ i ∙ rw (position_is (named m) ts, l, e, I.finds m low) refl
 
-  pub look_place : (i : ℕ) → i ≡ get_or at m 0 → i ≡ place (named m) ts
-  look_place i e = e ∙ I.finds m low
+-- one that passes has a place
+pub position_any : {A : Type 0} (p : A → Bool) (xs : List A) → is_some (position p xs) ≡ any p xs
+position_any p xs = rw (position_is p xs, any_place p xs) (some_if _ _)
+
+module _ {A : Type 0} (p q : A → Bool) (xs : List A) where
+  -- where one at most passes p, whether any passes p and q is what the one found says
+  pub found_there : (j : ℕ) (d : A) → count p xs ≤ 1 → position p xs ≡ Some j → any (λ x. p x && q x) xs ≡ q (get_or xs j d)
+  found_there j d c e =
+      let f = found p j xs e in
+      any_one p q xs j d c f.1 (ap (λ (k : ℕ). p (get_or xs k d)) f.0 ∙ passes_at p d xs (omega (arith, f.0, f.1)))
+
+  pub none_found : position p xs ≡ None → any (λ x. p x && q x) xs ≡ false
+  none_found e = any_neither p q xs (any_no p xs (nowhere p xs e))
+
+-- the thread of a name, as the memory shows it at its place
+module _ (m : List ℕ) (F : Shaped m) where
+  pub place_within : (n j : ℕ) → position (named n) (tables m).threads ≡ Some j → j < (rows_of m).count
+  unfolding tables
+  place_within n j e = omega (arith, (found (named n) j (view (rows_of m)).threads e).1, read_length m F (rows_of m).count refl)
+
+  pub thread_there : (n j : ℕ) → position (named n) (tables m).threads ≡ Some j →
+      get_or (tables m).threads j no_thread ≡ get_or (rows_of m).threads j no_thread
+  unfolding tables
+  thread_there n j e = get_or-take (rows_of m).count (rows_of m).threads j no_thread (place_within n j e)
+
+  pub thread_found : ((k : ℕ) → count (named k) (tables m).threads ≤ 1) → (n j : ℕ) → position (named n) (tables m).threads ≡ Some j →
+      (q : Thread → Bool) → any (λ t. named n t && q t) (tables m).threads ≡ q (get_or (rows_of m).threads j no_thread)
+  unfolding tables
+  thread_found once n j e q =
+      found_there (named n) q _ j no_thread (once n) e
+      ∙ ap q (thread_there n j e)

@@ -1,6 +1,4 @@
-pub mod Chains
 pub mod Indexing
-pub mod Looking
 pub mod Marking
 pub mod Passing
 pub mod Standing

@@ -1,59 +1,44 @@
 -- Marks: none at first, one more where a number is met, and what that says of how often it is met in all.
-use Prim.Native.Nat.{ℕ, suc, ◌+◌, ◌≤◌, ◌<◌}
+use Prim.Native.Nat.{ℕ, suc, ◌≤◌, ◌<◌}
 use mathlib.Core.Path.{◌≡◌, refl, sym, ap, ◌∙◌}
 use mathlib.Core.Logic.{◌≢◌, ⊎_elim}
 use mathlib.Core.Bool.{Bool, true, false}
-use mathlib.Core.List.{List, [], ◌∷◌, Memᴰ}
-use native.Mathlib.Numerals.{add-one}
+use mathlib.Core.List.{List, [], ◌∷◌, ◌++◌, Memᴰ, append-nil}
+use Rattle.std.proofs.Common.{append_assoc}
 use native.Mathlib.Omega.{arith}
-use lib.ListN.{length, take, drop, get_or, set, replicate, length-set, length-replicate, get_or-replicate, take-append-drop}
-use lib.Seq.{get_or-set_same, get_or-set_other, take-suc, take-take}
-use Rattle.rules.specs.Lists.{one_if, all, count}
+use lib.ListN.{length, get_or, set, replicate, length-set, length-replicate, get_or-replicate}
+use lib.Seq.{get_or-set_same, get_or-set_other}
+use Rattle.rules.specs.Lists.{one_if, all}
 use Rattle.laws.proofs.Tests.{◌&◌, clash, same?}
-use Rattle.laws.proofs.Tally.{count_append, all_at}
+use Rattle.laws.proofs.Tally.{all_at}
 use Rattle.indexing.specs.Marks.{Marked}
 
 -- ---- marks
 
-pub none_marked : (n size : ℕ) (f : ℕ → ℕ) → n ≤ size → ((k : ℕ) → f k ≡ 0) → Marked n f (replicate size 0)
+pub none_marked : (n size : ℕ) (f : ℕ → ℕ) → n ≤ size → ((k : ℕ) → f k ≡ 0) → Marked n f (replicate size false)
 none_marked n size f h z =
     record {
-      long = omega (arith, length-replicate {A = ℕ} size 0);
-      says = λ k l. get_or-replicate size k 0 0 (omega arith) ∙ sym (z k);
+      long = omega (arith, length-replicate {A = Bool} size false);
+      says = λ k l. ap one_if (get_or-replicate size k false false (omega arith)) ∙ sym (z k);
       few = λ k l. omega (arith, z k);
     }
 
-module _ (n : ℕ) (f g : ℕ → ℕ) (marks : List ℕ) (M : Marked n f marks) where
+module _ (n : ℕ) (f g : ℕ → ℕ) (marks : List Bool) (M : Marked n f marks) where
   -- nothing more is met
   pub still_marked : ((k : ℕ) → k < n → g k ≡ f k) → Marked n g marks
   still_marked e = record { long = M.long; says = λ k l. M.says k l ∙ sym (e k l); few = λ k l. omega (arith, e k l, M.few k l) }
 
   -- a number is met, and no other
-  pub marked_there : (j : ℕ) → j < n → g j ≡ 1 → ((k : ℕ) → k < n → k ≢ j → g k ≡ f k) → Marked n g (set marks j 1)
+  pub marked_there : (j : ℕ) → j < n → g j ≡ 1 → ((k : ℕ) → k < n → k ≢ j → g k ≡ f k) → Marked n g (set marks j true)
   marked_there j h there others =
       record {
-        long = omega (arith, length-set marks j 1, M.long);
+        long = omega (arith, length-set marks j true, M.long);
         says = λ k l. ⊎_elim
-            (λ e. rw e.0 (get_or-set_same marks j 1 0 (omega (arith, M.long)) ∙ sym there))
-            (λ e. get_or-set_other marks j k 1 0 e.0 ∙ M.says k l ∙ sym (others k l e.0))
+            (λ e. rw e.0 (ap one_if (get_or-set_same marks j true false (omega (arith, M.long))) ∙ sym there))
+            (λ e. ap one_if (get_or-set_other marks j k true false e.0) ∙ M.says k l ∙ sym (others k l e.0))
             (same? k j);
         few = λ k l. ⊎_elim (λ e. rw e.0 (omega (arith, there))) (λ e. omega (arith, others k l e.0, M.few k l)) (same? k j);
       }
-
--- ---- how many pass of the first ones
-module _ {A : Type 0} (p : A → Bool) (xs : List A) where
-  pub count_first : (i : ℕ) (d : A) → i < length xs → count p (take (i + 1) xs) ≡ count p (take i xs) + one_if (p (get_or xs i d))
-  unfolding count
-  count_first i d h =
-      ap (λ (k : ℕ). count p (take k xs)) (add-one i)
-      ∙ (ap (count p) (take-suc xs i d h) ∙ (count_append p (take i xs) (get_or xs i d ∷ []) ∙ omega arith))
-
-  pub count_within : (i n : ℕ) → i ≤ n → count p (take i xs) ≤ count p (take n xs)
-  count_within i n h =
-      let a = ap (count p) (take-append-drop i (take n xs)) in
-      let b = count_append p (take i (take n xs)) (drop i (take n xs)) in
-      let e : count p (take i (take n xs)) ≡ count p (take i xs) = ap (count p) (take-take i n xs h) in
-      omega arith
 
 -- ---- a test of all
 module _ {A : Type 0} (p : A → Bool) where
@@ -68,3 +53,14 @@ module _ {A : Type 0} (p : A → Bool) where
       go : (b : Bool) → all p l ≡ b → b ≡ false
       go true k = absurd (clash (all_at p l k x m) e)
       go false k = refl
+
+-- ---- a walk over a list: the items passed, and what is left
+module _ {A : Type 0} (done : List A) {left all : List A} (split : done ++ left ≡ all) where
+  pub walk_here : (x : A) (next : List A) → left ≡ x ∷ next → done ++ x ∷ next ≡ all
+  walk_here x next e = ap (λ (l : List A). done ++ l) (sym e) ∙ split
+
+  pub walk_next : (x : A) (next : List A) → left ≡ x ∷ next → (done ++ x ∷ []) ++ next ≡ all
+  walk_next x next e = append_assoc done (x ∷ []) next ∙ walk_here x next e
+
+  pub walk_ends : left ≡ [] → done ≡ all
+  walk_ends e = sym (append-nil done) ∙ ap (λ (l : List A). done ++ l) (sym e) ∙ split

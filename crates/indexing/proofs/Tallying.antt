@@ -1,53 +1,42 @@
--- How often each name stands in a row, by one pass: the count of each so far and that of the rest are its count in all.
-use Rattle.std.proofs.Common.{◌==◌}
-use Prim.Native.Nat.{ℕ, ◌+◌, ◌≤◌, ◌<◌}
-use mathlib.Core.Path.{◌≡◌, refl, sym, subst, ap, ◌∙◌}
-use mathlib.Core.Bool.{Bool, true, false}
-use mathlib.Core.List.{List}
-use native.Mathlib.Omega.{arith}
-use lib.Dec.{eqb}
-use lib.ListN.{length, take, get_or, set, replicate, length-set, length-replicate, get_or-replicate}
+-- How often each name stands in a row, by one pass over it.
+use Rattle.std.proofs.Common.{◌==◌, ◌≡◌, ℕ, zero, suc, ◌+◌, ◌<◌, ◌≤◌, List, [], ◌∷◌, ◌++◌, length, get_or, refl, ap, ◌∙◌, arith}
+use Rattle.std.proofs.Math.ListN.{set, replicate, length-set, length-replicate}
 use lib.Seq.{get_or-set_same, get_or-set_other}
-use borrow.Author.Tests.{eqb-true, eqb-false}
-use Rattle.rules.specs.Lists.{times_in}
-use Rattle.moving.proofs.Loops.{Counted, count_starts, count_more, count_skips, count_ends}
+use mathlib.Core.Logic.{⊎_elim}
+use borrow.Author.Tests.{eq-eqb, ne_eqb}
+use Rattle.rules.specs.Lists.{one_if, count, times_in}
+use Rattle.laws.proofs.Tests.{same?}
+use Rattle.laws.proofs.Tally.{count_append, count_length}
 
-module _ (n : ℕ) (r : List ℕ) where
-  pub record Tallied (c : List ℕ) (i : ℕ) : Type 0 where
-    pub within : i ≤ n
-    pub size : length c ≡ 256
-    pub so : (m : ℕ) → m < 256 → Counted (λ (x : ℕ). m == x) n r (get_or c m 0) i
+-- c has how often each name stands among those passed
+pub record Tallied (c : List ℕ) (done : List ℕ) : Type 0 where
+  pub size : length c ≡ 256
+  pub so : (k : ℕ) → get_or c k 0 ≡ times_in done k
 
-  pub tally_starts : n ≤ length r → Tallied (replicate 256 0) 0
-  tally_starts h =
-      record {
-        within = omega arith;
-        size = length-replicate {A = ℕ} 256 0;
-        so = λ m k. subst (λ (j : ℕ). Counted (λ (x : ℕ). m == x) n r j 0) (sym (get_or-replicate 256 m 0 0 k)) (count_starts _ n r h);
-      }
+zeros : (n k : ℕ) → get_or {A = ℕ} (replicate n 0) k 0 ≡ 0
+zeros zero k = refl
+zeros (suc n) zero = refl
+zeros (suc n) (suc k) = zeros n k
 
-  one_more : (c : List ℕ) (i m : ℕ) → Tallied c i → i < n → get_or r i 0 < 256 → m < 256 → (b : Bool) → eqb m (get_or r i 0) ≡ b →
-      Counted (λ (x : ℕ). m == x) n r (get_or (set c (get_or r i 0) (get_or c (get_or r i 0) 0 + 1)) m 0) (i + 1)
-  one_more c i m T h l k true t =
-      let x : ℕ = get_or r i 0 in
-      let e : m ≡ x = eqb-true m x t in
-      subst (λ (j : ℕ). Counted (λ (y : ℕ). m == y) n r j (i + 1))
-      (ap (λ (j : ℕ). get_or c j 0 + 1) e
-      ∙ (sym (get_or-set_same c x (get_or c x 0 + 1) 0 (omega (arith, T.size))) ∙ ap (λ (j : ℕ). get_or (set c x (get_or c x 0 + 1)) j 0) (sym e)))
-      (count_more _ n r (get_or c m 0) i 0 (T.so m k) h t)
-  one_more c i m T h l k false t =
-      let x : ℕ = get_or r i 0 in
-      subst (λ (j : ℕ). Counted (λ (y : ℕ). m == y) n r j (i + 1)) (sym (get_or-set_other c x m (get_or c x 0 + 1) 0 (eqb-false m x t)))
-      (count_skips _ n r (get_or c m 0) i 0 (T.so m k) h t)
+pub tally_starts : Tallied (replicate 256 0) []
+unfolding count
+tally_starts = record { size = length-replicate {A = ℕ} 256 0; so = zeros 256 }
 
-  pub tally_next : (c : List ℕ) (i : ℕ) → Tallied c i → i < n → get_or r i 0 < 256 →
-      Tallied (set c (get_or r i 0) (get_or c (get_or r i 0) 0 + 1)) (i + 1)
-  tally_next c i T h l =
-      record { within = omega arith; size = length-set c _ _ ∙ T.size; so = λ m k. one_more c i m T h l k (eqb m (get_or r i 0)) refl }
+module _ (c done : List ℕ) (x : ℕ) (T : Tallied c done) (low : x < 256) where
+  one_more : (k : ℕ) → times_in (done ++ x ∷ []) k ≡ times_in done k + one_if (k == x)
+  unfolding count
+  one_more k = count_append (λ m. k == m) done (x ∷ []) ∙ omega arith
 
-  -- no count is above the number of entries passed
-  pub tally_low : (c : List ℕ) (i m : ℕ) → Tallied c i → m < 256 → get_or c m 0 ≤ i
-  tally_low c i m T k = (T.so m k).low
+  pub tally_next : (j : ℕ) → j ≡ x → Tallied (set c j (get_or c j 0 + 1)) (done ++ x ∷ [])
+  tally_next j e = rw e (record {
+    size = length-set c x _ ∙ T.size;
+    so = λ k. ⊎_elim
+        (λ q. rw q.0 (get_or-set_same c x (get_or c x 0 + 1) 0 (omega (arith, T.size))
+        ∙ omega (arith, T.so x, one_more x, ap one_if (eq-eqb x x refl))))
+        (λ q. get_or-set_other c x k (get_or c x 0 + 1) 0 q.0 ∙ omega (arith, T.so k, one_more k, ap one_if (ne_eqb k x q.0)))
+        (same? k x);
+  })
 
-  pub tally_ends : (c : List ℕ) (i m : ℕ) → Tallied c i → n ≤ i → m < 256 → get_or c m 0 ≡ times_in (take n r) m
-  tally_ends c i m T h k = count_ends _ n r (get_or c m 0) i (T.so m k) h
+  -- no count is above the number of names passed
+  pub tally_low : (j : ℕ) → j ≡ x → get_or c j 0 ≤ length done
+  tally_low j e = rw e (omega (arith, T.so x, count_length (λ m. x == m) done))

@@ -1,7 +1,7 @@
 -- The words of a memory are below the wrap by their type, and so are the counts and words that it shows.
 use Rattle.std.proofs.Common.{◌==◌}
 use Prim.Native.Nat.{ℕ, zero, suc, ◌+◌, ◌<◌}
-use mathlib.Core.Path.{◌≡◌, refl, ap, ap₂, ◌∙◌}
+use mathlib.Core.Path.{◌≡◌, refl, ap}
 use mathlib.Core.Bool.{Bool, true, ◌&&◌}
 use mathlib.Core.List.{List, [], ◌∷◌, ◌++◌}
 use native.Mathlib.Omega.{arith}
@@ -74,19 +74,18 @@ module _ (m : List ℕ) (low : (k : ℕ) → word m k < 4294967296) where
   held_low : (k : ℕ) → all (λ h. ltb h.word wrap) (held_of m k) ≡ true
   held_low k = held_word k (word m (held_place k)) (word m (held_place k + 1)) (low (held_place k + 1))
 
-  five : (a b c d e : Bool) → a ≡ true → b ≡ true → c ≡ true → e ≡ true → (f : Bool) → (d && f) ≡ (a && b && c && d && e && f)
-  five a b c d e p q r s f = rw (p, q, r, s, and_true d)
+  told : (a b c d e f g h : Bool) → c ≡ true → e ≡ true → g ≡ d → h ≡ f → (a && b && g && h) ≡ (a && b && c && d && e && f)
+  told a b c d e f g h p q r s = rw (p, q, r, s, and_true (a && b), and_true (a && b && d)) refl
 
-  -- where the name given last and the ticks since the beat are in their range, the ranges are those of threads and held words
-  pub ranges_left : (rows_of m).last < names → (rows_of m).since < beat_ticks →
-      (all (λ t. state_in_range t.state) (view (rows_of m)).threads && all (λ h. ltb h.device devices) (rows_of m).held) ≡ ranges
-      (view (rows_of m))
+  -- words are in their range by their type: the name given last, the ticks since the beat, states and devices are left to test
+  pub ranges_told : (ltb (rows_of m).last names && ltb (rows_of m).since beat_ticks
+      && all (λ t. state_in_range t.state) (view (rows_of m)).threads && all (λ h. ltb h.device devices) (rows_of m).held)
+      ≡ ranges (view (rows_of m))
   unfolding rows_of
-  ranges_left h k =
-      ap₂ ◌&&◌
+  ranges_told =
+      told (ltb (rows_of m).last names) (ltb (rows_of m).since beat_ticks) _ _ _ _ _ _ (lt-ltb (rows_of m).beats wrap (low 6))
+      (all_take (λ (x : Message). ltb x.word wrap) (rows_of m).letters (rows_of m).messages (all_row _ (message_of m) 0 _ word_low))
       (all_beside (λ (t : Thread). ltb t.ticks wrap) (λ (t : Thread). state_in_range t.state) (view (rows_of m)).threads
       (all_take _ (rows_of m).count (rows_of m).threads (all_row _ (thread_of m) 0 _ ticks_low)))
       (all_behind (λ (h : Held). ltb h.word wrap) (λ (h : Held). ltb h.device devices) (rows_of m).held
       (all_each _ (held_of m) (from_on 0 devices) held_low))
-      ∙ five _ _ _ _ _ (lt-ltb _ _ h) (lt-ltb _ _ k) (lt-ltb (rows_of m).beats wrap (low 6))
-      (all_take (λ (x : Message). ltb x.word wrap) (rows_of m).letters (rows_of m).messages (all_row _ (message_of m) 0 _ word_low)) _

@@ -1,46 +1,65 @@
 // Where each name stands among the threads: a rule then finds a name in one look, and the check stays a few passes.
-ghost use Rattle.std.specs.Prelude.{◌≡◌, List, length, get_or};
-ghost use Rattle.rules.specs.Lists.{any};
-ghost use Rattle.rules.specs.Tables.{named};
-ghost use Rattle.rules.specs.declared.Thread.{Thread as ThreadIs};
+#![tactic(auto, unfolding(store::specs::Store::Shaped, store::specs::Store::tables))]
+
+ghost use Rattle.std.specs.Prelude.{◌≡◌, ◌≤◌, ℕ, List, position, length, ◌==◌};
+ghost use Rattle.rules.specs.Lists.{count};
+ghost use Rattle.rules.specs.Tables.{named, live as live_of};
 ghost use Rattle.store.specs.Store.{Shaped, tables};
-ghost use Rattle.indexing.specs.Index.{Indexed};
+ghost use Rattle.indexing.specs.Index.{Indexes};
 
-use memory::memory as rows;
+use memory::{memory as rows, records};
+use std::marker::Model;
 
-// From the last thread to the first, so that the first of a name stands.
-pub fn index(m: &[u32]) -> [u8; 256]
-    requires { Shaped m.now }
-    ensures { Indexed (tables m.now).threads result }
-{
-    let n = rows::count(m);
-    let mut at = [n as u8; 256];
-    let mut i = n;
-    while 0 < i {
-        i -= 1;
-        let x = rows::name_at(m, i);
-        at[x as usize] = i as u8;
+// A memory that is shaped and shows each name once at most, with a place for each name: its thread's, or how many threads there are where
+// nobody has it. A byte for a place keeps it within four lines of a cache.
+#[derive(Drop)]
+pub struct Index<'a> {
+    m: &'a [u32],
+    at: [u8; 256],
+    count: usize,
+}
+
+impl<'a> Model for Index<'a> {
+    ghost Value = { List ℕ };
+
+    ghost view = { λ x. x.m.now };
+
+    ghost invariant = { λ x. Indexes x.m.now x.at x.count };
+}
+
+impl<'a> Index<'a> {
+    pub fn of(m: &'a [u32]) -> Self
+        requires { Shaped m.now × ((k : ℕ) → count (λ t. k == t.name) (tables m.now).threads ≤ 1) }
+        ensures { result ≡ m.now }
+    {
+        let count = rows::count(m);
+        let mut at = [count as u8; 256];
+        for i in (0..count).rev() {
+            at[usize::from(records::record(m, i).name())] = i as u8;
+        }
+        Index { m, at, count }
     }
-    at
-}
 
-// A byte as a place. A call asks for no bound of an array's byte, where a cast would.
-pub fn wide(b: u8) -> usize
-    ensures { result ≡ b }
-{
-    b as usize
-}
+    // The memory.
+    pub fn words(&self) -> &'a [u32]
+        ensures same { result.now ≡ self.now }
+        ensures shaped { Shaped result.now }
+        ensures once { (k : ℕ) → count (λ t. k == t.name) (tables result.now).threads ≤ 1 }
+    {
+        self.m
+    }
 
-// The place of a name.
-pub fn place_of(at: &[u8; 256], name: u8) -> usize
-    ensures { result ≡ get_or at.now name 0 }
-{
-    wide(at[name as usize])
-}
+    // The place of a name, if a thread has it.
+    pub fn place_of(&self, name: u8) -> Option<usize>
+        ensures { result ≡ position (named name) (tables self.now).threads }
+    {
+        let i = usize::from(self.at[usize::from(name)]);
+        (i < self.count).then_some(i)
+    }
 
-// Has one of n threads this name? The threads are those that the index is of.
-pub fn is_live(at: &[u8; 256], n: usize, name: u8) -> bool
-    ensures { (ts : List ThreadIs) → Indexed ts at.now → length ts ≡ n → result ≡ any (named name) ts }
-{
-    place_of(at, name) < n
+    pub fn is_live(&self, name: u8) -> bool
+        ensures { result ≡ live_of name (tables self.now) }
+    {
+        self.place_of(name).is_some()
+    }
 }

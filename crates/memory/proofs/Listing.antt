@@ -1,5 +1,5 @@
 -- The rules' words on lists are the library's.
-use Rattle.std.proofs.Common.{◌≡◌, ℕ, ◌<◌, ◌≤◌, ltb, ◌+◌, Bool, true, false, List, [], ◌∷◌, length, cond, ◌||◌, ◌&&◌, filter, refl, ap, sym, ◌∙◌, arith, if◌then◌else◌, Option, Some, None}
+use Rattle.std.proofs.Common.{◌≡◌, ℕ, suc, ◌<◌, ◌≤◌, ltb, ◌+◌, Bool, true, false, List, [], ◌∷◌, length, cond, ◌||◌, ◌&&◌, filter, refl, ap, sym, ◌∙◌, arith, if◌then◌else◌, Option, Some, None}
 use Rattle.std.specs.List.{list_all, list_any, position_or_len, position}
 use Rattle.std.specs.Option.{unwrap_or, is_some}
 use borrow.Author.Tests.{ltb-true, ltb-false}

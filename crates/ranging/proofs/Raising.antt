@@ -13,6 +13,9 @@ use Rattle.rules.specs.Tables.{named}
 use Rattle.laws.specs.Words.{Thread, Parent, NoParent, ParentIs}
 use Rattle.laws.proofs.Tests.{same?}
 use Rattle.memory.specs.Rows.{place}
+use Rattle.std.proofs.Common.{cond, Some, None, position, if◌then◌else◌}
+use Rattle.std.specs.Option.{unwrap_or}
+use Rattle.memory.proofs.Listing.{position_is}
 use Rattle.ranging.specs.Upward.{above, Upward}
 
 -- ---- what stands above a thread
@@ -37,6 +40,15 @@ module _ (ts : List Thread) (i name : ℕ) (p : Parent) where
   pub above_gone : (m : ℕ) → name ≢ 0 → p ≡ ParentIs m → length ts ≤ place (named m) ts → above ts i name p ≡ i
   unfolding above
   above_gone m e f h = rw (ne_eqb name 0 e, f, le-ltb (place (named m) ts) (length ts) h)
+
+  -- the place of a parent, where it has one
+  pub above_found : (m : ℕ) → name ≢ 0 → p ≡ ParentIs m → unwrap_or (position (named m) ts) i ≡ above ts i name p
+  unfolding above
+  above_found m e f = rw (position_is (named m) ts, ne_eqb name 0 e, f) (go (ltb (place (named m) ts) (length ts)))
+    where
+      go : (b : Bool) → unwrap_or (cond b (Some (place (named m) ts)) None) i ≡ (if b then place (named m) ts else i)
+      go true = refl
+      go false = refl
 
 -- it is a place or above all
 above_within : (ts : List Thread) (i name : ℕ) (p : Parent) → i ≤ length ts → above ts i name p ≤ length ts
@@ -104,3 +116,7 @@ module _ (n : ℕ) (ts : List Thread) where
             let w : j < n = omega (arith, length-take-le n ts R.whole) in
             R.so j d (omega arith) ∙ ap (λ (x : Thread). above (take n ts) j x.name x.parent) (sym (get_or-take n ts j d w));
       }
+
+-- only the entries of threads count
+pub upward_cut : (ts : List Thread) (up : List ℕ) (n : ℕ) → length ts ≡ n → Upward ts up → Upward ts (take n up)
+upward_cut ts up n l U = record { so = λ i d h. get_or-take n up i 0 (omega arith) ∙ U.so i d h }

@@ -1,15 +1,15 @@
 -- The devices' rule by one pass over the threads: marks say for which devices one waits, and no word is held for these.
 -- Held devices rise, so that each is held once.
-use Rattle.std.proofs.Common.{◌==◌}
+use Rattle.std.proofs.Common.{◌==◌, if◌then◌else◌, Option, Some, None}
 use Prim.Native.Nat.{zero, ℕ, suc, ◌+◌, ◌≤◌, ◌<◌}
 use mathlib.Core.Path.{◌≡◌, refl, sym, ap, ◌∙◌}
 use mathlib.Core.Logic.{◌≢◌, ⊎_elim}
 use mathlib.Core.Bool.{Bool, true, false, ◌&&◌}
-use mathlib.Core.List.{List, Memᴰ}
+use mathlib.Core.List.{List, Memᴰ, [], ◌∷◌, ◌++◌}
 use native.Mathlib.Omega.{arith}
 use lib.Dec.{leb, ltb}
-use lib.ListN.{length, take, get_or, set, replicate}
-use borrow.Author.Tests.{eq-eqb, ne_eqb, le-leb, lt-leb}
+use lib.ListN.{get_or, set, replicate}
+use borrow.Author.Tests.{eq-eqb, ne_eqb, le-leb, lt-leb, ltb-true, ltb-false}
 use Rattle.rules.specs.Lists.{one_if, all, any, count, chain, from_on}
 use Rattle.rules.specs.Numbers.{names, beat_ticks, devices, wrap}
 use Rattle.rules.specs.Words.{by_state}
@@ -19,11 +19,13 @@ use Rattle.rules.specs.Tables.{Tables}
 use Rattle.rules.specs.TableRules.{ranges, state_in_range, devices_right, orders_right}
 use Rattle.laws.specs.Words.{State, Running, Ready, Receiving, Clock, Device, Trapped, Thread, Held}
 use Rattle.laws.proofs.Tests.{and_left, and_right, same_turned, same?, six}
-use Rattle.laws.proofs.Tally.{count_same, any_count, none_count, all_of, all_at}
+use Rattle.laws.proofs.Tally.{count_append, count_same, any_count, none_count, all_of, all_at}
 use Rattle.laws.proofs.Ordered.{up_once}
 use Rattle.laws.proofs.Members.{from_on_mem}
+use Rattle.std.specs.Option.{is_some}
+use Rattle.memory.specs.Rows.{held_word, word_for}
 use Rattle.indexing.specs.Marks.{Marked}
-use Rattle.indexing.proofs.Marking.{none_marked, still_marked, marked_there, count_first, count_within, one_fails}
+use Rattle.indexing.proofs.Marking.{none_marked, still_marked, marked_there, one_fails}
 
 -- ---- general
 
@@ -35,96 +37,110 @@ mem_from_on a (suc n) d (Memᴰ.tail m) = omega (arith, mem_from_on (suc a) n d 
 
 -- ---- threads that wait
 
--- the device that a state waits for, or one that is none
-abbrev pub device_of : State → ℕ
-device_of s = by_state devices (λ w. devices) (λ e. e) (λ k. devices) s
+-- the device that a state waits for, if it waits for one
+abbrev pub device_of : State → Option ℕ
+device_of s = by_state None (λ w. None) (λ e. if ltb e devices then Some e else None) (λ k. None) s
 
-at_is : (d : ℕ) (s : State) → d < devices → at_device d s ≡ (d == device_of s)
+none_there : (s : State) → device_of s ≡ None → (d : ℕ) → d < devices → at_device d s ≡ false
 unfolding at_device
-at_is d Running h = sym (ne_eqb d devices (λ e. omega arith))
-at_is d Ready h = sym (ne_eqb d devices (λ e. omega arith))
-at_is d (Receiving _) h = sym (ne_eqb d devices (λ e. omega arith))
-at_is d Clock h = sym (ne_eqb d devices (λ e. omega arith))
-at_is d (Device e) h = refl
-at_is d (Trapped _) h = sym (ne_eqb d devices (λ e. omega arith))
+none_there Running n d h = refl
+none_there Ready n d h = refl
+none_there (Receiving _) n d h = refl
+none_there Clock n d h = refl
+none_there (Device e) n d h = go (ltb e devices) refl n
+  where
+    go : (b : Bool) → ltb e devices ≡ b → (if b then Some e else None) ≡ None → (d == e) ≡ false
+    go true t n = cc
+    go false t n = ne_eqb d e (λ q. omega (arith, q, ltb-false e devices t))
+none_there (Trapped _) n d h = refl
+
+pub one_there : (s : State) (e : ℕ) → device_of s ≡ Some e → (e < devices) × ((d : ℕ) → at_device d s ≡ (d == e))
+unfolding at_device
+one_there Running e n = cc
+one_there Ready e n = cc
+one_there (Receiving _) e n = cc
+one_there Clock e n = cc
+one_there (Device k) e n = go (ltb k devices) refl n
+  where
+    go : (b : Bool) → ltb k devices ≡ b → (if b then Some k else None) ≡ Some e → (e < devices) × ((d : ℕ) → (d == k) ≡ (d == e))
+    go true t n = let q : k ≡ e = cc in (omega (arith, ltb-true k devices t, q), λ d. ap (λ (j : ℕ). d == j) q)
+    go false t n = cc
+one_there (Trapped _) e n = cc
 
 few_if : (b : Bool) → one_if b ≤ 1
 few_if true = omega arith
 few_if false = omega arith
 
--- how many of the first i threads wait for the device
-abbrev waiting : List Thread → ℕ → ℕ → ℕ
-waiting ts i d = count (waits_for d) (take i ts)
+-- a word is given for a device exactly if one is held
+pub held_given : (d : ℕ) (hs : List Held) → is_some (held_word d hs) ≡ any (held_for d) hs
+held_given d hs = go (any (held_for d) hs)
+  where
+    go : (b : Bool) → is_some (if b then Some (word_for d hs) else None) ≡ b
+    go true = refl
+    go false = refl
 
--- the loop passed i of n threads, and no device has two; held says for which a word is held
-pub record Waited (n : ℕ) (ts : List Thread) (held : ℕ → Bool) (marks : List ℕ) (i : ℕ) : Type 0 where
-  pub whole : n ≤ length ts
-  pub within : i ≤ n
-  pub so : Marked devices (waiting ts i) marks
-  pub free : (d : ℕ) → d < devices → one_if (held d) + waiting ts i d ≤ 1
+-- how many of these threads wait for the device
+abbrev waiting : List Thread → ℕ → ℕ
+waiting ts d = count (waits_for d) ts
 
-pub wait_starts : (n : ℕ) (ts : List Thread) (held : ℕ → Bool) → n ≤ length ts → Waited n ts held (replicate 48 0) 0
+-- the loop passed these threads, and no device has two; held says for which a word is held
+pub record Waited (held : ℕ → Bool) (marks : List Bool) (done : List Thread) : Type 0 where
+  pub so : Marked devices (waiting done) marks
+  pub free : (d : ℕ) → d < devices → one_if (held d) + waiting done d ≤ 1
+
+pub wait_starts : (held : ℕ → Bool) → Waited held (replicate 48 false) []
 unfolding count
-wait_starts n ts held h =
-    record {
-      whole = h;
-      within = omega arith;
-      so = none_marked devices 48 _ (omega arith) (λ k. refl);
-      free = λ d l. omega (arith, few_if (held d));
-    }
+wait_starts held =
+    record { so = none_marked devices 48 _ (omega arith) (λ k. refl); free = λ d l. omega (arith, few_if (held d)) }
 
-module _ (n : ℕ) (ts : List Thread) (held : ℕ → Bool) (marks : List ℕ) where
-  -- the thread at i, which waits for e
-  module _ (i : ℕ) (z : Thread) (e : ℕ) (W : Waited n ts held marks i) (h : i < n) (waits : e ≡ device_of (get_or ts i z).state) where
-    more : (d : ℕ) → d < devices → waiting ts (i + 1) d ≡ waiting ts i d + one_if (d == e)
-    more d l =
-        let is : waits_for d (get_or ts i z) ≡ (d == e) = at_is d (get_or ts i z).state l ∙ ap (λ (k : ℕ). d == k) (sym waits) in
-        count_first (waits_for d) ts i z (omega (arith, W.whole)) ∙ ap (λ (b : Bool). waiting ts i d + one_if b) is
+module _ (held : ℕ → Bool) (marks : List Bool) (done : List Thread) (x : Thread) (W : Waited held marks done) where
+  more : (d : ℕ) → waiting (done ++ x ∷ []) d ≡ waiting done d + one_if (waits_for d x)
+  unfolding count
+  more d = count_append (waits_for d) done (x ∷ []) ∙ omega arith
 
-    other : (d : ℕ) → d < devices → d ≢ e → waiting ts (i + 1) d ≡ waiting ts i d
-    other d l u = omega (arith, more d l, ap one_if (ne_eqb d e u))
+  -- a thread that waits for no device
+  pub wait_skips : device_of x.state ≡ None → Waited held marks (done ++ x ∷ [])
+  wait_skips n =
+      let as_before : (d : ℕ) → d < devices → waiting (done ++ x ∷ []) d ≡ waiting done d =
+      λ d l. omega (arith, more d, ap one_if (none_there x.state n d l)) in
+      record { so = still_marked _ _ _ marks W.so as_before; free = λ d l. omega (arith, as_before d l, W.free d l) }
 
-    same : e < devices → waiting ts (i + 1) e ≡ waiting ts i e + 1
-    same l = omega (arith, more e l, ap one_if (eq-eqb e e refl))
+  -- one that waits for e
+  module _ (e : ℕ) (waits : device_of x.state ≡ Some e) where
+    low : e < devices
+    low = (one_there x.state e waits).0
 
-    later : e < devices → waiting ts i e + 1 ≤ waiting ts n e
-    later l = omega (arith, same l, count_within (waits_for e) ts (i + 1) n (omega arith))
+    other : (d : ℕ) → d < devices → d ≢ e → waiting (done ++ x ∷ []) d ≡ waiting done d
+    other d l u = omega (arith, more d, ap one_if ((one_there x.state e waits).1 d), ap one_if (ne_eqb d e u))
 
-    -- that is no device
-    pub wait_skips : devices ≤ e → Waited n ts held marks (i + 1)
-    wait_skips b =
-        let as_before : (d : ℕ) → d < devices → waiting ts (i + 1) d ≡ waiting ts i d = λ d l. other d l (λ q. omega (arith, q)) in
-        record {
-          whole = W.whole;
-          within = omega arith;
-          so = still_marked _ _ _ marks W.so as_before;
-          free = λ d l. omega (arith, as_before d l, W.free d l);
-        }
+    same : waiting (done ++ x ∷ []) e ≡ waiting done e + 1
+    same = omega (arith, more e, ap one_if ((one_there x.state e waits).1 e), ap one_if (eq-eqb e e refl))
 
     -- it is the first that has it
-    pub wait_next : e < devices → held e ≡ false → get_or marks e 0 ≡ 0 → Waited n ts held (set marks e 1) (i + 1)
-    wait_next l f u =
-        let one : waiting ts (i + 1) e ≡ 1 = omega (arith, same l, W.so.says e l) in
+    pub wait_next : held e ≡ false → get_or marks e false ≡ false → Waited held (set marks e true) (done ++ x ∷ [])
+    wait_next f u =
+        let one : waiting (done ++ x ∷ []) e ≡ 1 = omega (arith, same, W.so.says e low, ap one_if u) in
         record {
-          whole = W.whole;
-          within = omega arith;
-          so = marked_there _ _ _ marks W.so e l one other;
+          so = marked_there _ _ _ marks W.so e low one other;
           free = λ d k. ⊎_elim (λ q. rw q.0 (omega (arith, one, ap one_if f))) (λ q. omega (arith, other d k q.0, W.free d k))
               (same? d e);
         }
 
-    -- another has it
-    pub wait_fails : e < devices → (get_or marks e 0 ≡ 0 → ⊥) → 2 ≤ one_if (held e) + waiting ts n e
-    wait_fails l u = omega (arith, u, later l, W.so.says e l)
+    module _ (ts left : List Thread) (split : done ++ x ∷ left ≡ ts) where
+      later : waiting done e + 1 ≤ waiting ts e
+      unfolding count
+      later =
+          let a : waiting ts e ≡ waiting done e + (one_if (waits_for e x) + waiting left e) =
+          ap (λ (l : List Thread). waiting l e) (sym split) ∙ count_append (waits_for e) done (x ∷ left) in
+          omega (arith, a, same, more e)
 
-    -- a word is held for it
-    pub wait_held : e < devices → held e ≡ true → 2 ≤ one_if (held e) + waiting ts n e
-    wait_held l f = omega (arith, later l, ap one_if f)
+      -- another has it
+      pub wait_fails : get_or marks e false ≡ true → 2 ≤ one_if (held e) + waiting ts e
+      wait_fails u = omega (arith, later, W.so.says e low, ap one_if u)
 
-  pub wait_ends : (i : ℕ) → Waited n ts held marks i → n ≤ i → (d : ℕ) → d < devices → one_if (held d) + waiting ts n d ≤ 1
-  wait_ends i W h d l =
-      let e : n ≡ i = omega (arith, W.within) in
-      omega (arith, W.free d l, ap (λ (k : ℕ). waiting ts k d) e)
+      -- a word is held for it
+      pub wait_held : held e ≡ true → 2 ≤ one_if (held e) + waiting ts e
+      wait_held f = omega (arith, later, ap one_if f)
 
 -- ---- the rule
 

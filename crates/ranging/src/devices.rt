@@ -1,24 +1,22 @@
 // A device has one waiter or a held status or neither: one pass over the threads, with a mark for each device that one waits for.
-ghost use Rattle.std.specs.Prelude.{◌≡◌, true};
+#![tactic(auto, unfolding(store::specs::Store::Shaped, store::specs::Store::tables))]
+
+ghost use Rattle.std.specs.Prelude.{◌≡◌, true, ltb, if◌then◌else◌, Some, None};
 ghost use Rattle.rules.specs.Numbers.{devices};
 ghost use Rattle.rules.specs.Words.{by_state};
 ghost use Rattle.rules.specs.TableRules.{devices_right as devices_right_of, orders_right};
 ghost use Rattle.store.specs.Store.{Shaped, tables};
 
-use memory::memory as rows;
+use memory::{memory as rows, records};
 use rules::{State, numbers};
 
-// The device that a thread in this state waits for, or the number behind the last device.
-fn device_of(s: State) -> u8
-    ensures { result ≡ by_state devices (λ w. devices) (λ e. e) (λ k. devices) s }
+// The device that a thread in this state waits for, if it waits for one.
+fn device_of(s: State) -> Option<u8>
+    ensures { result ≡ by_state None (λ w. None) (λ e. if ltb e devices then Some e else None) (λ k. None) s }
 {
     match s {
-        State::Running => numbers::DEVICES,
-        State::Ready => numbers::DEVICES,
-        State::Receiving(_) => numbers::DEVICES,
-        State::Clock => numbers::DEVICES,
-        State::Device(d) => d,
-        State::Trapped(_) => numbers::DEVICES,
+        State::Device(d) if d < numbers::DEVICES => Some(d),
+        _ => None,
     }
 }
 
@@ -27,24 +25,15 @@ pub fn devices_right(m: &[u32]) -> bool
     requires { Shaped m.now × (orders_right (tables m.now) ≡ true) }
     ensures { result ≡ devices_right_of (tables m.now) }
 {
-    let n = rows::count(m);
-    let mut marks = [0u8; numbers::HELD];
-    let mut i = 0;
-    while i < n {
-        let s = rows::state_at(m, i);
-        let d = device_of(s);
-        if d < numbers::DEVICES {
-            if rows::is_held(m, d) {
-                return false;
-            }
-            if marks[d as usize] != 0 {
-                return false;
-            }
-            marks[d as usize] = 1;
-            i += 1;
-        } else {
-            i += 1;
+    let mut marks = [false; numbers::HELD];
+    for t in records::threads(m) {
+        let Some(d) = device_of(t.state()) else {
+            continue;
+        };
+        if rows::held(m, d).is_some() || marks[usize::from(d)] {
+            return false;
         }
+        marks[usize::from(d)] = true;
     }
     true
 }

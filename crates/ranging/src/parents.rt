@@ -1,92 +1,71 @@
 // Parents are live, without a cycle, 0 alone has none.
-ghost use Rattle.std.specs.Prelude.{◌≡◌, List, ℕ, ◌≤◌, ◌<◌, length, ◌==◌};
-ghost use Rattle.rules.specs.Lists.{count};
+#![tactic(auto, unfolding(store::specs::Store::Shaped, store::specs::Store::tables))]
+
+ghost use Rattle.std.specs.Prelude.{◌≡◌, ◌≤◌, ◌<◌, length};
 ghost use Rattle.rules.specs.TableRules.{parents_right as parents_right_of};
-ghost use Rattle.rules.specs.declared.Thread.{Thread as ThreadIs};
-ghost use Rattle.store.specs.Store.{Shaped, tables};
-ghost use Rattle.indexing.specs.Index.{Indexed};
+ghost use Rattle.store.specs.Store.{tables};
 ghost use Rattle.ranging.specs.Upward.{above as above_of, Upward, Leads, AllLead};
 
-use indexing::index;
-use memory::memory as rows;
+use indexing::index::Index;
+use memory::{memory as rows, records};
 use rules::Parent;
 
-// What stands above the thread at the place i of n: its parent's place, n above thread 0. One whose parent is wrong stands above itself,
-// so that going up from it ends nowhere.
-fn above(at: &[u8; 256], n: usize, i: usize, name: u8, p: Parent) -> usize
-    ensures { (ts : List ThreadIs) → Indexed ts at.now → length ts ≡ n → result ≡ above_of ts i name p }
+// What stands above the thread at the place i: its parent's place, or above thread 0 how many threads there are. One whose parent is wrong
+// stands above itself, so that going up from it ends nowhere.
+fn above(x: &Index<'_>, i: usize, name: u8, p: Parent) -> usize
+    ensures { result ≡ above_of (tables x.now).threads i name p }
 {
     match p {
-        None => { if name == 0 { n } else { i } }
-        Some(m) => {
-            if name == 0 {
-                return i;
-            }
-            let k = index::place_of(at, m);
-            if k < n { k } else { i }
-        }
+        None if name == 0 => rows::count(x.words()),
+        Some(m) if name != 0 => x.place_of(m).unwrap_or(i),
+        _ => i,
     }
 }
 
 // What stands above each thread.
-fn upward(m: &[u32], at: &[u8; 256]) -> [u8; 256]
-    requires { Shaped m.now × Indexed (tables m.now).threads at.now }
-    ensures { Upward (tables m.now).threads result }
+fn upward(x: &Index<'_>) -> [u8; 256]
+    ensures { Upward (tables x.now).threads result }
 {
-    let n = rows::count(m);
-    let mut up = [0u8; 256];
-    let mut i = 0;
-    while i < n {
-        let name = rows::name_at(m, i);
-        let p = rows::parent_at(m, i);
-        up[i] = above(at, n, i, name, p) as u8;
-        i += 1;
+    let m = x.words();
+    let mut up = [0; 256];
+    for i in 0..rows::count(m) {
+        let t = records::record(m, i);
+        up[i] = above(x, i, t.name(), t.parent()) as u8;
     }
     up
 }
 
 // Does going up from i come to a place before it, or above all? The rule allows n steps from a parent, and so n + 1 from i.
-fn leads(up: &[u8; 256], n: usize, i: usize) -> bool
-    requires { (n ≤ 254) × (i < n) }
-    ensures { Leads up.now n i result }
+fn leads(up: &[u8], i: usize) -> bool
+    requires { (length up.now ≤ 254) × (i < length up.now) }
+    ensures { Leads up.now (length up.now) i result }
 {
     let mut at = i;
-    let mut k = 0;
-    while k <= n {
-        at = index::wide(up[at]);
-        if at < i {
+    for _k in 0..=up.len() {
+        at = usize::from(up[at]);
+        if at < i || up.len() <= at {
             return true;
         }
-        if n <= at {
-            return true;
-        }
-        k += 1;
     }
     false
 }
 
 // From each place in turn: those before it are known to lead above all.
-fn all_lead(up: &[u8; 256], n: usize) -> bool
-    requires { n ≤ 254 }
-    ensures { AllLead up.now n result }
+fn all_lead(up: &[u8]) -> bool
+    requires { length up.now ≤ 254 }
+    ensures { AllLead up.now (length up.now) result }
 {
-    let mut i = 0;
-    while i < n {
-        if leads(up, n, i) {
-            i += 1;
-        } else {
+    for i in 0..up.len() {
+        if !leads(up, i) {
             return false;
         }
     }
     true
 }
 
-pub fn parents_right(m: &[u32], at: &[u8; 256]) -> bool
-    requires { Shaped m.now × Indexed (tables m.now).threads at.now
-        × ((k : ℕ) → count (λ t. k == t.name) (tables m.now).threads ≤ 1) }
-    ensures { result ≡ parents_right_of (tables m.now) }
+pub fn parents_right(x: &Index<'_>) -> bool
+    ensures { result ≡ parents_right_of (tables x.now) }
 {
-    let n = rows::count(m);
-    let up = upward(m, at);
-    all_lead(&up, n)
+    let n = rows::count(x.words());
+    all_lead(&upward(x)[..n])
 }

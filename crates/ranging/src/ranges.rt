@@ -1,4 +1,6 @@
 // Ranges, names and orders.
+#![tactic(auto, unfolding(rules::specs::TableRules::state_in_range, store::specs::Store::Shaped, store::specs::Store::tables, store::specs::Store::limits))]
+
 ghost use Rattle.std.specs.Prelude.{◌≡◌, true, ltb, leb};
 ghost use Rattle.rules.specs.Lists.{all, chain};
 ghost use Rattle.rules.specs.Numbers.{names};
@@ -6,19 +8,15 @@ ghost use Rattle.rules.specs.TableRules.{state_in_range as state_in_range_of, ra
 ghost use Rattle.rules.specs.TableRules.{orders_right as orders_right_of};
 ghost use Rattle.store.specs.Store.{Shaped, tables, limits};
 
-use memory::memory as rows;
+use memory::{memory as rows, records};
 use rules::{State, numbers};
 
 fn state_in_range(s: State) -> bool
     ensures { result ≡ state_in_range_of s }
 {
     match s {
-        State::Running => true,
-        State::Ready => true,
-        State::Receiving(_) => true,
-        State::Clock => true,
         State::Device(d) => d < numbers::DEVICES,
-        State::Trapped(_) => true,
+        _ => true,
     }
 }
 
@@ -27,17 +25,7 @@ fn threads_in_range(m: &[u32]) -> bool
     requires { Shaped m.now }
     ensures { result ≡ all (λ t. state_in_range_of t.state) (tables m.now).threads }
 {
-    let n = rows::count(m);
-    let mut i = 0;
-    while i < n {
-        let s = rows::state_at(m, i);
-        if state_in_range(s) {
-            i += 1;
-        } else {
-            return false;
-        }
-    }
-    true
+    records::threads(m).all(|t| state_in_range(t.state()))
 }
 
 // Every value is in its range, the name given last 0 to 253.
@@ -45,16 +33,10 @@ pub fn ranges(m: &[u32]) -> bool
     requires { Shaped m.now }
     ensures { result ≡ ranges_of (tables m.now) }
 {
-    if rows::last(m) >= numbers::NAMES {
-        return false;
-    }
-    if rows::since(m) >= numbers::BEAT {
-        return false;
-    }
-    if !threads_in_range(m) {
-        return false;
-    }
-    rows::held_told(m)
+    rows::last(m) < numbers::NAMES
+        && rows::since(m) < numbers::BEAT
+        && threads_in_range(m)
+        && rows::held_told(m)
 }
 
 // Do the names rise?
@@ -62,35 +44,14 @@ fn names_rise(m: &[u32]) -> bool
     requires { Shaped m.now }
     ensures { result ≡ chain (λ t u. ltb t.name u.name) (tables m.now).threads }
 {
-    let n = rows::count(m);
-    let mut i = 1;
-    while i < n {
-        let x = rows::name_at(m, i - 1);
-        let y = rows::name_at(m, i);
-        if x < y {
-            i += 1;
-        } else {
-            return false;
-        }
-    }
-    true
+    records::threads(m).is_sorted_by(|t, u| t.name() < u.name())
 }
 
 fn names_low(m: &[u32]) -> bool
     requires { Shaped m.now }
     ensures { result ≡ all (λ t. ltb t.name names) (tables m.now).threads }
 {
-    let n = rows::count(m);
-    let mut i = 0;
-    while i < n {
-        let x = rows::name_at(m, i);
-        if x < numbers::NAMES {
-            i += 1;
-        } else {
-            return false;
-        }
-    }
-    true
+    records::threads(m).all(|t| t.name() < numbers::NAMES)
 }
 
 // Live names are distinct, 0 to 253, within the limit.
@@ -98,25 +59,14 @@ pub fn names_right(m: &[u32]) -> bool
     requires { Shaped m.now }
     ensures { result ≡ names_right_of (limits m.now) (tables m.now) }
 {
-    if names_rise(m) { names_low(m) } else { false }
+    names_rise(m) && names_low(m)
 }
 
 fn messages_rise(m: &[u32]) -> bool
     requires { Shaped m.now }
     ensures { result ≡ chain (λ k l. leb k.to l.to) (tables m.now).messages }
 {
-    let n = rows::letters(m);
-    let mut i = 1;
-    while i < n {
-        let x = rows::receiver_at(m, i - 1);
-        let y = rows::receiver_at(m, i);
-        if x <= y {
-            i += 1;
-        } else {
-            return false;
-        }
-    }
-    true
+    records::messages(m).is_sorted_by(|x, y| x.to() <= y.to())
 }
 
 // Messages by rising receiver. Held words stand by rising device where each is held for a device.

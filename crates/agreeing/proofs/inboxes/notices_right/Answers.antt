@@ -1,200 +1,67 @@
--- `inboxes::notices_right` meets its contract. The loop: the notices passed are right, and the marks say whose were met.
-use mathlib.Core.Path.{sym, ap, ◌∙◌}
-use native.Mathlib.Omega.{arith}
-use lib.ListN.{get_or}
+-- `inboxes::notices_right` meets its contract. The loop: the notices passed are right, and the marks say of whom they were.
+use Rattle.std.proofs.Common.{◌∙◌, ℕ, List, position, refl, sym, ap, ap₂, arith}
+use Rattle.rules.specs.Tables.{named}
 use Rattle.rules.specs.States.{awaits}
 use Rattle.rules.specs.Waking.{is_ordinary}
-use Rattle.laws.specs.Words.{Message}
-use Rattle.memory.specs.Rows.{no_thread, no_message}
-use Rattle.memory.specs.Memory.{rows_of}
+use Rattle.laws.specs.Words.{MessageKind, Thread}
+use Rattle.memory.specs.Rows.{no_thread}
 use Rattle.store.specs.Store.{tables}
-use Rattle.laws.proofs.Both.{failed, passed}
-use Rattle.agreeing.proofs.Inboxing.{from_place}
-use Rattle.agreeing.proofs.Noticing.{notice_starts, notice_skips, no_sender, not_trapped, met_before, met_now, notice_ends}
-use Rattle.indexing.proofs.Passing.{roomy, few, counted, message_reach}
+use Rattle.indexing.proofs.Indexing.{thread_there}
+use Rattle.indexing.proofs.Marking.{walk_here, walk_next, walk_ends}
+use Rattle.indexing.proofs.Passing.{few, counted, read_length}
+use Rattle.agreeing.proofs.Noticing.{notice_starts, notice_skips, notice_ends, no_sender, not_trapped, met_again, met_now}
+use Rattle.agreeing.proofs.inboxes.notices_right.Goals.{then-not-awaits-via-then-not-awaits, then-not-awaits-via-else-not-awaits+then-seen-j}
 use Rattle.agreeing.proofs.inboxes.notices_right.Goals as goal
 
-pub count-n-requires : goal.count-n-requires
-count-n-requires c = roomy c.args.m.now c.requires.0
-
-pub letters-k-requires : goal.letters-k-requires
-letters-k-requires c = roomy c.args.m.now c.requires.0
-
-pub loop-i-init : goal.loop-i-init
-loop-i-init c = notice_starts c.args.m.now c.requires.0
-
-pub kind_at-kind-requires : goal.kind_at-kind-requires
-kind_at-kind-requires c = message_reach c.args.m.now
-    c.requires.0 _ c.loop-i.i _ c.letters-k.ensures (omega arith)
-    c.loop-i-test.true
-
-pub overflow_add-i : goal.overflow_add-i
-overflow_add-i c = omega (arith, c.loop-i-test.true)
-
-pub loop-i-smaller-then-is_ordinary : goal.loop-i-smaller-then-is_ordinary
-loop-i-smaller-then-is_ordinary c = omega (arith, c.loop-i-test.true)
-
-pub loop-i-preserved-then-is_ordinary : goal.loop-i-preserved-then-is_ordinary
-loop-i-preserved-then-is_ordinary c =
-    let o = ap is_ordinary (sym c.kind_at-kind.ensures) ∙ (sym c.is_ordinary.ensures ∙ c.if-is_ordinary.true) in
-    notice_skips c.args.m.now
-    c.requires.0 c.loop-i.i no_message
-    (omega (arith, c.loop-i-test.true, c.letters-k.ensures)) _
-    c.loop-i.invariant o
-
-pub message_at-l-requires : goal.message_at-l-requires
-message_at-l-requires c = message_reach c.args.m.now
-    c.requires.0 _ c.loop-i.i _
-    c.letters-k.ensures (omega arith) c.loop-i-test.true
-
-pub returns-then-j-n : goal.returns-then-j-n
+pub loop-l-init : goal.loop-l-init
 unfolding tables
-returns-then-j-n c =
-    let o = ap is_ordinary (sym c.kind_at-kind.ensures)
-    ∙ (sym c.is_ordinary.ensures ∙ c.if-is_ordinary.false) in
-    let j = from_place c.args.m.now c.requires.0 c.args.at.now c.requires.1
-    c.loop-i.i no_message
-    (omega (
-      arith,
-      c.loop-i-test.true,
-      c.letters-k.ensures,
-    )) c.place_of-j.result (c.place_of-j.ensures
-    ∙ ap (λ (x : Message). get_or c.args.at.now x.from 0) c.message_at-l.ensures) in
-    no_sender c.args.m.now c.requires.0 c.loop-i.i no_message
-    (omega (
-      arith,
-      c.loop-i-test.true,
-      c.letters-k.ensures,
-    )) o c.place_of-j.result j _ c.loop-i.invariant
-    (omega (arith, c.if-j-n.true, c.count-n.ensures))
-
-pub trapped_on_at-requires : goal.trapped_on_at-requires
-trapped_on_at-requires c = (
-  roomy c.args.m.now
-      c.requires.0,
-  omega (
-    arith,
-    c.if-j-n.false,
-    c.count-n.ensures,
-    counted c.args.m.now
-        c.requires.0,
-  ),
+loop-l-init c = let m = c.words-m.result.now in let F = c.words-m.ensures.shaped in (
+  notice_starts _ (omega (arith, read_length m F _ refl, counted m F, few m F)),
+  c.into_iter-l-iterator.ensures.into_iter_gives ∙ c.messages-l-items.ensures,
 )
 
-pub returns-then-not-trapped_on_at : goal.returns-then-not-trapped_on_at
-unfolding tables
-returns-then-not-trapped_on_at c =
-    let o = ap is_ordinary (sym c.kind_at-kind.ensures)
-    ∙ (sym c.is_ordinary.ensures
-    ∙ c.if-is_ordinary.false) in
-    let j = from_place c.args.m.now c.requires.0 c.args.at.now c.requires.1
-    c.loop-i.i no_message
-    (omega (
-      arith,
-      c.loop-i-test.true,
-      c.letters-k.ensures,
-    )) c.place_of-j.result (c.place_of-j.ensures
-    ∙ ap (λ (x : Message). get_or c.args.at.now x.from 0) c.message_at-l.ensures) in
-    let e = ap (λ (l : Message). awaits l.to (get_or (rows_of c.args.m.now).threads c.place_of-j.result
-    no_thread)) (sym c.message_at-l.ensures)
-    ∙ failed c.trapped_on_at.ensures c.if-not-trapped_on_at.true-raw in
-    not_trapped c.args.m.now c.requires.0 c.loop-i.i
-    no_message (omega (
-      arith,
-      c.loop-i-test.true,
-      c.letters-k.ensures,
-    )) o c.place_of-j.result j c.requires.2
-    (omega (
-      arith,
-      c.if-j-n.false,
-      c.count-n.ensures,
-    )) _ no_thread c.loop-i.invariant e
-
-pub bounds-seen-j : goal.bounds-seen-j
-bounds-seen-j c = omega (
-  arith,
-  c.if-j-n.false,
-  c.count-n.ensures,
-  counted c.args.m.now
-      c.requires.0,
-  few c.args.m.now
-      c.requires.0,
+pub loop-l-preserved-then-is_ordinary : goal.loop-l-preserved-then-is_ordinary
+loop-l-preserved-then-is_ordinary c = (
+  notice_skips _ _ _ _ c.loop-l.invariant.0
+      (ap (λ (k : MessageKind). is_ordinary k) (sym c.kind.ensures) ∙ sym c.is_ordinary.ensures ∙ c.if-is_ordinary.true),
+  walk_next _ c.loop-l.invariant.1 _ _ c.in-Some.ensures.steps,
 )
 
-pub returns-then-seen-j-ne0 : goal.returns-then-seen-j-ne0
-unfolding tables
-returns-then-seen-j-ne0 c =
-    let o = ap is_ordinary (sym c.kind_at-kind.ensures)
-    ∙ (sym c.is_ordinary.ensures
-    ∙ c.if-is_ordinary.false) in
-    let j = from_place c.args.m.now c.requires.0 c.args.at.now c.requires.1
-    c.loop-i.i no_message
-    (omega (
-      arith,
-      c.loop-i-test.true,
-      c.letters-k.ensures,
-    )) c.place_of-j.result (c.place_of-j.ensures
-    ∙ ap (λ (x : Message). get_or c.args.at.now x.from 0) c.message_at-l.ensures) in
-    met_before c.args.m.now c.requires.0 c.loop-i.i
-    no_message (omega (
-      arith,
-      c.loop-i-test.true,
-      c.letters-k.ensures,
-    )) o c.place_of-j.result j c.requires.2
-    (omega (
-      arith,
-      c.if-j-n.false,
-      c.count-n.ensures,
-    )) _ c.loop-i.invariant c.if-seen-j-ne0.true
+pub returns-in_default : goal.returns-in_default
+returns-in_default c = rw (← c.words-m.ensures.same) (no_sender _ _ _ _ c.loop-l.invariant.0
+    (ap (λ (k : MessageKind). is_ordinary k) (sym c.kind.ensures) ∙ sym c.is_ordinary.ensures ∙ c.if-is_ordinary.false) _
+    (walk_here _ c.loop-l.invariant.1 _ _ c.in-Some.ensures.steps)
+    (ap₂ (λ (k : ℕ) (v : List ℕ). position (named k) (tables v).threads) (sym c.from.ensures) c.words-m.ensures.same
+    ∙ sym c.place_of.ensures ∙ c.in_default.is))
 
-pub bounds-seen-j-else-is_ordinary : goal.bounds-seen-j-else-is_ordinary
-bounds-seen-j-else-is_ordinary c = omega (
-  arith,
-  c.if-j-n.false,
-  c.count-n.ensures,
-  counted c.args.m.now
-      c.requires.0,
-  few c.args.m.now
-      c.requires.0,
-)
+pub returns-then-not-awaits : goal.returns-then-not-awaits
+returns-then-not-awaits c =
+    let o = ap (λ (k : MessageKind). is_ordinary k) (sym c.kind.ensures) ∙ sym c.is_ordinary.ensures ∙ c.if-is_ordinary.false in
+    let at = ap₂ (λ (k : ℕ) (v : List ℕ). position (named k) (tables v).threads) (sym c.from.ensures) c.words-m.ensures.same
+    ∙ sym c.place_of.ensures ∙ c.in-Some-place_of.is in
+    let split = walk_here _ c.loop-l.invariant.1 _ _ c.in-Some.ensures.steps in
+    rw (← c.words-m.ensures.same) (elim c.then-not-awaits.branch [
+      | then-not-awaits-via-then-not-awaits w ↦ not_trapped _ _ _ _ c.loop-l.invariant.0 o c.words-m.ensures.once _ at _ split no_thread
+          (ap (awaits c.in-Some.l.to) (thread_there c.words-m.result.now c.words-m.ensures.shaped _ _ at)
+          ∙ ap₂ (λ (k : ℕ) (t : Thread). awaits k t) (sym c.to.ensures) (sym c.record.ensures)
+          ∙ sym c.awaits.ensures ∙ w.if-not-awaits.true)
+      | then-not-awaits-via-else-not-awaits+then-seen-j w ↦
+          met_again _ _ _ _ c.loop-l.invariant.0 o c.words-m.ensures.once _ at _ split w.if-seen-j.true
+    ])
 
-pub overflow_add-i-else-is_ordinary : goal.overflow_add-i-else-is_ordinary
-overflow_add-i-else-is_ordinary c = omega (arith, c.loop-i-test.true)
-
-pub loop-i-smaller : goal.loop-i-smaller
-loop-i-smaller c = omega (arith, c.loop-i-test.true)
-
-pub loop-i-preserved : goal.loop-i-preserved
-unfolding tables
-loop-i-preserved c =
-    let o = ap is_ordinary (sym c.kind_at-kind.ensures)
-    ∙ (sym c.is_ordinary.ensures
-    ∙ c.if-is_ordinary.false) in
-    let j = from_place c.args.m.now c.requires.0 c.args.at.now c.requires.1
-    c.loop-i.i no_message
-    (omega (
-      arith,
-      c.loop-i-test.true,
-      c.letters-k.ensures,
-    )) c.place_of-j.result (c.place_of-j.ensures
-    ∙ ap (λ (x : Message). get_or c.args.at.now x.from 0) c.message_at-l.ensures) in
-    let e = ap (λ (l : Message). awaits l.to
-    (get_or (rows_of c.args.m.now).threads c.place_of-j.result no_thread))
-    (sym c.message_at-l.ensures)
-    ∙ passed c.trapped_on_at.ensures c.if-not-trapped_on_at.false-raw in
-    met_now c.args.m.now c.requires.0 c.loop-i.i
-    no_message (omega (
-      arith,
-      c.loop-i-test.true,
-      c.letters-k.ensures,
-    )) o c.place_of-j.result j c.requires.2
-    (omega (
-      arith,
-      c.if-j-n.false,
-      c.count-n.ensures,
-    )) _ no_thread c.loop-i.invariant e (omega arith)
+pub loop-l-preserved : goal.loop-l-preserved
+loop-l-preserved c =
+    let o = ap (λ (k : MessageKind). is_ordinary k) (sym c.kind.ensures) ∙ sym c.is_ordinary.ensures ∙ c.if-is_ordinary.false in
+    let at = ap₂ (λ (k : ℕ) (v : List ℕ). position (named k) (tables v).threads) (sym c.from.ensures) c.words-m.ensures.same
+    ∙ sym c.place_of.ensures ∙ c.in-Some-place_of.is in (
+      met_now _ _ _ _ c.loop-l.invariant.0 o c.words-m.ensures.once _ at no_thread
+          (ap (awaits c.in-Some.l.to) (thread_there c.words-m.result.now c.words-m.ensures.shaped _ _ at)
+          ∙ ap₂ (λ (k : ℕ) (t : Thread). awaits k t) (sym c.to.ensures) (sym c.record.ensures)
+          ∙ sym c.awaits.ensures ∙ c.if-not-awaits.false)
+          c.if-seen-j.false,
+      walk_next _ c.loop-l.invariant.1 _ _ c.in-Some.ensures.steps,
+    )
 
 pub returns : goal.returns
-unfolding tables
-returns c = notice_ends c.args.m.now c.requires.0 _ _
-    c.loop-i.invariant (omega (arith, c.loop-i-test.false, c.letters-k.ensures))
+returns c = rw (← c.words-m.ensures.same)
+    (notice_ends _ _ _ c.loop-l.invariant.0 (walk_ends _ c.loop-l.invariant.1 c.in-None.ensures.steps.0))

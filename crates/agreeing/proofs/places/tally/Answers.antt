@@ -1,41 +1,28 @@
--- `places::tally` meets its contract. The loop: how often each name was met so far.
-use native.Mathlib.Omega.{arith}
-use Rattle.indexing.proofs.Passing.{roomy, few, queue_long, tally_read}
-use Rattle.indexing.proofs.Tallying.{tally_starts, tally_low, tally_ends}
+-- `places::tally` meets its contract. The loop: the counts of the names passed.
+use Rattle.std.proofs.Common.{◌∷◌, ap, refl, length, length-append, ◌∙◌, subst, ℕ, List, ◌≡◌, get_or, arith}
+use Rattle.rules.specs.Lists.{times_in}
+use Rattle.indexing.proofs.Marking.{walk_here, walk_next, walk_ends}
+use Rattle.indexing.proofs.Tallying.{tally_starts, tally_next, tally_low}
 use Rattle.agreeing.proofs.places.tally.Goals as goal
 
-pub loop-i-init : goal.loop-i-init
-loop-i-init c = tally_starts _ _ (omega (arith, queue_long c.args.m.now c.args.ready, c.requires.1))
-
-pub queued_at-x-requires : goal.queued_at-x-requires
-queued_at-x-requires c = (
-  roomy c.args.m.now c.requires.0,
-  omega (arith, c.loop-i-test.true, c.requires.1),
-)
-
-pub bounds-c-x : goal.bounds-c-x
-bounds-c-x c = omega (arith, c.loop-i.invariant.size)
+pub loop-k-init : goal.loop-k-init
+loop-k-init c = (tally_starts, refl)
 
 pub overflow_add-c : goal.overflow_add-c
 overflow_add-c c = omega (
   arith,
-  tally_low _ _ _ _ c.queued_at-x.result c.loop-i.invariant (omega arith),
-  c.loop-i-test.true,
-  c.requires.1,
-  few c.args.m.now c.requires.0,
+  tally_low c.loop-k.c c.loop-k.yielded c.in-Some.k c.loop-k.invariant.0 (omega arith) c.from.result c.from.ensures,
+  ap length (walk_here c.loop-k.yielded c.loop-k.invariant.1 c.in-Some.k c.next.new.self c.in-Some.ensures.steps),
+  length-append c.loop-k.yielded (c.in-Some.k ∷ c.next.new.self),
+  ap length c.into_iter-k-iterator.ensures.into_iter_gives,
 )
 
-pub bounds-c-x-in-loop-i : goal.bounds-c-x-in-loop-i
-bounds-c-x-in-loop-i c = omega (arith, c.loop-i.invariant.size)
-
-pub overflow_add-i : goal.overflow_add-i
-overflow_add-i c = omega (arith, c.loop-i-test.true)
-
-pub loop-i-smaller : goal.loop-i-smaller
-loop-i-smaller c = omega (arith, c.loop-i-test.true)
-
-pub loop-i-preserved : goal.loop-i-preserved
-loop-i-preserved c = tally_read _ _ _ _ _ c.loop-i.invariant c.loop-i-test.true c.queued_at-x.ensures (omega arith)
+pub loop-k-preserved : goal.loop-k-preserved
+loop-k-preserved c = (
+  tally_next _ _ _ c.loop-k.invariant.0 (omega arith) _ c.from.ensures,
+  walk_next _ c.loop-k.invariant.1 _ _ c.in-Some.ensures.steps,
+)
 
 pub returns : goal.returns
-returns c = λ x h. tally_ends _ _ _ _ x c.loop-i.invariant c.loop-i-test.false h
+returns c = subst (λ (l : List ℕ). (k : ℕ) → get_or c.loop-k.c k 0 ≡ times_in l k)
+    (walk_ends _ c.loop-k.invariant.1 c.in-None.ensures.steps.0 ∙ c.into_iter-k-iterator.ensures.into_iter_gives) c.loop-k.invariant.0.so

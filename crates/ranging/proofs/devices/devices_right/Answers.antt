@@ -1,97 +1,54 @@
 -- `devices::devices_right` meets its contract. The loop: no device of those passed has two, and the marks say which have one.
-use mathlib.Core.Path.{sym, ap, ◌∙◌}
-use native.Mathlib.Omega.{arith}
-use Rattle.laws.specs.Words.{State}
-use Rattle.memory.specs.Rows.{no_thread}
+use Rattle.std.proofs.Common.{◌≡◌, ◌+◌, ◌≤◌, ℕ, List, Some, false, sym, ap, subst, ◌∙◌, get_or}
+use Rattle.std.specs.Option.{is_some}
+use Rattle.rules.specs.Lists.{any, one_if, count}
+use Rattle.rules.specs.Interrupt.{held_for}
+use Rattle.rules.specs.States.{waits_for}
+use Rattle.laws.specs.Words.{State, Thread}
 use Rattle.store.specs.Store.{tables}
-use Rattle.indexing.proofs.Passing.{roomy, threads_whole, thread_reach}
-use Rattle.ranging.proofs.Waiters.{device_of, wait_starts, wait_skips, wait_next, wait_fails, wait_held, wait_ends, broken}
-use Rattle.ranging.proofs.Waiters.{kept}
+use Rattle.indexing.proofs.Marking.{walk_here, walk_next, walk_ends}
+use Rattle.ranging.proofs.Waiters.{device_of, held_given, wait_starts, wait_skips, wait_next, wait_fails, wait_held, broken, kept, one_there}
+use Rattle.ranging.proofs.devices.devices_right.Goals.{then-is_some-via-then-is_some, then-is_some-via-else-is_some+then-marks-from}
 use Rattle.ranging.proofs.devices.devices_right.Goals as goal
 
-pub count-n-requires : goal.count-n-requires
-count-n-requires c = roomy c.args.m.now c.requires.0
+pub loop-t-init : goal.loop-t-init
+unfolding tables
+loop-t-init c = (wait_starts _, c.into_iter-t-iterator.ensures.into_iter_gives ∙ c.threads-t-items.ensures)
 
-pub loop-i-init : goal.loop-i-init
-loop-i-init c = wait_starts _ _ _ (threads_whole c.args.m.now c.requires.0)
-
-pub state_at-s-requires : goal.state_at-s-requires
-state_at-s-requires c = thread_reach c.args.m.now c.requires.0 _
-    c.loop-i.i _ c.count-n.ensures (omega arith) c.loop-i-test.true
-
-pub is_held-requires : goal.is_held-requires
-is_held-requires c = (
-  roomy c.args.m.now
-      c.requires.0,
-  c.if-d-lt-DEVICES.true,
+pub loop-t-preserved-in_default : goal.loop-t-preserved-in_default
+loop-t-preserved-in_default c = (
+  wait_skips _ _ _ _ c.loop-t.invariant.0
+      (ap (λ (s : State). device_of s) (sym c.state.ensures) ∙ sym c.device_of.ensures ∙ c.in_default.is),
+  walk_next _ c.loop-t.invariant.1 _ _ c.in-Some.ensures.steps,
 )
 
-pub returns-then-is_held : goal.returns-then-is_held
+pub returns-then-is_some : goal.returns-then-is_some
 unfolding tables
-returns-then-is_held c =
-    let w = c.device_of-d.ensures
-    ∙ ap (λ (s : State). device_of s) c.state_at-s.ensures in
-    broken (tables c.args.m.now) _
-    c.if-d-lt-DEVICES.true (wait_held _ _ _ _ c.loop-i.i no_thread _
-    c.loop-i.invariant
-    (omega (
-      arith,
-      c.loop-i-test.true,
-      c.count-n.ensures,
-    )) w c.if-d-lt-DEVICES.true (sym c.is_held.ensures ∙ c.if-is_held.true))
+returns-then-is_some c =
+    let T = tables c.args.m.now in
+    let d = c.in-Some-device_of.d in
+    let one : device_of c.in-Some.t.state ≡ Some d =
+    ap (λ (s : State). device_of s) (sym c.state.ensures) ∙ sym c.device_of.ensures ∙ c.in-Some-device_of.is in
+    let split = walk_here _ c.loop-t.invariant.1 _ _ c.in-Some.ensures.steps in
+    broken T d (one_there c.in-Some.t.state d one).0 (elim c.then-is_some.branch [
+      | then-is_some-via-then-is_some w ↦ wait_held _ _ _ _ c.loop-t.invariant.0 d one _ _ split
+          (sym (held_given d T.held) ∙ ap is_some (sym c.held.ensures) ∙ sym c.is_some.ensures ∙ w.if-is_some.true)
+      | then-is_some-via-else-is_some+then-marks-from w ↦ wait_fails _ _ _ _ c.loop-t.invariant.0 d one _ _ split
+          (ap (λ (k : ℕ). get_or c.loop-t.marks k false) (sym w.from.ensures) ∙ w.if-marks-from.true)
+    ])
 
-pub bounds-marks-d : goal.bounds-marks-d
-bounds-marks-d c = omega (arith, c.if-d-lt-DEVICES.true, c.loop-i.invariant.so.long)
-
-pub returns-then-marks-d-ne0 : goal.returns-then-marks-d-ne0
+pub loop-t-preserved : goal.loop-t-preserved
 unfolding tables
-returns-then-marks-d-ne0 c =
-    let w = c.device_of-d.ensures
-    ∙ ap (λ (s : State). device_of s) c.state_at-s.ensures in
-    broken (tables c.args.m.now) _
-    c.if-d-lt-DEVICES.true (wait_fails _ _ _ _ c.loop-i.i
-    no_thread _ c.loop-i.invariant
-    (omega (
-      arith,
-      c.loop-i-test.true,
-      c.count-n.ensures,
-    )) w c.if-d-lt-DEVICES.true c.if-marks-d-ne0.true)
-
-pub bounds-marks-d-then-d-lt-DEVICES : goal.bounds-marks-d-then-d-lt-DEVICES
-bounds-marks-d-then-d-lt-DEVICES c =
-    omega (arith, c.if-d-lt-DEVICES.true, c.loop-i.invariant.so.long)
-
-pub overflow_add-i : goal.overflow_add-i
-overflow_add-i c = omega (arith, c.loop-i-test.true)
-
-pub loop-i-smaller-then-d-lt-DEVICES : goal.loop-i-smaller-then-d-lt-DEVICES
-loop-i-smaller-then-d-lt-DEVICES c = omega (arith, c.loop-i-test.true)
-
-pub loop-i-preserved-then-d-lt-DEVICES : goal.loop-i-preserved-then-d-lt-DEVICES
-loop-i-preserved-then-d-lt-DEVICES c =
-    let w = c.device_of-d.ensures
-    ∙ ap (λ (s : State). device_of s) c.state_at-s.ensures in
-    wait_next _ _ _ _ c.loop-i.i no_thread _
-    c.loop-i.invariant
-    (omega (
-      arith,
-      c.loop-i-test.true,
-      c.count-n.ensures,
-    )) w c.if-d-lt-DEVICES.true (sym c.is_held.ensures ∙ c.if-is_held.false) (omega arith)
-
-pub overflow_add-i-else-d-lt-DEVICES : goal.overflow_add-i-else-d-lt-DEVICES
-overflow_add-i-else-d-lt-DEVICES c = omega (arith, c.loop-i-test.true)
-
-pub loop-i-smaller : goal.loop-i-smaller
-loop-i-smaller c = omega (arith, c.loop-i-test.true)
-
-pub loop-i-preserved : goal.loop-i-preserved
-loop-i-preserved c =
-    let w = c.device_of-d.ensures ∙ ap (λ (s : State). device_of s) c.state_at-s.ensures in
-    wait_skips _ _ _ _ c.loop-i.i no_thread _ c.loop-i.invariant
-    (omega (arith, c.loop-i-test.true, c.count-n.ensures)) w c.if-d-lt-DEVICES.false
+loop-t-preserved c = let d = c.in-Some-device_of.d in (
+  rw c.from-in-loop-t.ensures (wait_next _ _ _ _ c.loop-t.invariant.0 d
+      (ap (λ (s : State). device_of s) (sym c.state.ensures) ∙ sym c.device_of.ensures ∙ c.in-Some-device_of.is)
+      (sym (held_given d (tables c.args.m.now).held) ∙ ap is_some (sym c.held.ensures) ∙ sym c.is_some.ensures ∙ c.if-is_some.false)
+      (ap (λ (k : ℕ). get_or c.loop-t.marks k false) (sym c.from.ensures) ∙ c.if-marks-from.false)),
+  walk_next _ c.loop-t.invariant.1 _ _ c.in-Some.ensures.steps,
+)
 
 pub returns : goal.returns
 unfolding tables
 returns c = kept (tables c.args.m.now) c.requires.1
-    (wait_ends _ _ _ _ _ c.loop-i.invariant (omega (arith, c.loop-i-test.false, c.count-n.ensures)))
+    (λ d l. subst (λ (ts : List Thread). one_if (any (held_for d) (tables c.args.m.now).held) + count (waits_for d) ts ≤ 1)
+    (walk_ends _ c.loop-t.invariant.1 c.in-None.ensures.steps.0) (c.loop-t.invariant.0.free d l))

@@ -1,13 +1,11 @@
 -- `devices::devices_right` meets its contract. The loop: no device of those passed has two, and the marks say which have one.
-use Prim.Native.Nat.{ℕ, ◌-◌}
+use Rattle.std.proofs.Common.{◌≡◌, ◌++◌, ℕ}
 use Rattle.rules.specs.Lists.{any}
 use Rattle.rules.specs.Interrupt.{held_for}
-use Rattle.memory.specs.Memory.{rows_of}
+use Rattle.store.specs.Store.{tables}
 use Rattle.ranging.proofs.Waiters.{Waited}
 use Rattle.ranging.proofs.devices.devices_right.Given as goal
 
-abbrev pub invariant-loop-i : goal.invariant-loop-i
-invariant-loop-i l = Waited (rows_of l.m).count (rows_of l.m).threads (λ (d : ℕ). any (held_for d) (rows_of l.m).held) l.marks l.i
-
-abbrev pub decreases-loop-i : goal.decreases-loop-i
-decreases-loop-i l = l.n - l.i
+abbrev pub invariant-loop-t : goal.invariant-loop-t
+invariant-loop-t l = Waited (λ (d : ℕ). any (held_for d) (tables l.m).held) l.marks l.yielded
+    × (l.yielded ++ l.t-iterator ≡ (tables l.m).threads)

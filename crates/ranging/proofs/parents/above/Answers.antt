@@ -1,25 +1,22 @@
 -- `parents::above` meets its contract, case by case.
-use mathlib.Core.Path.{sym, ◌∙◌}
-use native.Mathlib.Omega.{arith}
-use Rattle.indexing.proofs.Indexing.{look_place}
-use Rattle.ranging.proofs.Raising.{above_top, above_none, above_zero, above_live, above_gone}
+use Rattle.std.proofs.Common.{ℕ, Option, sym, ap, ◌∙◌}
+use Rattle.std.specs.Option.{unwrap_or}
+use Rattle.store.specs.Store.{tables}
+use Rattle.indexing.proofs.Passing.{read_length}
+use Rattle.ranging.proofs.Raising.{above_top, above_none, above_zero, above_found}
 use Rattle.ranging.proofs.parents.above.Goals as goal
 
-pub returns-then-name-eq0-2 : goal.returns-then-name-eq0-2
-returns-then-name-eq0-2 c = λ ts I e. sym (above_zero ts _ _ _ _ c.if-name-eq0-2.true c.in-Some.is)
+pub returns-in-None : goal.returns-in-None
+unfolding tables
+returns-in-None c = rw (← c.words.ensures.same) (sym (above_top _ _ _ _ c.if-name-eq0.true c.in-None.is
+    ∙ read_length c.words.result.now c.words.ensures.shaped _ c.count.ensures))
 
-pub returns-then-name-eq0 : goal.returns-then-name-eq0
-returns-then-name-eq0 c = λ ts I e. sym (above_top ts _ _ _ c.if-name-eq0.true c.in-None.is ∙ e)
+pub returns-in-Some : goal.returns-in-Some
+returns-in-Some c = c.unwrap_or.ensures ∙ ap (λ (o : Option ℕ). unwrap_or o c.args.i) c.place_of.ensures
+    ∙ above_found _ _ _ _ _ c.if-name-ne0.true c.in-Some.is
 
-pub returns-else-name-eq0 : goal.returns-else-name-eq0
-returns-else-name-eq0 c = λ ts I e. sym (above_none ts _ _ _ c.if-name-eq0.false c.in-None.is)
+pub returns-in_default : goal.returns-in_default
+returns-in_default c = sym (above_none _ _ _ _ c.if-name-eq0.false c.in-None.is)
 
-pub returns-then-k-n : goal.returns-then-k-n
-returns-then-k-n c = λ ts I e.
-    let f = look_place ts _ I _ (omega arith) _ c.place_of-k.ensures in
-    f ∙ sym (above_live ts _ _ _ _ c.if-name-eq0-2.false c.in-Some.is (omega arith))
-
-pub returns-else-k-n : goal.returns-else-k-n
-returns-else-k-n c = λ ts I e.
-    let f = look_place ts _ I _ (omega arith) _ c.place_of-k.ensures in
-    sym (above_gone ts _ _ _ _ c.if-name-eq0-2.false c.in-Some.is (omega arith))
+pub returns-in_default-2 : goal.returns-in_default-2
+returns-in_default-2 c = sym (above_zero _ _ _ _ _ c.if-name-ne0.false c.in-Some.is)

@@ -1,28 +1,23 @@
 -- `parents::parents_right` meets its contract: every place leads above all exactly if the rule holds.
-use native.Mathlib.Omega.{arith}
+use Rattle.std.proofs.Common.{◌≡◌, ◌==◌, ◌≤◌, ℕ, List, length, sym, ap, subst, ◌∙◌, arith}
+use Rattle.std.proofs.Math.Seq.{length-take-le}
+use Rattle.rules.specs.Lists.{count}
 use Rattle.store.specs.Store.{tables}
 use Rattle.ranging.proofs.Climbing.{decided}
-use Rattle.indexing.proofs.Passing.{roomy, few, counted, read_length}
+use Rattle.ranging.proofs.Raising.{upward_cut}
+use Rattle.indexing.proofs.Passing.{few, counted, read_length}
 use Rattle.ranging.proofs.parents.parents_right.Goals as goal
-
-pub count-n-requires : goal.count-n-requires
-count-n-requires c = roomy c.args.m.now c.requires.0
-
-pub upward-up-requires : goal.upward-up-requires
-upward-up-requires c = (c.requires.0, c.requires.1)
-
-pub all_lead-requires : goal.all_lead-requires
-all_lead-requires c = omega (
-  arith,
-  c.count-n.ensures,
-  counted c.args.m.now
-      c.requires.0,
-  few c.args.m.now c.requires.0,
-)
 
 pub returns : goal.returns
 unfolding tables
-returns c = decided (tables c.args.m.now) c.requires.2 _
-    c.upward-up.ensures _
-    (read_length c.args.m.now c.requires.0 _
-    c.count-n.ensures) _ c.all_lead.ensures
+returns c =
+    let T = tables c.args.x.now in
+    let n : length T.threads ≡ c.count-n.result = ap (λ (v : List ℕ). length (tables v).threads) (sym c.words.ensures.same)
+    ∙ read_length c.words.result.now c.words.ensures.shaped _ c.count-n.ensures in
+    let once = subst (λ (v : List ℕ). (k : ℕ) → count (λ t. k == t.name) (tables v).threads ≤ 1) c.words.ensures.same c.words.ensures.once in
+    decided T once _ (upward_cut _ _ _ n c.upward.ensures) _ (n ∙ sym (length-take-le _ c.upward.result (omega (
+      arith,
+      c.count-n.ensures,
+      counted c.words.result.now c.words.ensures.shaped,
+      few c.words.result.now c.words.ensures.shaped,
+    )))) _ c.all_lead.ensures

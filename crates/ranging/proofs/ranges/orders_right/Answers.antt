@@ -1,13 +1,10 @@
 -- `ranges::orders_right` meets its contract: held words rise by themselves where each is held for a device.
-use mathlib.Core.Path.{sym, ◌∙◌}
+use Rattle.std.proofs.Common.{sym, ◌∙◌}
 use Rattle.laws.proofs.Tests.{and_true}
 use Rattle.store.specs.Store.{tables}
 use Rattle.ranging.proofs.Rising.{held_rises}
 use Rattle.ranging.proofs.Waiters.{ranged}
 use Rattle.ranging.proofs.ranges.orders_right.Goals as goal
-
-pub messages_rise-requires : goal.messages_rise-requires
-messages_rise-requires c = c.requires.0
 
 pub returns : goal.returns
 unfolding tables

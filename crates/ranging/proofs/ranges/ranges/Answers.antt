@@ -1,49 +1,25 @@
 -- `ranges::ranges` meets its contract: words are in their range by their type, and the rest is tested.
-use mathlib.Core.Path.{refl, sym, ◌∙◌}
-use native.Mathlib.Omega.{arith}
+use Rattle.std.proofs.Common.{◌≡◌, ◌∙◌, ◌&&◌, ltb, arith}
+use Rattle.std.proofs.lemmas.Grind.{common_steps}
+use Rattle.rules.specs.Lists.{all}
+use Rattle.rules.specs.Numbers.{names, beat_ticks, devices}
+use Rattle.rules.specs.TableRules.{state_in_range}
+use Rattle.memory.specs.Memory.{rows_of}
+use Rattle.memory.specs.Rows.{view}
 use Rattle.store.specs.Store.{tables}
-use Rattle.laws.proofs.Both.{fails_first, and_then, failed, passed}
-use Rattle.indexing.proofs.Passing.{less, not_less, roomy}
-use Rattle.indexing.proofs.Wraps.{ranges_left}
+use Rattle.indexing.proofs.Wraps.{ranges_told}
 use Rattle.ranging.proofs.ranges.ranges.Goals as goal
 
-pub last-requires : goal.last-requires
-last-requires c = roomy c.args.m.now c.requires
-
-pub returns-then-last-ge-NAMES : goal.returns-then-last-ge-NAMES
+pub returns-then-threads_in_range : goal.returns-then-threads_in_range
 unfolding tables
-returns-then-last-ge-NAMES c = rw (not_less c.last.ensures refl c.if-last-ge-NAMES.true)
+returns-then-threads_in_range c = let r = rows_of c.args.m.now in
+    let e : c.held_told.result ≡ (ltb r.last names && ltb r.since beat_ticks && all (λ t. state_in_range t.state) (view r).threads
+    && all (λ h. ltb h.device devices) r.held) = grind (arith, common_steps) in
+    e ∙ ranges_told c.args.m.now (λ k. omega (arith, c.type_inv.m k))
 
-pub since-requires : goal.since-requires
-since-requires c = roomy c.args.m.now c.requires
-
-pub returns-then-since-ge-BEAT : goal.returns-then-since-ge-BEAT
+pub returns-else-threads_in_range : goal.returns-else-threads_in_range
 unfolding tables
-returns-then-since-ge-BEAT c = rw (
-  less c.last.ensures refl c.if-last-ge-NAMES.false,
-  not_less c.since.ensures
-      refl c.if-since-ge-BEAT.true,
-)
-
-pub threads_in_range-requires : goal.threads_in_range-requires
-threads_in_range-requires c = c.requires
-
-pub returns-then-not-threads_in_range : goal.returns-then-not-threads_in_range
-unfolding tables
-returns-then-not-threads_in_range c = sym (fails_first _ (failed c.threads_in_range.ensures c.if-not-threads_in_range.true-raw))
-    ∙ ranges_left c.args.m.now
-    (λ k. omega (arith, c.shared_slice_known-1.given k))
-    (omega (arith, c.last.ensures, c.if-last-ge-NAMES.false))
-    (omega (arith, c.since.ensures))
-
-pub held_told-requires : goal.held_told-requires
-held_told-requires c = roomy c.args.m.now
-    c.requires
-
-pub returns : goal.returns
-unfolding tables
-returns c = sym (and_then (passed c.threads_in_range.ensures c.if-not-threads_in_range.false-raw) (sym c.held_told.ensures))
-    ∙ ranges_left c.args.m.now
-    (λ k. omega (arith, c.shared_slice_known-1.given k))
-    (omega (arith, c.last.ensures, c.if-last-ge-NAMES.false))
-    (omega (arith, c.since.ensures))
+returns-else-threads_in_range c = let r = rows_of c.args.m.now in
+    let e : c.if-since-lt-BEAT.value ≡ (ltb r.last names && ltb r.since beat_ticks && all (λ t. state_in_range t.state) (view r).threads
+    && all (λ h. ltb h.device devices) r.held) = grind (arith, common_steps) in
+    e ∙ ranges_told c.args.m.now (λ k. omega (arith, c.type_inv.m k))
