@@ -4,7 +4,7 @@ use mathlib.Core.Path.{◌≡◌, refl, sym, ap, ap₂, ◌∙◌, subst}
 use mathlib.Core.Bool.{Bool, true}
 use mathlib.Core.List.{List, [], ◌∷◌, ◌++◌, append_assoc, append-nil}
 use native.Mathlib.Omega.{arith}
-use lib.ListN.{length, take, drop, set}
+use lib.ListN.{length, take, drop}
 use borrow.Rule.Slice.PartMut.{same_len_mid}
 use Rattle.rules.specs.Lists.{each}
 use Rattle.rules.specs.Numbers.{decision_numbers}
@@ -19,18 +19,6 @@ use Rattle.laws.proofs.Batch.{complete_first, numbers_append, line_count}
 use Rattle.batching.proofs.FieldCount.{some_left, behind_it, ends_within}
 use Rattle.batching.proofs.Calling.{stays_valid}
 use Rattle.batching.specs.Batching.{SingleCalls, none, call, RanAll}
-
--- ---- six numbers at the front of a buffer
-
-pub puts_six : (b : List ℕ) (u v w x y z : ℕ) → 6 ≤ length b
-    → Puts (u ∷ v ∷ w ∷ x ∷ y ∷ z ∷ []) b (set (set (set (set (set (set b 0 u) 1 v) 2 w) 3 x) 4 y) 5 z) 6
-puts_six [] u v w x y z h = absurd (omega arith)
-puts_six (a ∷ []) u v w x y z h = absurd (omega arith)
-puts_six (a ∷ b ∷ []) u v w x y z h = absurd (omega arith)
-puts_six (a ∷ b ∷ c ∷ []) u v w x y z h = absurd (omega arith)
-puts_six (a ∷ b ∷ c ∷ d ∷ []) u v w x y z h = absurd (omega arith)
-puts_six (a ∷ b ∷ c ∷ d ∷ e ∷ []) u v w x y z h = absurd (omega arith)
-puts_six (a ∷ b ∷ c ∷ d ∷ e ∷ f ∷ l) u v w x y z h = record { counts = refl; shows = refl }
 
 -- ---- a batch so far
 
@@ -114,6 +102,13 @@ module _ {m bytes before : List ℕ} {good : Bool} {left used filled : ℕ} {m�
             let size : field_size (drop used bytes) ≡ end - used = omega (arith, at_end) in
             (complete_first (drop used bytes) w).0
             ∙ ap₂ (λ (k : ℕ) (l : List ℕ). take k (drop used bytes) ∷ complete l) size (behind_it bytes used end w at_end)
+
+    -- the same where they are counted from the front
+    pub one_run_on : {d : Decision} {m₂ ys : List ℕ} {left' filled' : ℕ} → Answered m₁ (take (end - used) (drop used bytes)) m₂ d
+        → length m₂ ≡ length m₁ → Puts (line d) (rest filled after) ys decision_numbers → length ys ≡ length (rest filled after)
+        → left' ≡ left - 1 → filled' ≡ filled + decision_numbers
+        → Running m bytes before good left' end filled' m₂ (back filled after ys)
+    one_run_on p same q kept e f = rw (e, f) (one_run p same q kept)
 
   -- all are run
   pub all_run : left ≤ 0 → RanAll m bytes before m₁ after

@@ -1,7 +1,9 @@
 // The batch. Nothing is asked of anything that is lent. The room for decisions is looked at before the tables are, and these are checked
 // once: what each step leaves passes the check again.
 ghost use Rattle.std.specs.Prelude.{◌≡◌, ◌*◌, ◌≤◌, length};
+ghost use Rattle.std.specs.Result.{result_unwrap_or};
 ghost use Rattle.rules.specs.Numbers.{decision_numbers};
+ghost use Rattle.rules.specs.Refused.{refusal_told};
 ghost use Rattle.rules.specs.Runs.{line};
 ghost use Rattle.rules.specs.Batch.{complete as complete_of};
 ghost use Rattle.buffer.specs.Puts.{Puts};
@@ -13,32 +15,29 @@ use checking::check;
 use fields::cuts;
 use lending::Tables;
 use lending::step::no_tables;
-use rules::{Decision, codes, numbers};
+use rules::refusal::{Refusal, told};
+use rules::{Decision, numbers};
 use stepping::step;
 
-// How a batch was taken: the refusal, and how many bytes are read.
-#[derive(Clone, Copy)]
-struct Taken {
-    refusal: u8,
-    used: usize,
-}
-
 // The numbers of a decision, at the front of what is left of the buffer.
-fn put_decision(out: &mut [u32], d: Decision) -> usize
+#[tactic(auto, unfolding(rules::specs::Runs::line))]
+fn put_decision(out: &mut [u32], d: Decision)
     requires { decision_numbers ≤ length out.old }
-    ensures { Puts (line d) out.old out.new result }
+    ensures { Puts (line d) out.old out.new decision_numbers }
 {
     let a = d.answer;
-    out[0] = d.refusal as u32;
-    out[1] = d.status as u32;
-    out[2] = d.runner as u32;
-    out[3] = codes::kind_code(a) as u32;
-    out[4] = codes::sender_code(a) as u32;
-    out[5] = codes::word_code(a);
-    numbers::DECISION
+    let row = [
+        u32::from(d.refusal),
+        u32::from(d.status),
+        u32::from(d.runner),
+        u32::from(a.kind()),
+        u32::from(a.sender()),
+        a.word(),
+    ];
+    out[..numbers::DECISION].copy_from_slice(&row);
 }
 
-// One event, on tables of which it is known whether they pass the check.
+// One event, on tables of which it is known whether they pass the check: that is asked once for a batch, and no caller chooses it.
 fn answer(m: &mut [u32], good: bool, event: &[u8]) -> Decision
     requires { good ≡ valid m.old }
     ensures { Answered m.old event.now m.new result }
@@ -55,45 +54,37 @@ fn run(m: &mut [u32], events: &[u8], count: usize, out: &mut [u32])
     ensures { RanAll m.old events.now out.old m.new out.new }
 {
     let good = check::check(m);
-    let mut left = count;
     let mut used = 0;
-    let mut filled = 0;
-    while 0 < left {
+    for k in 0..count {
         let end = cuts::cut_at(events, used).end;
         let d = answer(m, good, &events[used..end]);
-        filled += put_decision(&mut out[filled..], d);
+        put_decision(&mut out[k * numbers::DECISION..], d);
         used = end;
-        left -= 1;
     }
 }
 
-// A batch, with the number of bytes that are read in the place of the unread end.
-fn serve(m: &mut [u32], events: &[u8], out: &mut [u32]) -> Taken
-    ensures { Serves m.old events.now out.old m.new out.new result.used
-        result.refusal }
+// How many bytes are read, or why none is.
+fn serve(m: &mut [u32], events: &[u8], out: &mut [u32]) -> Result<usize, Refusal>
+    ensures { Serves m.old events.now out.old m.new out.new (result_unwrap_or result 0)
+        (refusal_told result) }
 {
     let c = complete::count_complete(events);
     if out.len() < c.count * numbers::DECISION {
-        return Taken {
-            refusal: 14,
-            used: 0,
-        };
+        return Err(Refusal::RoomShort);
     }
     run(m, events, c.count, out);
-    Taken {
-        refusal: 0,
-        used: c.end,
-    }
+    Ok(c.end)
 }
 
-// In place. What is handed back is the unread end of the caller's bytes.
+// In place. What is handed back is the unread end of the caller's bytes, and the refusal is left where the caller says: nucleus_batch
+// hands both on so.
 pub fn batch<'a>(m: &mut [u32], events: &'a [u8], out: &mut [u32], refusal: &mut u8) -> &'a [u8]
     ensures { Batches m.old events.entry out.old result m.new out.new
         refusal.new }
 {
-    let t = serve(m, events, out);
-    *refusal = t.refusal;
-    cuts::rest_at(events, t.used)
+    let taken = serve(m, events, out);
+    *refusal = told(taken);
+    cuts::rest_at(events, taken.unwrap_or(0))
 }
 
 // The same by value.
@@ -101,10 +92,10 @@ pub fn batch_value(t: Tables, events: &[u8], out: &mut [u32]) -> Batched
     ensures { BatchesValue t events.now out.old out.new result }
 {
     let mut words = t.words;
-    let s = serve(&mut words, events, out);
+    let taken = serve(&mut words, events, out);
     Batched {
         tables: Tables { words },
-        used: s.used,
-        refusal: s.refusal,
+        used: taken.unwrap_or(0),
+        refusal: told(taken),
     }
 }

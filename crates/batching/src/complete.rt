@@ -13,6 +13,7 @@ pub struct Complete {
 pub fn count_complete(events: &[u8]) -> Complete
     ensures { AllCounted events.now result }
 {
+    // No `for`: how far a turn goes, and whether it is the last, is what the field's own head says.
     let mut count = 0;
     let mut end = 0;
     while end < events.len() {

@@ -6,7 +6,8 @@ pub mod complete;
 
 use lending::Tables;
 
-// What a batch by value leaves: `used` bytes of the events are read.
+// What a batch by value leaves: `used` bytes of the events are read. The refusal stands beside them as a number, since nucleus_batch hands
+// on all three, refused or not.
 #[derive(Clone, Copy)]
 pub struct Batched {
     pub tables: Tables,

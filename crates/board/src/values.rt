@@ -4,7 +4,7 @@ ghost use Rattle.board.specs.Board.{report_of, Steps};
 
 use crate::{Report, Served};
 use lending::{Tables, step};
-use rules::{Decision, codes};
+use rules::Decision;
 
 fn report(d: Decision) -> Report
     ensures { result ≡ report_of d }
@@ -14,9 +14,9 @@ fn report(d: Decision) -> Report
         refusal: d.refusal,
         status: d.status,
         runner: d.runner,
-        kind: codes::kind_code(a),
-        sender: codes::sender_code(a),
-        word: codes::word_code(a),
+        kind: a.kind(),
+        sender: a.sender(),
+        word: a.word(),
     }
 }
 

@@ -8,26 +8,6 @@ use lib.Seq.{take_all, take_at, drop_at, drop-drop, drop-cons, drop-append-add, 
 use Rattle.rules.specs.Lists.{two_bytes}
 use Rattle.buffer.specs.Puts.{Puts}
 
--- ---- bytes written one by one
-
-pub puts_two : (b : List ℕ) (x y : ℕ) → 2 ≤ length b → Puts (x ∷ y ∷ []) b (set (set b 0 x) 1 y) 2
-puts_two [] x y h = absurd (omega arith)
-puts_two (p ∷ []) x y h = absurd (omega arith)
-puts_two (p ∷ q ∷ b) x y h = record { counts = refl; shows = refl }
-
-pub puts_three : (b : List ℕ) (x y z : ℕ) → 3 ≤ length b → Puts (x ∷ y ∷ z ∷ []) b (set (set (set b 0 x) 1 y) 2 z) 3
-puts_three [] x y z h = absurd (omega arith)
-puts_three (p ∷ []) x y z h = absurd (omega arith)
-puts_three (p ∷ q ∷ []) x y z h = absurd (omega arith)
-puts_three (p ∷ q ∷ r ∷ b) x y z h = record { counts = refl; shows = refl }
-
-pub puts_four : (b : List ℕ) (x y z w : ℕ) → 4 ≤ length b → Puts (x ∷ y ∷ z ∷ w ∷ []) b (set (set (set (set b 0 x) 1 y) 2 z) 3 w) 4
-puts_four [] x y z w h = absurd (omega arith)
-puts_four (p ∷ []) x y z w h = absurd (omega arith)
-puts_four (p ∷ q ∷ []) x y z w h = absurd (omega arith)
-puts_four (p ∷ q ∷ r ∷ []) x y z w h = absurd (omega arith)
-puts_four (p ∷ q ∷ r ∷ s ∷ b) x y z w h = record { counts = refl; shows = refl }
-
 -- a length of one byte
 pub short_length : (n : ℕ) → n < 256 → two_bytes n ≡ 0 ∷ n ∷ []
 short_length n h =

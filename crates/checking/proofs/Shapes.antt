@@ -7,7 +7,8 @@ use native.Mathlib.Omega.{arith}
 use lib.ListN.{length}
 use borrow.Author.Tests.{leb-true, eqb-true, le-leb, eq-eqb}
 use Rattle.rules.specs.Lists.{all}
-use Rattle.rules.specs.Numbers.{Limits, names}
+use Rattle.rules.specs.Numbers.{names}
+use Rattle.laws.specs.Words.{Limits}
 use Rattle.laws.proofs.Tests.{and_left, and_right, ◌&◌}
 use Rattle.words.specs.Saying.{word}
 use Rattle.memory.specs.Layout.{size, most_blocks}

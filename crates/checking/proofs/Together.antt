@@ -6,7 +6,7 @@ use mathlib.Core.Bool.{Bool, true, false, ◌&&◌, true≢false}
 use mathlib.Core.List.{[], ◌∷◌}
 use lib.ListN.{get_or}
 use Rattle.rules.specs.Lists.{all, count}
-use Rattle.rules.specs.Numbers.{Limits}
+use Rattle.laws.specs.Words.{Limits}
 use Rattle.rules.specs.Tables.{Tables}
 use Rattle.rules.specs.TableRules.{ranges, names_right, parents_right, places_agree, devices_right, names_live, trapped_right}
 use Rattle.rules.specs.TableRules.{inboxes_right, messages_right, notices_right, runner_right, answers_right, orders_right, table_tests}

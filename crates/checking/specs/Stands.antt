@@ -3,7 +3,7 @@
 -- one that would not be written says what no rule allows (words/specs/Saying.antt). Spare words, hints and what stands behind a count are
 -- free.
 use Rattle.std.specs.Prelude.{ℕ, Bool, ◌&&◌, List}
-use Rattle.rules.specs.Numbers.{Limits}
+use Rattle.laws.specs.Words.{Limits}
 use Rattle.rules.specs.TableRules.{table_rules}
 use Rattle.memory.specs.Shape.{shaped}
 use Rattle.store.specs.Store.{tables}

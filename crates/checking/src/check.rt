@@ -6,21 +6,18 @@ ghost use Rattle.checking.specs.Stands.{stands};
 
 use crate::rules_met;
 use memory::memory as rows;
-use rules::numbers;
+use rules::numbers::{self, Limits};
 
 // The same code for any limits.
-pub fn check_for(m: &[u32], threads: u32, blocks: u32) -> bool
-    requires { (threads < names) × (blocks ≤ most_blocks) }
-    ensures { result ≡ stands (record { threads = threads; blocks = blocks }) m.now }
+pub fn check_for(m: &[u32], l: Limits) -> bool
+    requires { (l.threads < names) × (l.blocks ≤ most_blocks) }
+    ensures { result ≡ stands l m.now }
 {
-    if !rows::shaped(m, threads, blocks) {
-        return false;
-    }
-    rules_met::rules_met(m)
+    rows::shaped(m, l) && rules_met::rules_met(m)
 }
 
 pub fn check(m: &[u32]) -> bool
     ensures { result ≡ stands small m.now }
 {
-    check_for(m, numbers::THREADS as u32, numbers::BLOCKS as u32)
+    check_for(m, numbers::SMALL)
 }

@@ -4,7 +4,7 @@ use Rattle.rules.specs.Batch.{complete, unread, taken, batch, numbers}
 use Rattle.rules.specs.Lists.{all}
 use Rattle.rules.specs.Fields.{whole}
 use Rattle.rules.specs.Runs.{Input, run, decisions}
-use Rattle.rules.specs.Numbers.{Limits}
+use Rattle.laws.specs.Words.{Limits}
 use Rattle.rules.specs.Tables.{Tables}
 use Rattle.rules.specs.Step.{step}
 use Rattle.laws.specs.Batch.{joined, one_field, needed}

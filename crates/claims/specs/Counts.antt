@@ -1,6 +1,7 @@
 -- Counts and blocks.
 use Rattle.std.specs.Prelude.{◌+◌, ◌≤◌, ◌/◌, ◌%◌, ◌<◌, ℕ, ◌≡◌, true}
-use Rattle.rules.specs.Numbers.{Limits, beat_ticks, wrap, names}
+use Rattle.rules.specs.Numbers.{beat_ticks, wrap, names}
+use Rattle.laws.specs.Words.{Limits}
 use Rattle.rules.specs.Tables.{start, Tables}
 use Rattle.rules.specs.Waking.{blocks_used}
 use Rattle.rules.specs.Runs.{Input, run}

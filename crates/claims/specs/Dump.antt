@@ -1,6 +1,7 @@
 -- The dump and its reader.
 use Rattle.std.specs.Prelude.{ℕ, ◌≤◌, ◌≡◌, true, List, ◌≢◌, ◌↔◌, length}
-use Rattle.rules.specs.Numbers.{Limits, small}
+use Rattle.rules.specs.Numbers.{small}
+use Rattle.laws.specs.Words.{Limits}
 use Rattle.rules.specs.Tables.{Tables}
 use Rattle.rules.specs.TableRules.{table_rules}
 use Rattle.rules.specs.Dump.{dump}

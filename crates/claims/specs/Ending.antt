@@ -4,7 +4,8 @@ use mathlib.Core.List.{List, [], Memᴰ, ◌∷◌, ◌++◌}
 use Rattle.rules.specs.Lists.{has}
 use Rattle.rules.specs.Ending.{ended_set, depends, end}
 use Rattle.rules.specs.Tables.{Tables, start, live}
-use Rattle.rules.specs.Numbers.{Limits, names}
+use Rattle.rules.specs.Numbers.{names}
+use Rattle.laws.specs.Words.{Limits}
 use Rattle.rules.specs.Step.{step}
 use Rattle.rules.specs.Runs.{Input, run}
 use Rattle.rules.specs.Requests.{next_name}

@@ -1,7 +1,7 @@
 -- Where bytes are bad.
 use Rattle.std.specs.Prelude.{ℕ, ◌≤◌, ◌<◌, ◌≡◌, ◌↔◌, ◌≢◌, true, false, Bool, length, drop}
 use mathlib.Core.List.{List, [], ◌∷◌, map, Memᴰ, ◌++◌}
-use Rattle.rules.specs.Numbers.{Limits}
+use Rattle.laws.specs.Words.{Limits}
 use Rattle.rules.specs.Tables.{Tables}
 use Rattle.rules.specs.TableRules.{table_rules}
 use Rattle.rules.specs.Dump.{dump}

@@ -1,6 +1,7 @@
 -- Whatever is handed over.
 use Rattle.std.specs.Prelude.{ℕ, ◌≤◌, ◌<◌, ◌+◌, List, [], ◌∷◌, ◌++◌, ◌≡◌, false, true, Bool, ◌⊎◌}
-use Rattle.rules.specs.Numbers.{Limits, names}
+use Rattle.rules.specs.Numbers.{names}
+use Rattle.laws.specs.Words.{Limits}
 use Rattle.rules.specs.Tables.{start, live, Tables}
 use Rattle.rules.specs.Step.{step}
 use Rattle.rules.specs.Runs.{Input, run}

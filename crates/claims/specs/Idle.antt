@@ -1,7 +1,7 @@
 -- Panic and idling.
 use Rattle.std.specs.Prelude.{ℕ, ◌≡◌, ◌↔◌, true, false, List, [], map}
 use Rattle.rules.specs.Lists.{all, any}
-use Rattle.rules.specs.Numbers.{Limits}
+use Rattle.laws.specs.Words.{Limits}
 use Rattle.rules.specs.Tables.{Tables, runs}
 use Rattle.rules.specs.Dispatch.{status}
 use Rattle.rules.specs.TableRules.{table_rules}

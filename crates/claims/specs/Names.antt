@@ -4,7 +4,8 @@ use Rattle.rules.specs.Tables.{Tables, start, live, with_last}
 use Rattle.rules.specs.Step.{act, step}
 use Rattle.rules.specs.Waking.{Outcome}
 use Rattle.rules.specs.Dispatch.{dispatch}
-use Rattle.rules.specs.Numbers.{Limits, names, small}
+use Rattle.rules.specs.Numbers.{names, small}
+use Rattle.laws.specs.Words.{Limits}
 use Rattle.rules.specs.Runs.{Input, run, lines}
 use Rattle.rules.specs.Lists.{from_on, any, has}
 use Rattle.rules.specs.Benches.{ask, from}

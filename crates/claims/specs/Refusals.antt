@@ -1,7 +1,7 @@
 -- Refusals: each number exactly when its rule says, and nothing is changed.
 use Rattle.std.specs.Prelude.{ℕ, ◌≡◌, ◌↔◌, ◌≢◌, Bool, true, false}
 use mathlib.Core.List.{[], ◌∷◌, Memᴰ, List}
-use Rattle.rules.specs.Numbers.{Limits}
+use Rattle.laws.specs.Words.{Limits}
 use Rattle.rules.specs.Tables.{Tables, me, start}
 use Rattle.rules.specs.Refusals.{first_of, refusal, is_malformed}
 use Rattle.rules.specs.Lists.{any}

@@ -1,7 +1,8 @@
 -- What requests do.
 use Rattle.std.specs.Prelude.{ℕ, ◌%◌, ◌≤◌, ◌<◌, ◌≡◌, true, false, not, ◌≢◌, ◌⊎◌, ◌==◌}
 use mathlib.Core.List.{List, Memᴰ}
-use Rattle.rules.specs.Numbers.{Limits, names, wrap}
+use Rattle.rules.specs.Numbers.{names, wrap}
+use Rattle.laws.specs.Words.{Limits}
 use Rattle.rules.specs.Tables.{Tables, start, live, with_held, manager, with_threads}
 use Rattle.rules.specs.Step.{step}
 use Rattle.rules.specs.Runs.{Input, run}

@@ -1,6 +1,7 @@
 -- The table rules: they hold at a start, and every step keeps them.
 use Rattle.std.specs.Prelude.{ℕ, ◌≤◌, ◌<◌, ◌≡◌, true, ◌↔◌, List}
-use Rattle.rules.specs.Numbers.{Limits, names}
+use Rattle.rules.specs.Numbers.{names}
+use Rattle.laws.specs.Words.{Limits}
 use Rattle.rules.specs.Tables.{Tables, named, start}
 use Rattle.rules.specs.TableRules.{table_rules, parents_right}
 use Rattle.rules.specs.Lists.{count}

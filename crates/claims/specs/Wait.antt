@@ -1,7 +1,8 @@
 -- The wait of a ready thread.
 use Rattle.std.specs.Prelude.{ℕ, ◌-◌, ◌*◌, ◌≤◌, ◌<◌, ◌≡◌, true, false, List, replicate}
 use Rattle.rules.specs.Lists.{has}
-use Rattle.rules.specs.Numbers.{Limits, names, full_slice, small}
+use Rattle.rules.specs.Numbers.{names, full_slice, small}
+use Rattle.laws.specs.Words.{Limits}
 use Rattle.rules.specs.Tables.{Tables, start}
 use Rattle.rules.specs.Runs.{Input, run}
 use Rattle.rules.specs.TableRules.{table_rules}

@@ -1,6 +1,6 @@
 -- The parts of a dump: the bytes of field 1, how long a dump is up to each part, and that it is short.
 use Prim.Native.Nat.{ℕ, ◌+◌, ◌*◌, ◌≤◌, ◌<◌}
-use mathlib.Core.Path.{◌≡◌}
+use mathlib.Core.Path.{◌≡◌, ap}
 use mathlib.Core.List.{List, ◌∷◌, ◌++◌}
 use native.Mathlib.Omega.{arith}
 use lib.ListN.{length, length-append}
@@ -16,6 +16,8 @@ use Rattle.memory.specs.Layout.{most_blocks}
 use Rattle.store.specs.Store.{tables}
 use Rattle.store.proofs.Limits.{names_left}
 use Rattle.store.proofs.Lengths.{threads_limit, ready_limit, clock_limit, messages_limit, blocks_limit}
+use Rattle.buffer.specs.Puts.{Puts}
+use Rattle.buffer.proofs.Putting.{said}
 use Rattle.dumping.specs.Dumping.{Dumpable}
 use Rattle.dumping.proofs.Walks.{held_few}
 
@@ -75,6 +77,10 @@ module _ (T : Tables) where
         );
         whole = omega (arith, dump_length T);
       }
+
+-- a field of names, which are those of a table
+pub named : {tag : ℕ} {q names b c : List ℕ} {n : ℕ} → names ≡ q → Puts (field tag names) b c n → Puts (field tag q) b c n
+named {tag} e p = said p (ap (field tag) e)
 
 -- ---- the length of a dump is a number that the code can tell
 

@@ -6,7 +6,7 @@ use mathlib.Core.Bool.{true, false, ◌&&◌, true≢false, false≢true}
 use mathlib.Core.Logic.{⊎_elim, ◌≢◌}
 use mathlib.Core.List.{List, [], ◌∷◌, ◌++◌}
 use native.Mathlib.Omega.{arith}
-use lib.ListN.{length}
+use lib.ListN.{get_or}
 use borrow.Author.Tests.{ne_eqb, ltb-true, ltb-false, le-ltb}
 use Rattle.rules.specs.Lists.{four_bytes}
 use Rattle.rules.specs.Numbers.{nobody, service}
@@ -14,7 +14,7 @@ use Rattle.rules.specs.Codes.{state_numbers, answer_numbers, manager_code, paren
 use Rattle.rules.specs.Dump.{field, answer_value, thread_value}
 use Rattle.laws.proofs.Tests.{same?}
 use Rattle.words.specs.Saying.{word, byte, parent_in, manager_in, state_in, answer_in, thread_in}
-use Rattle.dumping.specs.Shown.{state_value, state_right, answer_right, sender_number, thread_front}
+use Rattle.dumping.specs.Shown.{state_value, state_right, answer_right, sender_number}
 
 -- ---- a parent: "no name" and no name are both 255
 
@@ -192,20 +192,13 @@ module _ (n w : ℕ) where
 
 -- ---- field 2
 
-module _ (w : List ℕ) where
-  pub front_bytes : {n u p q r : ℕ} → n ≡ byte (word w 0) → u ≡ byte (word w 1) → p ≡ manager_code (manager_in (word w 4)) →
-      q ≡ manager_code (manager_in (word w 5)) → r ≡ manager_code (manager_in (word w 6)) →
-      (2 ∷ 0 ∷ 17 ∷ n ∷ u ∷ (state_value (state_in (word w 2) (word w 3)) ++ (p ∷ q ∷ r ∷ []))) ≡ thread_front (thread_in w)
-  unfolding thread_front thread_in
-  front_bytes a b x y z =
-      let u = b ∙ parent_shown (word w 1) in
-      λ i. 2 ∷ 0 ∷ 17 ∷ a i ∷ u i ∷ (state_value (state_in (word w 2) (word w 3)) ++ (x i ∷ y i ∷ z i ∷ []))
-
-  pub front_length : 10 ≡ length (thread_front (thread_in w))
-  unfolding thread_front
-  front_length = refl
-
-  pub thread_bytes : thread_front (thread_in w)
-      ++ (four_bytes (word w 7) ++ answer_value (answer_in (word w 8) (word w 9) (word w 10))) ≡ field 2 (thread_value (thread_in w))
-  unfolding thread_front thread_value thread_in
-  thread_bytes = refl
+pub thread_bytes : (w : List ℕ) {n u p q r : ℕ} {st : List ℕ} → n ≡ byte (word w 0) → u ≡ byte (word w 1) →
+    st ≡ state_value (state_in (word w 2) (word w 3)) → p ≡ manager_code (manager_in (word w 4)) →
+    q ≡ manager_code (manager_in (word w 5)) → r ≡ manager_code (manager_in (word w 6)) →
+    (2 ∷ 0 ∷ 17 ∷ n ∷ u ∷ get_or st 0 0 ∷ get_or st 1 0 ∷ p ∷ q ∷ r
+    ∷ (four_bytes (word w 7) ++ answer_value (answer_in (word w 8) (word w 9) (word w 10)))) ≡ field 2 (thread_value (thread_in w))
+unfolding thread_value thread_in
+thread_bytes w a b s x y z =
+    let u = b ∙ parent_shown (word w 1) in
+    λ i. 2 ∷ 0 ∷ 17 ∷ a i ∷ u i ∷ get_or (s i) 0 0 ∷ get_or (s i) 1 0 ∷ x i ∷ y i ∷ z i
+    ∷ (four_bytes (word w 7) ++ answer_value (answer_in (word w 8) (word w 9) (word w 10)))

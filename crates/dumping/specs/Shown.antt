@@ -1,10 +1,8 @@
 -- Which words are shown in a dump as they stand: those that would be written for what they say.
-use Rattle.std.specs.Prelude.{ℕ, Bool, ◌&&◌, ◌||◌, List, [], ◌∷◌, ◌++◌, ltb, if◌then◌else◌, ◌==◌}
-use Rattle.rules.specs.Lists.{two_bytes}
+use Rattle.std.specs.Prelude.{ℕ, Bool, ◌&&◌, ◌||◌, List, [], ◌∷◌, ltb, if◌then◌else◌, ◌==◌}
 use Rattle.rules.specs.Numbers.{nobody, service}
-use Rattle.rules.specs.Tags.{thread_tag, thread_size}
-use Rattle.rules.specs.Codes.{state_numbers, manager_code, parent_code}
-use Rattle.laws.specs.Words.{State, Thread}
+use Rattle.rules.specs.Codes.{state_numbers}
+use Rattle.laws.specs.Words.{State}
 use Rattle.words.specs.Saying.{byte}
 
 -- "state (0 to 5, in the order listed above), detail"
@@ -22,11 +20,3 @@ answer_right k n w = if (n == 0) && (w == 0) then ltb k 5 else (if k == 3 then w
 -- "None is 0, 255, 0. .. kind 4 has sender 254."
 unfoldable pub sender_number : ℕ → ℕ → ℕ
 sender_number k n = if k == 0 then nobody else (if k == 4 then service else byte n)
-
--- field 2 up to the managers
-unfoldable pub thread_front : Thread → List ℕ
-thread_front t =
-    let g = t.managers in
-    thread_tag ∷ (two_bytes thread_size
-    ++ (t.name ∷ parent_code t.parent
-    ∷ (state_value t.state ++ (manager_code g.program ∷ manager_code g.tlb ∷ manager_code g.sysbp ∷ []))))

@@ -1,5 +1,5 @@
 // The dump: a memory's tables as bytes in a lent buffer.
-#![tactic(auto)]
+#![tactic(auto, unfolding(store::specs::Store::Shaped, store::specs::Store::tables, crate::specs::Shown::state_right, crate::specs::Shown::answer_right, crate::specs::Shown::sender_number))]
 
 mod shown;
 pub mod writing;

@@ -14,6 +14,7 @@ use words::saying;
 // "Gone" among managers.
 const GONE: u32 = 257;
 
+// Numbers, and no enums: making a value by cases of a thread's words and taking its numbers again is what this file leaves out (speed).
 // How many states there are, and the numbers of those that have a detail.
 const STATES: u32 = 6;
 
@@ -23,9 +24,7 @@ const DEVICE: u32 = 4;
 
 const TRAPPED: u32 = 5;
 
-// How many kinds of answers there are, and their numbers.
-const ANSWERS: u32 = 5;
-
+// The numbers of the kinds of answers.
 const NOTHING: u32 = 0;
 
 const MESSAGE: u32 = 1;
@@ -36,6 +35,7 @@ const SENDER_GONE: u32 = 3;
 
 const RESULT: u32 = 4;
 
+#[tactic(auto, using(crate::proofs::Showing::gone_shown, crate::proofs::Showing::manager_shown))]
 pub fn manager_number(w: u32) -> u8
     ensures { result ≡ manager_code (manager_in w) }
 {
@@ -50,24 +50,22 @@ pub fn manager_number(w: u32) -> u8
 fn state_right(s: u32, d: u32) -> bool
     ensures { result ≡ state_right_of s d }
 {
-    if d == 0 {
-        return s < STATES;
+    match s {
+        RECEIVING | DEVICE => true,
+        TRAPPED => d < 3,
+        _ => d == 0 && s < STATES,
     }
-    if s == TRAPPED {
-        return d < 3;
-    }
-    s == RECEIVING || s == DEVICE
 }
 
 // State and detail. Words that would not be written say device 255.
-pub fn write_state(s: u32, d: u32, out: &mut [u8]) -> usize
-    requires { 2 ≤ length out.old }
-    ensures { Puts (state_value (state_in s d)) out.old out.new result }
+#[tactic(auto, using(crate::proofs::Showing::state_shown, crate::proofs::Showing::state_else))]
+pub fn state_bytes(s: u32, d: u32) -> [u8; 2]
+    ensures { result ≡ state_value (state_in s d) }
 {
     if state_right(s, d) {
-        buffer::put_two(out, saying::byte(s), saying::byte(d))
+        [saying::byte(s), saying::byte(d)]
     } else {
-        buffer::put_two(out, 4, numbers::NOBODY)
+        [4, numbers::NOBODY]
     }
 }
 
@@ -75,29 +73,23 @@ pub fn write_state(s: u32, d: u32, out: &mut [u8]) -> usize
 fn answer_right(k: u32, n: u32, w: u32) -> bool
     ensures { result ≡ answer_right_of k n w }
 {
-    if n == 0 && w == 0 {
-        return k < ANSWERS;
+    match k {
+        NOTHING => n == 0 && w == 0,
+        MESSAGE | NOTICE => true,
+        SENDER_GONE => w == 0,
+        RESULT => n == 0,
+        _ => false,
     }
-    if k == SENDER_GONE {
-        return w == 0;
-    }
-    if k == RESULT {
-        return n == 0;
-    }
-    k == MESSAGE || k == NOTICE
 }
 
 // The sender of an answer whose words are right.
 fn sender_number(k: u32, n: u32) -> u8
     ensures { result ≡ sender_number_of k n }
 {
-    if k == NOTHING {
-        return numbers::NOBODY;
-    }
-    if k == RESULT {
-        numbers::SERVICE
-    } else {
-        saying::byte(n)
+    match k {
+        NOTHING => numbers::NOBODY,
+        RESULT => numbers::SERVICE,
+        _ => saying::byte(n),
     }
 }
 
@@ -107,11 +99,10 @@ pub fn write_answer(k: u32, n: u32, w: u32, out: &mut [u8]) -> usize
     ensures { Puts (answer_value (answer_in k n w)) out.old out.new result }
 {
     if answer_right(k, n, w) {
-        buffer::put_two(out, saying::byte(k), sender_number(k, n));
+        buffer::put_bytes(out, &[saying::byte(k), sender_number(k, n)]);
         buffer::put_word(&mut out[2..], w);
-        return 6;
+    } else {
+        buffer::put_bytes(out, &[1, numbers::NOBODY, 0, 0, 0, 0]);
     }
-    buffer::put_two(out, 1, numbers::NOBODY);
-    buffer::put_word(&mut out[2..], 0);
     6
 }

@@ -2,19 +2,18 @@
 ghost use Rattle.std.specs.Prelude.{◌≡◌, ◌+◌, ◌*◌, ◌<◌, ◌≤◌, length};
 ghost use Rattle.rules.specs.Lists.{each};
 ghost use Rattle.rules.specs.Numbers.{devices};
-ghost use Rattle.rules.specs.Tags.{before_value, head_tag, head_size, thread_tag, thread_size, ready_tag, clock_tag, message_tag};
+ghost use Rattle.rules.specs.Tags.{before_value, head_tag, head_size, thread_tag, thread_size, message_tag};
 ghost use Rattle.rules.specs.Tags.{message_size, held_tag, held_size};
 ghost use Rattle.rules.specs.Dump.{field, head_value, thread_value, message_value, held_value, dump};
-ghost use Rattle.words.specs.Saying.{thread_in};
 ghost use Rattle.store.specs.Store.{tables, Shaped};
 ghost use Rattle.buffer.specs.Puts.{Puts};
 ghost use Rattle.dumping.specs.Dumping.{Dumpable, held_at};
-ghost use Rattle.dumping.specs.Shown.{thread_front};
 
 use crate::shown;
 use handling::dispatch;
 use memory::memory as rows;
-use rules::{Message, codes, numbers, tags};
+use memory::records::{self, NameWalk, ThreadWords};
+use rules::{Message, numbers, tags};
 use store;
 use words::saying;
 
@@ -28,42 +27,56 @@ fn write_head(m: &[u32], out: &mut [u8]) -> usize
 {
     let s = dispatch::status(m);
     let r = store::runner(m);
-    let status = codes::status_code(s);
-    let runner = codes::runner_code(r);
-    let slice = codes::slice_code(r);
+    let status = u8::from(s);
+    let runner = r.name();
+    let slice = r.slice();
     let last = store::last(m);
     let since = store::since(m);
     let beats = store::beats(m);
-    buffer::put_head(out, tags::HEAD, tags::HEAD_SIZE);
-    buffer::put_three(&mut out[3..], status, last, runner);
-    buffer::put_two(&mut out[6..], slice, since);
+    buffer::put_bytes(
+        out,
+        &[
+            tags::HEAD,
+            0,
+            tags::HEAD_SIZE,
+            status,
+            last,
+            runner,
+            slice,
+            since,
+        ],
+    );
     buffer::put_word(&mut out[8..], beats);
     tags::HEAD_FIELD
 }
 
-// Field 2 up to the managers, from a thread's words.
-fn write_front(w: &[u32], out: &mut [u8]) -> usize
-    requires { (length w.now ≡ 11) × (before_value + thread_size ≤ length out.old) }
-    ensures { Puts (thread_front (thread_in w.now)) out.old out.new result }
+// Field 2. The words of a thread stand in it as they are, or as what they say.
+fn write_thread(t: ThreadWords<'_>, out: &mut [u8]) -> usize
+    requires { before_value + thread_size ≤ length out.old }
+    ensures { Puts (field thread_tag (thread_value t.entry)) out.old out.new result }
 {
-    buffer::put_head(out, tags::THREAD, tags::THREAD_SIZE);
-    buffer::put_two(&mut out[3..], saying::byte(w[0]), saying::byte(w[1]));
-    shown::write_state(w[2], w[3], &mut out[5..]);
-    buffer::put_three(
-        &mut out[7..],
-        shown::manager_number(w[4]),
-        shown::manager_number(w[5]),
-        shown::manager_number(w[6]),
+    let w = t.words();
+    let name = saying::byte(w[0]);
+    let parent = saying::byte(w[1]);
+    let [state, detail] = shown::state_bytes(w[2], w[3]);
+    let program = shown::manager_number(w[4]);
+    let tlb = shown::manager_number(w[5]);
+    let sysbp = shown::manager_number(w[6]);
+    buffer::put_bytes(
+        out,
+        &[
+            tags::THREAD,
+            0,
+            tags::THREAD_SIZE,
+            name,
+            parent,
+            state,
+            detail,
+            program,
+            tlb,
+            sysbp,
+        ],
     );
-    10
-}
-
-// Field 2, from a thread's words.
-fn write_thread(w: &[u32], out: &mut [u8]) -> usize
-    requires { (length w.now ≡ 11) × (before_value + thread_size ≤ length out.old) }
-    ensures { Puts (field thread_tag (thread_value (thread_in w.now))) out.old out.new result }
-{
-    write_front(w, out);
     buffer::put_word(&mut out[10..], w[7]);
     shown::write_answer(w[8], w[9], w[10], &mut out[14..]);
     tags::THREAD_FIELD
@@ -74,45 +87,25 @@ fn write_threads(m: &[u32], out: &mut [u8]) -> usize
     ensures { Puts (each (λ t. field thread_tag (thread_value t)) (tables m.now).threads) out.old
         out.new result }
 {
-    let n = store::thread_count(m);
     let mut at = 0;
-    let mut i = 0;
-    while i < n {
-        let w = rows::thread_words(m, i);
-        at += write_thread(w, &mut out[at..]);
-        i += 1;
+    for t in records::threads(m) {
+        at += write_thread(t, &mut out[at..]);
     }
     at
 }
 
-// Field 3: the ready names, front first.
-fn write_ready(m: &[u32], out: &mut [u8]) -> usize
-    requires { Shaped m.now × (before_value + length (tables m.now).ready ≤ length out.old) }
-    ensures { Puts (field ready_tag (tables m.now).ready) out.old out.new result }
+// A field of names, in order: its length is how many. Field 3 has the ready ones, front first, and 4 those who wait for the clock.
+fn write_names(tag: u8, names: NameWalk<'_>, out: &mut [u8]) -> usize
+    requires { (length names < 256) × (before_value + length names ≤ length out.old) }
+    ensures { Puts (field tag names.entry) out.old out.new result }
 {
-    let n = store::ready_count(m);
-    buffer::put_head(out, tags::READY, n as u8);
-    let mut i = 0;
-    while i < n {
-        out[tags::BEFORE_VALUE + i] = store::ready_at(m, i);
-        i += 1;
+    let mut at = tags::BEFORE_VALUE;
+    for name in names {
+        out[at] = name;
+        at += 1;
     }
-    tags::BEFORE_VALUE + n
-}
-
-// Field 4: who waits for the clock, in order.
-fn write_clock(m: &[u32], out: &mut [u8]) -> usize
-    requires { Shaped m.now × (before_value + length (tables m.now).clock ≤ length out.old) }
-    ensures { Puts (field clock_tag (tables m.now).clock) out.old out.new result }
-{
-    let n = store::clock_count(m);
-    buffer::put_head(out, tags::CLOCK, n as u8);
-    let mut i = 0;
-    while i < n {
-        out[tags::BEFORE_VALUE + i] = store::clock_at(m, i);
-        i += 1;
-    }
-    tags::BEFORE_VALUE + n
+    buffer::put_bytes(out, &[tag, 0, (at - tags::BEFORE_VALUE) as u8]);
+    at
 }
 
 // Field 5.
@@ -120,9 +113,11 @@ fn write_message(x: Message, out: &mut [u8]) -> usize
     requires { before_value + message_size ≤ length out.old }
     ensures { Puts (field message_tag (message_value x)) out.old out.new result }
 {
-    let kind = x.kind;
-    buffer::put_head(out, tags::MESSAGE, tags::MESSAGE_SIZE);
-    buffer::put_three(&mut out[3..], x.to, x.from, codes::message_code(kind));
+    let kind = u8::from(x.kind);
+    buffer::put_bytes(
+        out,
+        &[tags::MESSAGE, 0, tags::MESSAGE_SIZE, x.to, x.from, kind],
+    );
     buffer::put_word(&mut out[6..], x.word);
     tags::MESSAGE_FIELD
 }
@@ -132,13 +127,9 @@ fn write_messages(m: &[u32], out: &mut [u8]) -> usize
     ensures { Puts (each (λ x. field message_tag (message_value x)) (tables m.now).messages) out.old
         out.new result }
 {
-    let n = store::message_count(m);
     let mut at = 0;
-    let mut i = 0;
-    while i < n {
-        let x = store::message_at(m, i);
-        at += write_message(x, &mut out[at..]);
-        i += 1;
+    for x in records::messages(m) {
+        at += write_message(x.message(), &mut out[at..]);
     }
     at
 }
@@ -150,11 +141,10 @@ fn write_word(m: &[u32], d: u8, out: &mut [u8]) -> usize
     ensures { Puts (each (λ h. field held_tag (held_value h)) (held_at d (tables m.now).held)) out.old
         out.new result }
 {
-    if !store::is_held(m, d) {
+    let Some(word) = rows::held(m, d) else {
         return 0;
-    }
-    let word = store::held_word(m, d);
-    buffer::put_four(out, tags::HELD, 0, tags::HELD_SIZE, d);
+    };
+    buffer::put_bytes(out, &[tags::HELD, 0, tags::HELD_SIZE, d]);
     buffer::put_word(&mut out[4..], word);
     tags::HELD_FIELD
 }
@@ -166,20 +156,10 @@ fn write_held(m: &[u32], out: &mut [u8]) -> usize
         result }
 {
     let mut at = 0;
-    let mut d = 0;
-    while d < numbers::DEVICES {
+    for d in 0..numbers::DEVICES {
         at += write_word(m, d, &mut out[at..]);
-        d += 1;
     }
     at
-}
-
-// 1 if a word is held for the device, 0 if none.
-fn count_word(m: &[u32], d: u8) -> usize
-    requires { Shaped m.now × (d < devices) }
-    ensures { result ≡ length (held_at d (tables m.now).held) }
-{
-    if store::is_held(m, d) { 1 } else { 0 }
 }
 
 // How many words are held.
@@ -188,15 +168,14 @@ fn count_held(m: &[u32]) -> usize
     ensures { result ≡ length (tables m.now).held }
 {
     let mut n = 0;
-    let mut d = 0;
-    while d < numbers::DEVICES {
-        n += count_word(m, d);
-        d += 1;
+    for d in 0..numbers::DEVICES {
+        n += usize::from(rows::held(m, d).is_some());
     }
     n
 }
 
 // How long a buffer has to be.
+#[tactic(auto, using(crate::proofs::Parts::short, laws::proofs::DumpLength::dump_length))]
 pub fn dump_length(m: &[u32]) -> usize
     requires { Dumpable m.now }
     ensures { result ≡ length (dump (tables m.now)) }
@@ -221,8 +200,8 @@ pub fn write_dump(m: &[u32], out: &mut [u8]) -> usize
 {
     let mut at = write_head(m, out);
     at += write_threads(m, &mut out[at..]);
-    at += write_ready(m, &mut out[at..]);
-    at += write_clock(m, &mut out[at..]);
+    at += write_names(tags::READY, records::ready(m), &mut out[at..]);
+    at += write_names(tags::CLOCK, records::clock(m), &mut out[at..]);
     at += write_messages(m, &mut out[at..]);
     at += write_held(m, &mut out[at..]);
     at

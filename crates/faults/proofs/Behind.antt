@@ -10,10 +10,9 @@ use borrow.Author.Tests.{ne_eqb}
 use Rattle.rules.specs.Lists.{any, has}
 use Rattle.rules.specs.Tags.{head_tag, ready_tag, clock_tag, dump_rows, dump_facts, dump_facts_in}
 use Rattle.rules.specs.Load.{Field}
-use Rattle.rules.specs.Faults.{Placed, place_before, misplaced}
-use Rattle.faults.specs.declared.Before.{Before}
+use Rattle.rules.specs.Faults.{place_before, misplaced}
+use Rattle.faults.specs.declared.order.Before.{Before}
 use Rattle.faults.specs.Order.{nothing_before, seen, misplaced_behind, after, missing, Tells}
-use Rattle.faults.specs.Passes.{form_fault, form_behind}
 
 pub nothing_tells : Tells [] nothing_before
 unfolding any place_before
@@ -28,14 +27,6 @@ after_tells tag tags b t =
       ready = ap (λ (x : Bool). (ready_tag == tag) || x) t.ready;
       clock = ap (λ (x : Bool). (clock_tag == tag) || x) t.clock;
     }
-
--- by its parts
-pub after_is : (b : Before) (tag place : ℕ) (head ready clock : Bool) → place ≡ (dump_facts tag).place →
-    head ≡ ((head_tag == tag) || b.head)
-    → ready ≡ ((ready_tag == tag) || b.ready) → clock ≡ ((clock_tag == tag) || b.clock)
-    → record { place = place; head = head; ready = ready; clock = clock } ≡ after b tag
-unfolding after
-after_is b tag place head ready clock p h r k = λ i. record { place = p i; head = h i; ready = r i; clock = k i }
 
 -- only 1, 3 and 4 stand once
 once_seen : (tag : ℕ) (tags : List ℕ) (b : Before) → Tells tags b →
@@ -60,20 +51,13 @@ once_seen (suc (suc (suc (suc (suc (suc (suc n))))))) tags b t =
     )
 
 -- a field with these tags before it
-module _ (at : ℕ) (tags : List ℕ) (f : Field) (b : Before) (t : Tells tags b) where
-  abbrev here : Placed
-  here = record { at = at; before = tags; field = f }
-
-  placed_behind : misplaced here ≡ misplaced_behind b f.tag
-  unfolding misplaced misplaced_behind
-  placed_behind =
-      ap₂ (λ (x y : Bool). not (dump_facts f.tag).known || x || y)
-      (ap (ltb (dump_facts f.tag).place) (sym t.place))
-      (once_seen f.tag tags b t)
-
-  pub fault_told : (number : ℕ) → form_fault number here ≡ form_behind number b f
-  unfolding form_fault form_behind
-  fault_told number = rw placed_behind
+pub placed_behind : (at : ℕ) (tags : List ℕ) (b : Before) (f : Field) → Tells tags b →
+    misplaced (record { at = at; before = tags; field = f }) ≡ misplaced_behind b f.tag
+unfolding misplaced misplaced_behind
+placed_behind at tags b f t =
+    ap₂ (λ (x y : Bool). not (dump_facts f.tag).known || x || y)
+    (ap (ltb (dump_facts f.tag).place) (sym t.place))
+    (once_seen f.tag tags b t)
 
 missing_any : (x y z : Bool) → (not x || not y || not z) ≡ (not x || (false || (not y || (not z || (false || (false || false))))))
 missing_any true true true = refl

@@ -1,25 +1,12 @@
 -- What the tests of ranges and lengths rest on.
-use Rattle.std.proofs.Common.{◌==◌}
-use Prim.Native.Nat.{ℕ, zero, suc, ◌-◌, ◌<◌}
-use mathlib.Core.Bool.{Bool, true, false, ◌&&◌, not, false≢true}
-use mathlib.Core.List.{List}
-use mathlib.Core.Path.{◌≡◌, refl, sym, ap, ◌∙◌, subst}
-use native.Mathlib.Omega.{arith}
+use Rattle.std.proofs.Common.{ℕ, zero, suc, ◌==◌, ◌&&◌, ◌≡◌, Bool, true, false, not, List, length, refl, sym, ap, ◌∙◌, arith}
+use mathlib.Core.Bool.{false≢true}
 use lib.Dec.{ltb}
-use lib.ListN.{length, take, drop, length-drop}
-use lib.Seq.{take_all}
-use borrow.Author.Tests.{ne_eqb, lt-ltb, le-ltb, eqb-true}
+use borrow.Author.Tests.{ne_eqb, le-ltb, eqb-true}
 use Rattle.rules.specs.Lists.{any}
-use Rattle.rules.specs.Numbers.{wrap}
-use Rattle.rules.specs.Tags.{before_value, dump_facts}
-use Rattle.rules.specs.Codes.{status_code, answer_numbers}
-use Rattle.rules.specs.TableRules.{answer_in_range}
+use Rattle.rules.specs.Tags.{dump_facts, dump_facts_in}
+use Rattle.rules.specs.Codes.{status_code}
 use Rattle.rules.specs.Faults.{wrong_length, status_fits}
-use Rattle.laws.specs.Words.{Answer, Result}
-
-pub and_true : (b : Bool) → (b && true) ≡ b
-and_true true = refl
-and_true false = refl
 
 -- statuses are 0 to 3
 pub status_below : (n : ℕ) → ltb n 4 ≡ status_fits n
@@ -34,7 +21,7 @@ status_below (suc (suc (suc (suc n)))) =
     ∙ rw (ne_eqb m 0 (λ e. omega arith), ne_eqb m 1 (λ e. omega arith), ne_eqb m 2 (λ e. omega arith), ne_eqb m 3 (λ e. omega arith))
 
 -- a field whose length is fixed, and not wrong
-pub long : (tag : ℕ) (v : List ℕ) (n : ℕ) → tag ≡ n → (dump_facts n).sized ≡ true → wrong_length (record { tag = tag; value = v }) ≡ false →
+long : (tag : ℕ) (v : List ℕ) (n : ℕ) → tag ≡ n → (dump_facts n).sized ≡ true → wrong_length (record { tag = tag; value = v }) ≡ false →
     length v ≡ (dump_facts n).length
 unfolding wrong_length
 long tag v n e s h = go (length v == (dump_facts n).length) refl (sym (same tag e) ∙ h)
@@ -47,11 +34,19 @@ long tag v n e s h = go (length v == (dump_facts n).length) refl (sym (same tag 
     go true k _ = eqb-true (length v) (dump_facts n).length k
     go false k h = absurd (false≢true (sym h ∙ ap not k))
 
--- a service result whose word is one
-pub result_right : (a : Answer) (w : ℕ) → a ≡ Result w → (answer_numbers a).word < wrap → true ≡ answer_in_range a
-unfolding answer_numbers answer_in_range
-result_right a w e h = rw (e, lt-ltb w wrap (subst (λ (x : Answer). (answer_numbers x).word < wrap) e h))
+module _ (tag : ℕ) (v : List ℕ) (right : wrong_length (record { tag = tag; value = v }) ≡ false) where
+  pub head_long : tag ≡ 1 → length v ≡ 9
+  unfolding dump_facts dump_facts_in
+  head_long e = long tag v 1 e refl right
 
--- the value of a field, as the code cuts it off
-pub value_is : (f : List ℕ) → take (length f - before_value) (drop before_value f) ≡ drop before_value f
-value_is f = take_all (length f - before_value) (drop before_value f) (omega (arith, length-drop before_value f))
+  pub thread_long : tag ≡ 2 → length v ≡ 17
+  unfolding dump_facts dump_facts_in
+  thread_long e = long tag v 2 e refl right
+
+  pub message_long : tag ≡ 5 → length v ≡ 7
+  unfolding dump_facts dump_facts_in
+  message_long e = long tag v 5 e refl right
+
+  pub held_long : tag ≡ 6 → length v ≡ 5
+  unfolding dump_facts dump_facts_in
+  held_long e = long tag v 6 e refl right

@@ -1,6 +1,7 @@
-pub mod Fits
 pub mod Alls
 pub mod Behind
-pub mod Walking
-pub mod Naming
 pub mod Finding
+pub mod Fits
+pub mod Naming
+pub mod Passing
+pub mod Standing

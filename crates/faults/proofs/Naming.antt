@@ -1,136 +1,99 @@
--- The marks of live names: those of the fields before a place are there.
-use Rattle.std.proofs.Common.{◌==◌}
-use Prim.Native.Nat.{ℕ, zero, suc, ◌+◌, ◌≤◌, ◌<◌}
-use mathlib.Core.Bool.{Bool, true, false, ◌||◌}
-use mathlib.Core.List.{List, [], ◌∷◌, map}
+-- The marks of live names: those of the fields so far are there.
+use Rattle.std.proofs.Common.{ℕ, zero, suc, ◌+◌, ◌<◌, ◌≡◌, Bool, true, false, ◌||◌, ◌&&◌, ◌==◌, List, [], ◌∷◌, map, length, get_or, set, replicate}
+use Rattle.std.proofs.Common.{refl, sym, ap, ◌∙◌, arith, length-set, Some, None}
+use Rattle.std.specs.Borrow.{Bor}
 use mathlib.Core.Logic.{◌≢◌}
-use mathlib.Core.Path.{◌≡◌, refl, sym, ap, ◌∙◌}
-use native.Mathlib.Omega.{arith}
-use lib.ListN.{length, drop, get_or, set, replicate, length-set, length-replicate, drop_of_length-le, length-drop}
-use lib.Seq.{get_or-set_same, get_or-set_other, get_or-take, get_or-drop}
+use lib.ListN.{length-replicate}
+use lib.Seq.{get_or-set_same, get_or-set_other}
 use borrow.Author.Tests.{eq-eqb, ne_eqb, eqb-true, eqb-false}
 use Rattle.rules.specs.Lists.{any, keep}
 use Rattle.rules.specs.Tables.{named, live}
-use Rattle.rules.specs.Tags.{before_value, thread_tag, dump_facts, dump_facts_in}
-use Rattle.rules.specs.Fields.{field_size, whole, complete}
+use Rattle.rules.specs.Tags.{thread_tag}
+use Rattle.rules.specs.Fields.{complete}
 use Rattle.rules.specs.Load.{as_field, fields_of, thread_from, values_of, tables_from, told}
-use Rattle.rules.specs.Faults.{placed_from, placed, offsets, wrong_length}
-use Rattle.laws.proofs.Batch.{complete_none, complete_first}
+use Rattle.faults.specs.declared.order.Before.{Before}
+use Rattle.faults.specs.declared.placed.Placed.{Placed}
+use Rattle.faults.specs.declared.placed.Fields.{Fields}
+use Rattle.faults.specs.Order.{nothing_before, after}
+use Rattle.faults.specs.Fields.{standing, fields_from, left, Gives}
 use Rattle.faults.specs.Names.{lives_in, Named}
-use Rattle.faults.proofs.Fits.{long}
-use Rattle.faults.proofs.Walking.{or_moves, or_false, offsets_none, first, behind_it, ends_within, first_long, placed_next}
+use Rattle.faults.proofs.Passing.{or_moves, or_false}
 
 -- has a field 2 among these this name?
-abbrev pub lived : ℕ → List (List ℕ) → Bool
-lived n fs = any (named n) (map thread_from (values_of thread_tag (map as_field fs)))
+abbrev tells : ℕ → Placed → Bool
+tells n f = (f.field.tag == thread_tag) && (n == get_or f.field.value 0 0)
 
-live_told : (n : ℕ) (bytes : List ℕ) → live n (told bytes) ≡ lived n (complete bytes)
-unfolding told tables_from fields_of
-live_told n bytes = refl
+abbrev pub lived : ℕ → List Placed → Bool
+lived n fs = any (tells n) fs
 
--- a field 2 tells its name, another one none
-lived_thread : (n : ℕ) (f : List ℕ) (fs : List (List ℕ)) → (as_field f).tag ≡ thread_tag →
-    lived n (f ∷ fs) ≡ ((n == get_or (as_field f).value 0 0) || lived n fs)
-unfolding any keep thread_from
-lived_thread n f fs e = rw (eq-eqb (as_field f).tag thread_tag e)
+lived_in : (n at : ℕ) (b : Before) (fs : List (List ℕ)) →
+    any (named n) (map thread_from (values_of thread_tag (map as_field fs))) ≡ lived n (standing at b fs)
+unfolding any keep standing thread_from
+lived_in n at b [] = refl
+lived_in n at b (f ∷ fs) =
+    go ((as_field f).tag == thread_tag) refl (lived_in n (at + length f) (after b (as_field f).tag) fs)
+  where
+    go : (x : Bool) → ((as_field f).tag == thread_tag) ≡ x →
+        any (named n) (map thread_from (values_of thread_tag (map as_field fs)))
+        ≡ lived n (standing (at + length f) (after b (as_field f).tag) fs)
+        → any (named n) (map thread_from (values_of thread_tag (map as_field (f ∷ fs)))) ≡ lived n (standing at b (f ∷ fs))
+    go true e h = rw (e, h) refl
+    go false e h = rw e h
 
-lived_other : (n : ℕ) (f : List ℕ) (fs : List (List ℕ)) → (as_field f).tag ≢ thread_tag → lived n (f ∷ fs) ≡ lived n fs
-unfolding any keep
-lived_other n f fs e = rw (ne_eqb (as_field f).tag thread_tag e)
-
-zeros : (k n : ℕ) → ◌≡◌ {A = ℕ} (get_or (replicate k 0) n 0) 0
-zeros zero n = refl
-zeros (suc k) zero = refl
-zeros (suc k) (suc n) = zeros k n
+none_marked : (k n : ℕ) → get_or (replicate k false) n false ≡ false
+none_marked zero n = refl
+none_marked (suc k) zero = refl
+none_marked (suc k) (suc n) = none_marked k n
 
 -- one more mark
-marked : (marks : List ℕ) (x n : ℕ) → x < length marks → lives_in (set marks x 1) n ≡ ((n == x) || lives_in marks n)
-unfolding lives_in
-marked marks x n h = go (n == x) refl
+one_marked : (marks : List Bool) (x n : ℕ) → x < length marks → get_or (set marks x true) n false ≡ ((n == x) || get_or marks n false)
+one_marked marks x n h = go (n == x) refl
   where
-    go : (b : Bool) → (n == x) ≡ b → (get_or (set marks x 1) n 0 == 1) ≡ (b || (get_or marks n 0 == 1))
-    go true e = ap (λ (k : ℕ). k == 1) (ap (λ (j : ℕ). get_or (set marks x 1) j 0) (eqb-true n x e) ∙ get_or-set_same marks x 1 0 h)
-    go false e = ap (λ (k : ℕ). k == 1) (get_or-set_other marks x n 1 0 (eqb-false n x e))
+    go : (b : Bool) → (n == x) ≡ b → get_or (set marks x true) n false ≡ (b || get_or marks n false)
+    go true e = ap (λ (j : ℕ). get_or (set marks x true) j false) (eqb-true n x e) ∙ get_or-set_same marks x true false h
+    go false e = get_or-set_other marks x n true false (eqb-false n x e)
 
-module _ (bytes : List ℕ) where
-  abbrev lengths_right : ℕ → List ℕ → Type 0
-  lengths_right at before = offsets (λ f. wrong_length f.field) (placed_from at before (complete (drop at bytes))) ≡ []
+-- the names of the fields so far are marked
+pub record Marked (bytes : List ℕ) (marks : List Bool) (s : Fields) : Type 0 where
+  pub size : length marks ≡ 256
+  pub so : (n : ℕ) → live n (told bytes) ≡ (get_or marks n false || lived n (left s))
 
-  pub record Marking (at : ℕ) (marks : List ℕ) : Type 0 where
-    pub before : List ℕ
-    pub within : at ≤ length bytes
-    pub right : lengths_right at before
-    pub size : length marks ≡ 256
-    pub so : (n : ℕ) → live n (told bytes) ≡ (lives_in marks n || lived n (complete (drop at bytes)))
+pub mark_starts : (bytes : Bor (List ℕ)) (s : Fields) → s ≡ fields_from bytes → Marked bytes.now (replicate 256 false) s
+unfolding told tables_from fields_of
+mark_starts bytes s e = record {
+  size = length-replicate {A = Bool} 256 false;
+  so = λ n. lived_in n 0 nothing_before (complete bytes.now)
+      ∙ (ap (λ (x : Fields). lived n (left x)) (sym e)
+      ∙ sym (ap (λ (b : Bool). b || lived n (left s)) (none_marked 256 n)));
+}
 
-  pub mark_starts : offsets (λ f. wrong_length f.field) (placed bytes) ≡ [] → Marking 0 (replicate 256 0)
-  unfolding lives_in
-  mark_starts h = record {
-    before = [];
-    within = omega arith;
-    right = h;
-    size = length-replicate {A = ℕ} 256 0;
-    so = λ n. live_told n bytes ∙ sym (ap (λ (k : ℕ). (k == 1) || lived n (complete bytes)) (zeros 256 n));
-  }
-
-  module _ {at : ℕ} {marks : List ℕ} (M : Marking at marks) (end : ℕ) (w : whole (drop at bytes) ≡ true)
-      (e : end ≡ at + field_size (drop at bytes)) where
-    abbrev f : List ℕ
-    f = first (drop at bytes)
-
-    -- the lengths of this one and of those behind it
-    here : (wrong_length (as_field f) ≡ false) × lengths_right end ((as_field f).tag ∷ M.before)
-    here = offsets_none _ _ _ (sym (ap (offsets (λ f. wrong_length f.field)) (placed_next bytes at end w e M.before)) ∙ M.right)
-
-    here_and_behind : (n : ℕ) → lived n (complete (drop at bytes)) ≡ lived n (f ∷ complete (drop end bytes))
-    here_and_behind n =
-        ap (lived n) ((complete_first (drop at bytes) w).0 ∙ ap (λ (r : List ℕ). f ∷ complete r) (behind_it bytes at end w e))
-
-    pub mark_skips : (as_field f).tag ≢ thread_tag → Marking end marks
+module _ (bytes : List ℕ) (marks : List Bool) (s t : Fields) (M : Marked bytes marks s) where
+  module _ (f : Placed) (G : Gives s (Some f) t) where
+    pub mark_skips : f.field.tag ≢ thread_tag → Marked bytes marks t
+    unfolding any
     mark_skips o = record {
-      before = (as_field f).tag ∷ M.before;
-      within = (ends_within bytes at end w e).1;
-      right = here.1;
       size = M.size;
-      so = λ n. M.so n ∙ ap (λ (b : Bool). lives_in marks n || b) (here_and_behind n ∙ lived_other n f (complete (drop end bytes)) o);
+      so = λ n. M.so n ∙ ap (λ (b : Bool). get_or marks n false || b) (ap (lived n) G.first ∙ skipped n);
     }
+      where
+        skipped : (n : ℕ) → lived n (f ∷ left t) ≡ lived n (left t)
+        skipped n = rw (ne_eqb f.field.tag thread_tag o) refl
 
-    -- a field 2 is twenty bytes long
-    pub thread_long : (as_field f).tag ≡ thread_tag → at + 20 ≡ end
-    unfolding dump_facts dump_facts_in
-    thread_long o =
-        let k = long (as_field f).tag (as_field f).value 2 o refl here.0 in
-        omega (arith, e, k, length-drop before_value f, first_long bytes at end w e)
-
-    pub name_there : (as_field f).tag ≡ thread_tag → get_or (as_field f).value 0 0 ≡ get_or bytes (at + 3) 0
-    name_there o =
-        get_or-drop before_value f 0 0
-        ∙ (get_or-take (field_size (drop at bytes)) (drop at bytes) 3 0 (omega (arith, thread_long o, e)) ∙ get_or-drop at bytes 3 0)
-
-    pub mark_next : (as_field f).tag ≡ thread_tag → (x : ℕ) → x ≡ get_or (as_field f).value 0 0 → x < 256 → Marking end (set marks x 1)
+    pub mark_next : f.field.tag ≡ thread_tag → (x : ℕ) → x ≡ get_or f.field.value 0 0 → x < 256 → Marked bytes (set marks x true) t
+    unfolding any
     mark_next o x v h = record {
-      before = (as_field f).tag ∷ M.before;
-      within = (ends_within bytes at end w e).1;
-      right = here.1;
-      size = length-set marks x 1 ∙ M.size;
+      size = length-set marks x true ∙ M.size;
       so = λ n. M.so n
-          ∙ (ap (λ (b : Bool). lives_in marks n || b) (here_and_behind n
-          ∙ (lived_thread n f (complete (drop end bytes)) o ∙ ap (λ (k : ℕ). (n == k) || lived n (complete (drop end bytes))) (sym v)))
-          ∙ (or_moves (lives_in marks n) (n == x) (lived n (complete (drop end bytes)))
-          ∙ ap (λ (b : Bool). b || lived n (complete (drop end bytes))) (sym (marked marks x n (omega (arith, M.size))))));
+          ∙ (ap (λ (b : Bool). get_or marks n false || b) (ap (lived n) G.first ∙ told_by n)
+          ∙ (or_moves (get_or marks n false) (n == x) (lived n (left t))
+          ∙ ap (λ (b : Bool). b || lived n (left t)) (sym (one_marked marks x n (omega (arith, M.size))))));
     }
+      where
+        told_by : (n : ℕ) → lived n (f ∷ left t) ≡ ((n == x) || lived n (left t))
+        told_by n = rw (eq-eqb f.field.tag thread_tag o, ← v) refl
 
-  -- no field is left
-  all_marked : {at : ℕ} {marks : List ℕ} → Marking at marks → complete (drop at bytes) ≡ [] → Named bytes marks
-  unfolding any keep
-  all_marked {at} {marks} M e = record {
-    size = M.size;
-    so = λ i n. sym (M.so n ∙ (ap (λ (c : List (List ℕ)). lives_in marks n || lived n c) e ∙ or_false (lives_in marks n))) i;
+  pub mark_ends : Gives s None t → Named bytes (record { marks = marks })
+  unfolding lives_in any
+  mark_ends G = record {
+    so = λ i n. sym (M.so n ∙ (ap (λ fs. get_or marks n false || lived n fs) G.first.0 ∙ or_false (get_or marks n false))) i;
   }
-
-  pub mark_cut : {at : ℕ} {marks : List ℕ} → Marking at marks → whole (drop at bytes) ≡ false → Named bytes marks
-  mark_cut {at} M w = all_marked M (complete_none (drop at bytes) w).0
-
-  pub mark_ends : {at : ℕ} {marks : List ℕ} → Marking at marks → length bytes ≤ at → Named bytes marks
-  unfolding whole
-  mark_ends M h = mark_cut M (ap whole (drop_of_length-le bytes h))

@@ -1,3 +1,4 @@
 pub mod Order
+pub mod Fields
 pub mod Names
 pub mod Passes

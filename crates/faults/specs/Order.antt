@@ -3,7 +3,7 @@ use Rattle.std.specs.Prelude.{ℕ, Bool, false, ◌&&◌, ◌||◌, not, List, �
 use Rattle.rules.specs.Lists.{has}
 use Rattle.rules.specs.Tags.{head_tag, ready_tag, clock_tag, dump_facts}
 use Rattle.rules.specs.Faults.{place_before}
-use Rattle.faults.specs.declared.Before.{Before}
+use Rattle.faults.specs.declared.order.Before.{Before}
 
 abbrev pub nothing_before : Before
 nothing_before = record { place = 0; head = false; ready = false; clock = false }

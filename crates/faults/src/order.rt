@@ -1,104 +1,71 @@
 // "Unknown tag, tags out of order, or a second 1, 3 or 4" (16), and which of these three is missing (15).
 ghost use Rattle.std.specs.Prelude.{◌≡◌};
 ghost use Rattle.rules.specs.Tags.{dump_facts};
-ghost use Rattle.faults.specs.Order.{nothing_before as nothing_of, seen as seen_of, misplaced_behind, after as after_of};
-ghost use Rattle.faults.specs.Order.{missing as missing_of};
+ghost use Rattle.faults.specs.Order.{seen as seen_of, misplaced_behind, after as after_of, missing as missing_of};
 
-use crate::Before;
 use rules::tags;
 
-pub fn nothing_before() -> Before
-    ensures { result ≡ nothing_of }
-{
-    Before {
-        place: 0,
-        head: false,
-        ready: false,
-        clock: false,
-    }
-}
+// The place of a field that no dump has: behind them all.
+const BEHIND_ALL: u8 = 6;
 
-// Was a field of this tag, 1, 3 or 4, among those before?
-fn seen(b: Before, tag: u8) -> bool
-    ensures { result ≡ seen_of b tag }
-{
-    if tag == tags::HEAD {
-        return b.head;
-    }
-    if tag == tags::READY {
-        return b.ready;
-    }
-    b.clock
-}
-
-pub fn misplaced(b: Before, tag: u8) -> bool
-    ensures { result ≡ misplaced_behind b tag }
-{
-    let facts = tags::dump_facts(tag);
-    if !facts.known {
-        return true;
-    }
-    if facts.place < b.place {
-        return true;
-    }
-    if !facts.once {
-        return false;
-    }
-    seen(b, tag)
-}
-
+#[tactic(auto, unfolding(rules::specs::Tags::dump_field, rules::specs::Tags::dump_facts, rules::specs::Tags::dump_facts_in))]
 fn place_of(tag: u8) -> u8
     ensures { result ≡ (dump_facts tag).place }
 {
-    tags::dump_facts(tag).place
-}
-
-// What stands before the next field.
-pub fn after(b: Before, tag: u8) -> Before
-    ensures { result ≡ after_of b tag }
-{
-    let place = place_of(tag);
-    if tag == tags::HEAD {
-        return Before {
-            place,
-            head: true,
-            ready: b.ready,
-            clock: b.clock,
-        };
-    }
-    if tag == tags::READY {
-        return Before {
-            place,
-            head: b.head,
-            ready: true,
-            clock: b.clock,
-        };
-    }
-    if tag == tags::CLOCK {
-        return Before {
-            place,
-            head: b.head,
-            ready: b.ready,
-            clock: true,
-        };
-    }
-    Before {
-        place,
-        head: b.head,
-        ready: b.ready,
-        clock: b.clock,
+    match tags::dump_facts(tag) {
+        None => BEHIND_ALL,
+        Some(field) => field.place,
     }
 }
 
-// Is there no field 1, 3 or 4?
-pub fn missing(b: Before) -> bool
-    ensures { result ≡ missing_of b }
-{
-    if !b.head {
-        return true;
+// What stood before a field, by default nothing: the place of the nearest one in the order of a dump, and whether a field 1, 3 and 4 was
+// among them.
+#[derive(Clone, Copy, Default)]
+pub struct Before {
+    place: u8,
+    head: bool,
+    ready: bool,
+    clock: bool,
+}
+
+#[tactic(auto, unfolding(crate::specs::Order::seen, crate::specs::Order::misplaced_behind, crate::specs::Order::after, crate::specs::Order::missing, rules::specs::Tags::dump_field))]
+impl Before {
+    // Was a field of this tag, 1, 3 or 4, among those before?
+    fn seen(&self, tag: u8) -> bool
+        ensures { result ≡ seen_of self.now tag }
+    {
+        match tag {
+            tags::HEAD => self.head,
+            tags::READY => self.ready,
+            _ => self.clock,
+        }
     }
-    if !b.ready {
-        return true;
+
+    pub fn misplaces(&self, tag: u8) -> bool
+        ensures { result ≡ misplaced_behind self.now tag }
+    {
+        match tags::dump_facts(tag) {
+            None => true,
+            Some(field) => field.place < self.place || field.once && self.seen(tag),
+        }
     }
-    !b.clock
+
+    // What stands before the next field.
+    pub fn after(&self, tag: u8) -> Before
+        ensures { result ≡ after_of self.now tag }
+    {
+        Before {
+            place: place_of(tag),
+            head: tag == tags::HEAD || self.head,
+            ready: tag == tags::READY || self.ready,
+            clock: tag == tags::CLOCK || self.clock,
+        }
+    }
+
+    // Is there no field 1, 3 or 4?
+    pub fn missing(&self) -> bool
+        ensures { result ≡ missing_of self.now }
+    {
+        !self.head || !self.ready || !self.clock
+    }
 }

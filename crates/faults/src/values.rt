@@ -1,26 +1,19 @@
 // The values of fields, read from their bytes. What a number stands for is not tested here: ranges.rt does that of a dump that is
 // refused, and of one that is accepted the comparison with the writer.
-ghost use Rattle.std.specs.Prelude.{◌≡◌, ◌+◌, ◌≤◌, ◌<◌, length};
+ghost use Rattle.std.specs.Prelude.{◌≡◌, ◌+◌, ◌≤◌, length};
 ghost use Rattle.rules.specs.Tags.{thread_size, message_size, held_size};
 ghost use Rattle.rules.specs.Load.{runner_from, word_at as word_of, thread_from, message_from, held_from};
 
-use rules::{Held, Managers, Message, Runner, Thread, codes, numbers};
-
-fn wide(b: u8) -> u32
-    ensures { (result ≡ b) × (result < 256) }
-{
-    b as u32
-}
+use rules::{
+    Answer, Held, Manager, Managers, Message, MessageKind, Runner, State, Thread, codes, numbers,
+};
 
 // A big-endian number of four bytes.
 pub fn word_at(v: &[u8], at: usize) -> u32
     requires { at + 4 ≤ length v.now }
     ensures { result ≡ word_of v.now at }
 {
-    let a = wide(v[at]);
-    let b = a * 256 + wide(v[at + 1]);
-    let c = b * 256 + wide(v[at + 2]);
-    c * 256 + wide(v[at + 3])
+    u32::from_be_bytes([v[at], v[at + 1], v[at + 2], v[at + 3]])
 }
 
 // The runner of field 1.
@@ -42,14 +35,14 @@ pub fn read_thread(v: &[u8]) -> Thread
     Thread {
         name: v[0],
         parent: codes::parent_from(v[1]),
-        state: codes::state_from(v[2], v[3]),
+        state: State::from_numbers(v[2], v[3]),
         managers: Managers {
-            program: codes::manager_from(v[4]),
-            tlb: codes::manager_from(v[5]),
-            sysbp: codes::manager_from(v[6]),
+            program: Manager::from(v[4]),
+            tlb: Manager::from(v[5]),
+            sysbp: Manager::from(v[6]),
         },
         ticks: word_at(v, 7),
-        answer: codes::answer_from(v[11], v[12], word_at(v, 13)),
+        answer: Answer::from_numbers(v[11], v[12], word_at(v, 13)),
     }
 }
 
@@ -61,7 +54,7 @@ pub fn read_message(v: &[u8]) -> Message
     Message {
         to: v[0],
         from: v[1],
-        kind: codes::message_kind_from(v[2]),
+        kind: MessageKind::from(v[2]),
         word: word_at(v, 3),
     }
 }

@@ -1,42 +1,28 @@
 // The work of the reader, on a slice and a number.
-ghost use Rattle.std.specs.Prelude.{◌<◌, ◌≡◌};
+ghost use Rattle.std.specs.Prelude.{◌≡◌};
 ghost use Rattle.fields.specs.Fields.{cut, EndOf};
 
 use crate::Cut;
-
-fn wide(b: u8) -> usize
-    ensures { (result ≡ b) × (result < 256) }
-{
-    b as usize
-}
+use rules::tags;
 
 // The field at a place.
+#[tactic(auto, unfolding(crate::specs::Fields::field_size, crate::specs::Fields::whole))]
 pub fn cut_at(input: &[u8], place: usize) -> Cut
     ensures { result ≡ cut input.now place }
 {
-    if input.len() <= place {
-        return Cut {
-            end: place,
-            whole: false,
-        };
-    }
-    let left = input.len() - place;
-    if left < 3 {
-        return Cut {
-            end: input.len(),
-            whole: false,
-        };
-    }
-    let size = wide(input[place + 1]) * 256 + wide(input[place + 2]) + 3;
-    if left < size {
-        return Cut {
-            end: input.len(),
-            whole: false,
-        };
+    let left = rest_at(input, place);
+    if let [_, high, low, value @ ..] = left {
+        let size = usize::from(u16::from_be_bytes([*high, *low]));
+        if size <= value.len() {
+            return Cut {
+                end: place + tags::BEFORE_VALUE + size,
+                whole: true,
+            };
+        }
     }
     Cut {
-        end: place + size,
-        whole: true,
+        end: place + left.len(),
+        whole: false,
     }
 }
 
@@ -44,9 +30,6 @@ pub fn cut_at(input: &[u8], place: usize) -> Cut
 pub fn rest_at(input: &[u8], place: usize) -> &[u8]
     ensures { EndOf input.entry place result }
 {
-    let n = input.len();
-    if n <= place {
-        return &input[n..];
-    }
-    &input[place..]
+    let start = place.min(input.len());
+    &input[start..]
 }

@@ -8,7 +8,7 @@ ghost use Rattle.std.specs.Prelude.{◌≡◌};
 ghost use Rattle.fields.specs.Fields.{cut};
 
 // Where a field ends, and whether it is all there. One that is cut off ends with the bytes. At their end and past it there is none:
-// it ends where it starts.
+// it ends where it starts. `whole` is a flag beside `end` since both stand for each field: a turn answers one that is cut off, too.
 #[derive(Clone, Copy)]
 pub struct Cut {
     pub end: usize,
@@ -19,5 +19,5 @@ pub struct Cut {
 pub fn field_at(input: &[u8], place: usize) -> Cut
     ensures { result ≡ cut input.now place }
 {
-    reader::next(reader::at_place(input, place))
+    reader::Reader::at_place(input, place).cut()
 }

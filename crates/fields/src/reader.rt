@@ -1,5 +1,4 @@
 // A reader of events: the input, and the place of the next field. It goes on behind a field's length, whatever the field holds.
-// The struct holds a reference, and each function over it is thin: the work is done in cuts.rt.
 ghost use Rattle.std.specs.Prelude.{◌≡◌};
 ghost use Rattle.fields.specs.Fields.{cut, EndOf};
 ghost use Rattle.fields.specs.Reading.{reader_at};
@@ -12,45 +11,69 @@ pub struct Reader<'a> {
     pub place: usize,
 }
 
-pub fn new<'a>(input: &'a [u8]) -> Reader<'a>
-    ensures { result ≡ reader_at input.entry 0 }
-{
-    Reader { input, place: 0 }
+impl<'a> Reader<'a> {
+    pub fn new(input: &'a [u8]) -> Reader<'a>
+        ensures { result ≡ reader_at input.entry 0 }
+    {
+        Reader { input, place: 0 }
+    }
+
+    pub fn at_place(input: &'a [u8], place: usize) -> Reader<'a>
+        ensures { result ≡ reader_at input.entry place }
+    {
+        Reader { input, place }
+    }
+
+    pub fn place(&self) -> usize
+        ensures { result ≡ self.now.place }
+    {
+        self.place
+    }
+
+    // The bytes from the place on, where they stand; past the end there are none.
+    pub fn rest(&self) -> &'a [u8]
+        ensures { EndOf self.now.input self.now.place result }
+    {
+        cuts::rest_at(self.input, self.place)
+    }
+
+    // The field at the place. A cut that ends at the place says that the input has ended.
+    pub fn cut(&self) -> Cut
+        ensures { result ≡ cut self.now.input.now self.now.place }
+    {
+        cuts::cut_at(self.input, self.place)
+    }
+
+    // The reader behind that field.
+    pub fn advance(self) -> Reader<'a>
+        ensures { result ≡ reader_at self.entry.input (cut self.entry.input.now self.entry.place).end }
+    {
+        Reader {
+            place: self.cut().end,
+            ..self
+        }
+    }
 }
 
-pub fn at_place<'a>(input: &'a [u8], place: usize) -> Reader<'a>
-    ensures { result ≡ reader_at input.entry place }
-{
-    Reader { input, place }
-}
+// The whole fields from the place on. It stops before one that is cut off.
+impl<'a> Iterator for Reader<'a> {
+    ghost use Rattle.std.specs.Iterator.{item_count};
+    ghost use Rattle.fields.specs.Reading.{wholes, GivesWhole};
 
-pub fn place<'a>(r: Reader<'a>) -> usize
-    ensures { result ≡ r.entry.place }
-{
-    r.place
-}
+    type Item = &'a [u8];
 
-// The bytes from the place on, where they stand; past the end there are none.
-pub fn rest<'a>(r: Reader<'a>) -> &'a [u8]
-    ensures { EndOf r.entry.input r.entry.place result }
-{
-    cuts::rest_at(r.input, r.place)
-}
+    ghost next_gives = { GivesWhole };
 
-// The field at the place. A cut that ends at the place says that the input has ended.
-pub fn next<'a>(r: Reader<'a>) -> Cut
-    ensures { result ≡ cut r.entry.input.now r.entry.place }
-{
-    cuts::cut_at(r.input, r.place)
-}
+    ghost remaining = { item_count wholes };
 
-// The reader behind that field.
-pub fn advance<'a>(r: Reader<'a>) -> Reader<'a>
-    ensures { result ≡ reader_at r.entry.input (cut r.entry.input.now r.entry.place).end }
-{
-    let c = cuts::cut_at(r.input, r.place);
-    Reader {
-        input: r.input,
-        place: c.end,
+    #[tactic(auto, using(crate::proofs::Wholes::ends_within, crate::proofs::Wholes::none_whole, crate::proofs::Wholes::first_whole))]
+    fn next(&mut self) -> Option<&'a [u8]> {
+        let c = self.cut();
+        if !c.whole {
+            return None;
+        }
+        let field = &self.input[self.place..c.end];
+        self.place = c.end;
+        Some(field)
     }
 }

@@ -15,6 +15,7 @@ use dumping::writing;
 use lending::{WORDS, start};
 use loading::load;
 use rules::Verdict;
+use rules::numbers::Limits;
 use stepping::step;
 
 // The words that tables of 64 threads and 128 blocks need.
@@ -90,7 +91,13 @@ pub extern "C" fn gauge_step(s: &[u8]) -> u64 {
 #[unsafe(no_mangle)]
 pub extern "C" fn gauge_big(s: &[u8]) -> u64 {
     let mut m = [0; BIG_WORDS];
-    stepping::start::start(&mut m, 64, 128);
+    stepping::start::start(
+        &mut m,
+        Limits {
+            threads: 64,
+            blocks: 128,
+        },
+    );
     run_in(&mut m, s)
 }
 

@@ -1,7 +1,8 @@
 -- Dispatch and status, by their cases.
 use Rattle.std.proofs.Common.{◌≡◌, ℕ, ◌<◌, Bool, ◌≢◌, List, [], ◌∷◌, length, get_or, drop, refl, arith, if◌then◌else◌}
 use Rattle.rules.specs.Lists.{any}
-use Rattle.rules.specs.Numbers.{Limits, full_slice}
+use Rattle.rules.specs.Numbers.{full_slice}
+use Rattle.laws.specs.Words.{Limits}
 use Rattle.rules.specs.Tables.{Tables, with_runner, with_ready, in_state, of_thread, change}
 use Rattle.rules.specs.States.{wakes_from_outside}
 use Rattle.rules.specs.Waking.{Outcome, ◌handing◌}

@@ -1,7 +1,8 @@
 -- An interrupt: who waits for the device, and that nobody does where a word is held for it.
 use Rattle.std.proofs.Common.{◌≡◌, ℕ, suc, ◌<◌, Bool, true, false, ◌||◌, ltb, None, Some, is_some, List, [], ◌∷◌, length, get_or, sym, refl, ap, ◌∙◌, arith, lt-ltb}
 use Rattle.rules.specs.Lists.{all, any}
-use Rattle.rules.specs.Numbers.{Limits, devices}
+use Rattle.rules.specs.Numbers.{devices}
+use Rattle.laws.specs.Words.{Limits}
 use Rattle.rules.specs.Tables.{Tables}
 use Rattle.rules.specs.States.{at_device, waits_for}
 use Rattle.rules.specs.Waking.{wake}

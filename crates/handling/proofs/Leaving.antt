@@ -1,6 +1,6 @@
 -- What one change after another leaves, and what the next may ask of it.
 use Rattle.std.proofs.Common.{◌≡◌, ℕ, List, refl, ap, ◌∙◌}
-use Rattle.rules.specs.Numbers.{Limits}
+use Rattle.laws.specs.Words.{Limits}
 use Rattle.rules.specs.Tables.{Tables}
 use Rattle.rules.specs.Waking.{Outcome, ◌handing◌}
 use Rattle.laws.specs.Words.{Answer}

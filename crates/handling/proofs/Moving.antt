@@ -1,7 +1,7 @@
 -- The moves that events share, as one change after another.
 use Rattle.std.proofs.Common.{◌≡◌, ℕ, ◌<◌, ◌≤◌, Bool, true, false, List, [], ◌∷◌, ◌++◌, length, sym, refl, ◌∙◌, arith}
 use Rattle.rules.specs.Lists.{any, count}
-use Rattle.rules.specs.Numbers.{Limits}
+use Rattle.laws.specs.Words.{Limits}
 use Rattle.rules.specs.Tables.{Tables, with_runner, with_ready, in_state, named, live, of_thread, change}
 use Rattle.rules.specs.States.{is_ready, receives}
 use Rattle.rules.specs.Waking.{accepts, wake, stop}

@@ -1,7 +1,8 @@
 -- A tick's parts, by their cases, and the room that they need.
 use Rattle.std.proofs.Common.{◌≡◌, ℕ, ◌+◌, ◌-◌, ◌<◌, ◌≤◌, ◌≢◌, List, [], length, sym, refl, ap, ◌∙◌, ap₂, arith}
 use Rattle.rules.specs.Lists.{one_if}
-use Rattle.rules.specs.Numbers.{Limits, beat_ticks}
+use Rattle.rules.specs.Numbers.{beat_ticks}
+use Rattle.laws.specs.Words.{Limits}
 use Rattle.rules.specs.Tables.{Tables, with_runner, with_time, with_clock, with_ticks, change, runs}
 use Rattle.rules.specs.States.{on_clock}
 use Rattle.rules.specs.Waking.{wake_those, wake}

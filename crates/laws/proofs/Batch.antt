@@ -12,7 +12,8 @@ use lib.ListN.{length, take, drop, length-append, length-drop, take-append-drop}
 use lib.Seq.{take-append-le, drop-append-le, length-take-le, take-append_seam, drop-append_seam}
 use borrow.Author.Tests.{leb-true, le-leb, lt-ltb, le-ltb, ltb-true, ltb-false, eq-eqb, eqb-true}
 use Rattle.rules.specs.Lists.{all, each}
-use Rattle.rules.specs.Numbers.{Limits, decision_numbers}
+use Rattle.rules.specs.Numbers.{decision_numbers}
+use Rattle.laws.specs.Words.{Limits}
 use Rattle.rules.specs.Tables.{Tables}
 use Rattle.rules.specs.Step.{step}
 use Rattle.rules.specs.Runs.{Input, run, line, decisions}

@@ -10,7 +10,8 @@ use native.Mathlib.Omega.{arith}
 use lib.Dec.{leb}
 use borrow.Author.Tests.{ne_eqb, leb-true, leb-false, le-leb}
 use Rattle.rules.specs.Lists.{one_if, any, has, count, Pulled, missing, pulled, pull}
-use Rattle.rules.specs.Numbers.{Limits, beat_ticks}
+use Rattle.rules.specs.Numbers.{beat_ticks}
+use Rattle.laws.specs.Words.{Limits}
 use Rattle.rules.specs.Words.{by_manager}
 use Rattle.rules.specs.Tables.{Tables, change, me, start}
 use Rattle.rules.specs.States.{waits_for}

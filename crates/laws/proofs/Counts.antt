@@ -9,7 +9,8 @@ use native.Mathlib.Omega.{arith}
 use lib.Dec.{ltb}
 use borrow.Author.Tests.{eqb-true, eqb-false, eq-eqb}
 use Rattle.rules.specs.Lists.{one_if, any, has, keep, count, insert, Pulled, missing, pulled, pull}
-use Rattle.rules.specs.Numbers.{Limits, names, beat_ticks, wrap}
+use Rattle.rules.specs.Numbers.{names, beat_ticks, wrap}
+use Rattle.laws.specs.Words.{Limits}
 use Rattle.rules.specs.Words.{by_manager}
 use Rattle.rules.specs.Tables.{Tables, in_state, with_managers, with_ticks, named, live, of_thread, change, manager, set_entry, new_thread}
 use Rattle.rules.specs.Tables.{runs_as, me, start}

@@ -2,7 +2,7 @@
 use Prim.Native.Nat.{ℕ}
 use mathlib.Core.Path.{◌≡◌, sym, ap, ◌∙◌}
 use mathlib.Core.List.{List}
-use Rattle.rules.specs.Numbers.{Limits}
+use Rattle.laws.specs.Words.{Limits}
 use Rattle.rules.specs.Tables.{Tables, start}
 use Rattle.rules.specs.Pick.{pick}
 use Rattle.rules.specs.Step.{Stepped, step}

@@ -9,7 +9,8 @@ use mathlib.Core.List.{List, [], ◌∷◌, map, Memᴰ}
 use native.Mathlib.Omega.{arith}
 use borrow.Author.Tests.{ne_eqb, eq-eqb}
 use Rattle.rules.specs.Lists.{one_if, any, has, count, insert, Pulled, missing, pulled, pull}
-use Rattle.rules.specs.Numbers.{Limits, names, full_slice, beat_ticks}
+use Rattle.rules.specs.Numbers.{names, full_slice, beat_ticks}
+use Rattle.laws.specs.Words.{Limits}
 use Rattle.rules.specs.Words.{by_manager, by_runner}
 use Rattle.rules.specs.Tables.{Tables, with_time, with_clock, with_messages, in_state, with_ticks, with_managers, named, live, of_thread}
 use Rattle.rules.specs.Tables.{change, manager, set_entry, runs_as, me}

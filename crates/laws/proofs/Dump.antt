@@ -10,7 +10,8 @@ use lib.Dec.{ltb}
 use lib.ListN.{length}
 use borrow.Author.Tests.{ne_eqb, eq-eqb, le-leb, ltb-true, lt-ltb}
 use Rattle.rules.specs.Lists.{all, any, keep, each, times_in, same, is_byte, number, two_bytes, four_bytes}
-use Rattle.rules.specs.Numbers.{Limits, names, service, nobody, devices, wrap}
+use Rattle.rules.specs.Numbers.{names, service, nobody, devices, wrap}
+use Rattle.laws.specs.Words.{Limits}
 use Rattle.rules.specs.Words.{by_state, by_wanted, by_manager, by_parent, by_runner}
 use Rattle.rules.specs.Tables.{Tables, named, manager, me}
 use Rattle.rules.specs.States.{is_ready, on_clock}

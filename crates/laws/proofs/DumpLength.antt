@@ -9,7 +9,8 @@ use native.Mathlib.Omega.{arith}
 use lib.ListN.{length, length-append, length-map}
 use borrow.Author.Tests.{eqb-true}
 use Rattle.rules.specs.Lists.{keep, count, times_in}
-use Rattle.rules.specs.Numbers.{Limits, small, names, devices}
+use Rattle.rules.specs.Numbers.{small, names, devices}
+use Rattle.laws.specs.Words.{Limits}
 use Rattle.rules.specs.Tables.{Tables, named}
 use Rattle.rules.specs.Waking.{is_ordinary, notice_of}
 use Rattle.rules.specs.TableRules.{table_rules}

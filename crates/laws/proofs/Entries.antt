@@ -10,7 +10,8 @@ use native.Mathlib.Omega.{arith}
 use lib.Dec.{ltb}
 use borrow.Author.Tests.{eqb-true, ne_eqb}
 use Rattle.rules.specs.Lists.{any, has, keep, insert, Pulled, missing, pulled, pull}
-use Rattle.rules.specs.Numbers.{Limits, names, full_slice, beat_ticks}
+use Rattle.rules.specs.Numbers.{names, full_slice, beat_ticks}
+use Rattle.laws.specs.Words.{Limits}
 use Rattle.rules.specs.Words.{by_manager}
 use Rattle.rules.specs.Tables.{Tables, with_runner, with_ready, in_state, with_ticks, named, live, of_thread, change, manager, new_thread}
 use Rattle.rules.specs.States.{waits_for, on_clock}

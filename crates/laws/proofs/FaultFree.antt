@@ -11,7 +11,8 @@ use lib.Dec.{leb, ltb}
 use lib.ListN.{length}
 use borrow.Author.Tests.{eq-eqb, le-leb, lt-ltb, ltb-true}
 use Rattle.rules.specs.Lists.{all, any, has, times_in, number, four_bytes}
-use Rattle.rules.specs.Numbers.{Limits, names, full_slice, beat_ticks, devices, wrap}
+use Rattle.rules.specs.Numbers.{names, full_slice, beat_ticks, devices, wrap}
+use Rattle.laws.specs.Words.{Limits}
 use Rattle.rules.specs.Words.{by_state, by_wanted, by_parent, by_runner}
 use Rattle.rules.specs.Tables.{Tables, live, manager, me}
 use Rattle.rules.specs.States.{is_ready, on_clock}

@@ -11,7 +11,8 @@ use lib.Dec.{leb, ltb}
 use lib.ListN.{length, take, drop, length-take, get_or-append}
 use borrow.Author.Tests.{eqb-true, eq-eqb, lt-ltb}
 use Rattle.rules.specs.Lists.{all, keep, each, is_byte}
-use Rattle.rules.specs.Numbers.{Limits, names, full_slice, beat_ticks, devices, wrap}
+use Rattle.rules.specs.Numbers.{names, full_slice, beat_ticks, devices, wrap}
+use Rattle.laws.specs.Words.{Limits}
 use Rattle.rules.specs.Words.{by_state, by_wanted, by_manager, by_parent, by_runner}
 use Rattle.rules.specs.Tables.{live}
 use Rattle.rules.specs.Fields.{whole, complete, field_size}

@@ -13,7 +13,7 @@ use lib.Dec.{ltb}
 use lib.ListN.{length, take}
 use borrow.Author.Tests.{ltb-false}
 use Rattle.rules.specs.Lists.{any, has}
-use Rattle.rules.specs.Numbers.{Limits}
+use Rattle.laws.specs.Words.{Limits}
 use Rattle.rules.specs.Tables.{Tables}
 use Rattle.rules.specs.Fields.{field_size, whole, complete, unread}
 use Rattle.rules.specs.TableRules.{table_rules}

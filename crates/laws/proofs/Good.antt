@@ -10,7 +10,8 @@ use native.Mathlib.Nat.{mod-lt}
 use lib.Dec.{leb, ltb}
 use borrow.Author.Tests.{eqb-true, eqb-false, eq-eqb, ne_eqb, leb-false, lt-ltb}
 use Rattle.rules.specs.Lists.{one_if, Pulled, missing, pulled, any, keep, count, pull, insert, times_in}
-use Rattle.rules.specs.Numbers.{Limits, names, beat_ticks, devices, wrap}
+use Rattle.rules.specs.Numbers.{names, beat_ticks, devices, wrap}
+use Rattle.laws.specs.Words.{Limits}
 use Rattle.rules.specs.Words.{by_wanted, by_manager}
 use Rattle.rules.specs.Tables.{Tables, in_state, with_managers, with_ticks, named, live, of_thread, change, manager, set_entry, new_thread}
 use Rattle.rules.specs.Tables.{runs_as}

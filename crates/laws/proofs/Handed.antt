@@ -11,7 +11,8 @@ use native.Mathlib.Omega.{arith}
 use lib.Dec.{ltb}
 use borrow.Author.Tests.{eqb-true, eq-eqb}
 use Rattle.rules.specs.Lists.{one_if, any, count, Pulled, missing, pulled, pull}
-use Rattle.rules.specs.Numbers.{Limits, names, full_slice, beat_ticks}
+use Rattle.rules.specs.Numbers.{names, full_slice, beat_ticks}
+use Rattle.laws.specs.Words.{Limits}
 use Rattle.rules.specs.Words.{by_manager, by_runner}
 use Rattle.rules.specs.Tables.{Tables, with_time, with_clock, with_messages, in_state, with_ticks, with_managers, named, live, of_thread}
 use Rattle.rules.specs.Tables.{change, manager, set_entry, new_thread, me, start}

@@ -7,7 +7,8 @@ use mathlib.Core.Bool.{Bool, true, false, ◌||◌, false≢true}
 use mathlib.Core.List.{List, [], ◌∷◌, map, Memᴰ}
 use native.Mathlib.Omega.{arith}
 use Rattle.rules.specs.Lists.{one_if, all, any, times_in}
-use Rattle.rules.specs.Numbers.{Limits, devices}
+use Rattle.rules.specs.Numbers.{devices}
+use Rattle.laws.specs.Words.{Limits}
 use Rattle.rules.specs.Words.{by_runner}
 use Rattle.rules.specs.Tables.{Tables, named, runs, runs_as}
 use Rattle.rules.specs.States.{is_running, is_ready, on_clock, wakes_from_outside}

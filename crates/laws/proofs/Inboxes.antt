@@ -10,7 +10,8 @@ use native.Mathlib.Omega.{arith}
 use lib.Dec.{leb}
 use borrow.Author.Tests.{eqb-true, eq-eqb, ne_eqb, leb-true, leb-false, le-leb}
 use Rattle.rules.specs.Lists.{any, has, keep, behind, insert, chain, Pulled, missing, pulled, pull}
-use Rattle.rules.specs.Numbers.{Limits, names}
+use Rattle.rules.specs.Numbers.{names}
+use Rattle.laws.specs.Words.{Limits}
 use Rattle.rules.specs.Words.{by_manager, by_runner}
 use Rattle.rules.specs.Tables.{Tables, in_state, named, of_thread, change, manager, me}
 use Rattle.rules.specs.States.{receives, waits_for}

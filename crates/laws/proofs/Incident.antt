@@ -7,7 +7,8 @@ use mathlib.Core.Logic.{⊎_elim}
 use mathlib.Core.Bool.{true, false}
 use mathlib.Core.List.{List, [], ◌∷◌, ◌++◌, append_assoc}
 use native.Mathlib.Omega.{arith}
-use Rattle.rules.specs.Numbers.{Limits, small, names}
+use Rattle.rules.specs.Numbers.{small, names}
+use Rattle.laws.specs.Words.{Limits}
 use Rattle.rules.specs.Tables.{Tables, live, start}
 use Rattle.rules.specs.Step.{step}
 use Rattle.rules.specs.Runs.{Input, run}

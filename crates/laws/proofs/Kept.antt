@@ -8,7 +8,8 @@ use mathlib.Core.List.{List, [], ◌∷◌, Memᴰ}
 use native.Mathlib.Omega.{arith}
 use borrow.Author.Tests.{eqb-true}
 use Rattle.rules.specs.Lists.{any, count, chain}
-use Rattle.rules.specs.Numbers.{Limits, names, full_slice}
+use Rattle.rules.specs.Numbers.{names, full_slice}
+use Rattle.laws.specs.Words.{Limits}
 use Rattle.rules.specs.Tables.{Tables, new_thread, runs_as, start}
 use Rattle.rules.specs.States.{is_running, is_ready, on_clock, at_device}
 use Rattle.rules.specs.Step.{step}

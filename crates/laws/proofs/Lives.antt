@@ -7,7 +7,8 @@ use mathlib.Core.Logic.{⊎_elim}
 use mathlib.Core.Bool.{Bool, true, false}
 use mathlib.Core.List.{List, [], ◌∷◌, Memᴰ}
 use native.Mathlib.Omega.{arith}
-use Rattle.rules.specs.Numbers.{Limits, names, wrap}
+use Rattle.rules.specs.Numbers.{names, wrap}
+use Rattle.laws.specs.Words.{Limits}
 use Rattle.rules.specs.Tables.{Tables, in_state, named, live, of_thread, change, start}
 use Rattle.rules.specs.Requests.{create}
 use Rattle.rules.specs.Events.{decode}

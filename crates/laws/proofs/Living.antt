@@ -10,7 +10,8 @@ use mathlib.Core.List.{List, [], ◌∷◌, Memᴰ}
 use native.Mathlib.Omega.{arith}
 use borrow.Author.Tests.{eq-eqb}
 use Rattle.rules.specs.Lists.{one_if, any, has, count, times_in}
-use Rattle.rules.specs.Numbers.{Limits, names}
+use Rattle.rules.specs.Numbers.{names}
+use Rattle.laws.specs.Words.{Limits}
 use Rattle.rules.specs.Tables.{Tables, named, live, manager}
 use Rattle.rules.specs.Words.{by_manager}
 use Rattle.rules.specs.States.{is_ready, on_clock}

@@ -10,7 +10,8 @@ use native.Mathlib.Nat.{mod-lt}
 use lib.ListN.{length}
 use borrow.Author.Tests.{eqb-true, ne_eqb}
 use Rattle.rules.specs.Lists.{any, keep}
-use Rattle.rules.specs.Numbers.{Limits, names}
+use Rattle.rules.specs.Numbers.{names}
+use Rattle.laws.specs.Words.{Limits}
 use Rattle.rules.specs.Tables.{Tables, with_threads, named, live}
 use Rattle.rules.specs.Requests.{free_name, next_name}
 use Rattle.laws.specs.Words.{Thread}

@@ -12,7 +12,8 @@ use native.Mathlib.Omega.{arith}
 use lib.Dec.{leb}
 use borrow.Author.Tests.{eqb-true, eq-eqb, ne_eqb}
 use Rattle.rules.specs.Lists.{one_if, any, has, keep, count, times_in, Pulled, missing, pulled, pull}
-use Rattle.rules.specs.Numbers.{Limits, names}
+use Rattle.rules.specs.Numbers.{names}
+use Rattle.laws.specs.Words.{Limits}
 use Rattle.rules.specs.Words.{by_manager}
 use Rattle.rules.specs.Tables.{Tables, in_state, named, change, manager, runs_as, me, start}
 use Rattle.rules.specs.States.{waits_for}

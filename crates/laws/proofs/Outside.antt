@@ -12,7 +12,8 @@ use lib.ListN.{replicate}
 use lib.Pow.{pow_mono}
 use borrow.Author.Tests.{eqb-true, eq-eqb, ne_eqb, ltb-true, lt-ltb}
 use Rattle.rules.specs.Lists.{all, any, keep, from_on, is_byte, number_from, four_bytes}
-use Rattle.rules.specs.Numbers.{Limits, beat_ticks, devices, wrap}
+use Rattle.rules.specs.Numbers.{beat_ticks, devices, wrap}
+use Rattle.laws.specs.Words.{Limits}
 use Rattle.rules.specs.Words.{by_state}
 use Rattle.rules.specs.Tables.{Tables, with_time, with_clock, in_state, named, live, change}
 use Rattle.rules.specs.States.{is_running, is_ready, on_clock, at_device, waits_for, wakes_from_outside}

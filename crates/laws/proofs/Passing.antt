@@ -8,7 +8,8 @@ use mathlib.Core.List.{List, [], ◌∷◌, ◌++◌, map, append-nil, append_as
 use lib.Dec.{ltb}
 use borrow.Author.Tests.{eqb-true}
 use Rattle.rules.specs.Lists.{any, has, keep, Pulled, missing, pulled, pull}
-use Rattle.rules.specs.Numbers.{Limits, names, beat_ticks}
+use Rattle.rules.specs.Numbers.{names, beat_ticks}
+use Rattle.laws.specs.Words.{Limits}
 use Rattle.rules.specs.Words.{by_manager}
 use Rattle.rules.specs.Tables.{Tables, with_time, with_clock, with_messages, in_state, with_ticks, with_managers, named, live, of_thread}
 use Rattle.rules.specs.Tables.{change, manager, set_entry, new_thread, me, start}

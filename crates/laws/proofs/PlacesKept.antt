@@ -9,7 +9,8 @@ use lib.Dec.{ltb}
 use lib.ListN.{length, length-map}
 use borrow.Author.Tests.{eqb-true, leb-false}
 use Rattle.rules.specs.Lists.{one_if, Pulled, missing, pulled, any, insert, has}
-use Rattle.rules.specs.Numbers.{Limits, names, full_slice, beat_ticks}
+use Rattle.rules.specs.Numbers.{names, full_slice, beat_ticks}
+use Rattle.laws.specs.Words.{Limits}
 use Rattle.rules.specs.Words.{by_wanted, by_manager}
 use Rattle.rules.specs.Tables.{Tables, in_state, with_managers, with_ticks, named, live, of_thread, change, manager, set_entry, new_thread}
 use Rattle.rules.specs.Tables.{me}

@@ -10,7 +10,8 @@ use lib.Dec.{ltb}
 use lib.ListN.{length, replicate}
 use borrow.Author.Tests.{eq-eqb, ne_eqb, ltb-true, ltb-false}
 use Rattle.rules.specs.Lists.{any, count, each, from_on}
-use Rattle.rules.specs.Numbers.{Limits, small, names, full_slice}
+use Rattle.rules.specs.Numbers.{small, names, full_slice}
+use Rattle.laws.specs.Words.{Limits}
 use Rattle.rules.specs.Tables.{Tables, with_last, live, start}
 use Rattle.rules.specs.Requests.{free_name, next_name, create}
 use Rattle.rules.specs.Step.{step}

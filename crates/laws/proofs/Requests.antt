@@ -8,7 +8,8 @@ use mathlib.Core.List.{List, [], ◌∷◌, map, Memᴰ}
 use native.Mathlib.Omega.{arith}
 use borrow.Author.Tests.{eqb-true, eq-eqb, ne_eqb}
 use Rattle.rules.specs.Lists.{any, has, keep, count, times_in, missing, pulled, behind, pull}
-use Rattle.rules.specs.Numbers.{Limits, names}
+use Rattle.rules.specs.Numbers.{names}
+use Rattle.laws.specs.Words.{Limits}
 use Rattle.rules.specs.Tables.{Tables, with_threads, with_held, with_managers, in_state, named, live, of_thread, change, manager, set_entry}
 use Rattle.rules.specs.Tables.{new_thread}
 use Rattle.rules.specs.Waking.{Outcome, ◌handing◌, stop}

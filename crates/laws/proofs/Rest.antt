@@ -11,7 +11,8 @@ use lib.Dec.{ltb}
 use lib.ListN.{length}
 use borrow.Author.Tests.{eqb-true, ne_eqb, ltb-true, ltb-false}
 use Rattle.rules.specs.Lists.{one_if, any, count, from_on}
-use Rattle.rules.specs.Numbers.{Limits, small, names}
+use Rattle.rules.specs.Numbers.{small, names}
+use Rattle.laws.specs.Words.{Limits}
 use Rattle.rules.specs.Tables.{Tables, named, live, start}
 use Rattle.rules.specs.Requests.{next_name}
 use Rattle.rules.specs.Step.{step}

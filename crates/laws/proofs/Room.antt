@@ -10,7 +10,8 @@ use lib.Dec.{ltb}
 use lib.ListN.{length, length-map}
 use borrow.Author.Tests.{eqb-true, eqb-false}
 use Rattle.rules.specs.Lists.{one_if, any, keep, count, insert, times_in}
-use Rattle.rules.specs.Numbers.{Limits, devices}
+use Rattle.rules.specs.Numbers.{devices}
+use Rattle.laws.specs.Words.{Limits}
 use Rattle.rules.specs.Tables.{Tables, named, live, runs, runs_as}
 use Rattle.rules.specs.States.{is_running, is_ready, on_clock, awaits, trapped_on}
 use Rattle.rules.specs.Waking.{is_ordinary, blocks_used, notice_of}

@@ -10,7 +10,8 @@ use native.Mathlib.Omega.{arith}
 use lib.Dec.{ltb}
 use borrow.Author.Tests.{eqb-true, eq-eqb, ne_eqb}
 use Rattle.rules.specs.Lists.{one_if, any, has, keep, count, insert, Pulled, missing, pulled, pull}
-use Rattle.rules.specs.Numbers.{Limits, names, beat_ticks}
+use Rattle.rules.specs.Numbers.{names, beat_ticks}
+use Rattle.laws.specs.Words.{Limits}
 use Rattle.rules.specs.Words.{by_manager, by_runner}
 use Rattle.rules.specs.Tables.{Tables, with_time, with_clock, in_state, with_ticks, named, with_messages, with_managers, of_thread, change}
 use Rattle.rules.specs.Tables.{set_entry, new_thread, runs_as, me, start}

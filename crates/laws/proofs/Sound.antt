@@ -12,7 +12,8 @@ use lib.Dec.{leb, ltb}
 use lib.ListN.{length}
 use borrow.Author.Tests.{eqb-true, eqb-false, eq-eqb, ne_eqb, leb-true, le-leb, ltb-true, lt-ltb}
 use Rattle.rules.specs.Lists.{all, any, count, chain}
-use Rattle.rules.specs.Numbers.{Limits, names, full_slice, beat_ticks, devices, wrap}
+use Rattle.rules.specs.Numbers.{names, full_slice, beat_ticks, devices, wrap}
+use Rattle.laws.specs.Words.{Limits}
 use Rattle.rules.specs.Tables.{Tables, named, live, manager}
 use Rattle.rules.specs.States.{is_ready, awaits}
 use Rattle.rules.specs.Waking.{is_ordinary, blocks_used, notice_of}

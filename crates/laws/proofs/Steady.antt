@@ -6,7 +6,8 @@ use mathlib.Core.List.{List}
 use native.Mathlib.Omega.{arith}
 use native.Mathlib.Nat.{mod-lt}
 use borrow.Author.Tests.{eqb-false}
-use Rattle.rules.specs.Numbers.{Limits, names, full_slice, beat_ticks, wrap}
+use Rattle.rules.specs.Numbers.{names, full_slice, beat_ticks, wrap}
+use Rattle.laws.specs.Words.{Limits}
 use Rattle.rules.specs.Tables.{Tables, change}
 use Rattle.rules.specs.Waking.{Outcome, wake_those}
 use Rattle.rules.specs.Tick.{charge, beat, rotate, tick}

@@ -6,7 +6,8 @@ use mathlib.Core.Bool.{Bool, true, false, not, true≢false}
 use mathlib.Core.List.{List, [], ◌∷◌, ◌++◌}
 use native.Mathlib.Omega.{arith}
 use borrow.Author.Tests.{ne_eqb}
-use Rattle.rules.specs.Numbers.{Limits, full_slice}
+use Rattle.rules.specs.Numbers.{full_slice}
+use Rattle.laws.specs.Words.{Limits}
 use Rattle.rules.specs.Words.{by_runner}
 use Rattle.laws.specs.Words.{Running, Nothing, Runner, NoRunner, Runs, Call, ByRunner}
 use Rattle.rules.specs.Tables.{Tables, with_runner, with_ready, in_state, change, runs, me}

@@ -9,7 +9,8 @@ use lib.Dec.{ltb}
 use lib.ListN.{length}
 use borrow.Author.Tests.{eqb-true, ne_eqb, lt-leb}
 use Rattle.rules.specs.Lists.{one_if, any, has, keep, count}
-use Rattle.rules.specs.Numbers.{Limits, names}
+use Rattle.rules.specs.Numbers.{names}
+use Rattle.laws.specs.Words.{Limits}
 use Rattle.rules.specs.Words.{by_parent, by_manager, by_runner}
 use Rattle.rules.specs.Tables.{Tables, with_last, live, new_thread, manager, runs, me}
 use Rattle.rules.specs.States.{trapped_on, awaits}

@@ -9,7 +9,8 @@ use native.Mathlib.Omega.{arith}
 use lib.ListN.{length, replicate, length-map}
 use borrow.Author.Tests.{le-leb, ne_eqb}
 use Rattle.rules.specs.Lists.{one_if, any, has, times_in}
-use Rattle.rules.specs.Numbers.{Limits, small, names, full_slice}
+use Rattle.rules.specs.Numbers.{small, names, full_slice}
+use Rattle.laws.specs.Words.{Limits}
 use Rattle.rules.specs.Tables.{Tables, live, runs_as, start}
 use Rattle.rules.specs.States.{is_running}
 use Rattle.rules.specs.Events.{decode}

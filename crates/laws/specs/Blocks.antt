@@ -1,7 +1,7 @@
 -- What is queued, received and discarded of ordinary messages.
 use Rattle.std.specs.Prelude.{ℕ, ◌-◌, Bool, true, false, ◌&&◌, ◌||◌, not, List, [], if◌then◌else◌, ◌==◌}
 use Rattle.rules.specs.Lists.{one_if, has, count, Pulled, missing, pulled, pull}
-use Rattle.rules.specs.Numbers.{Limits}
+use Rattle.laws.specs.Words.{Limits}
 use Rattle.rules.specs.Words.{by_manager}
 use Rattle.rules.specs.Tables.{Tables, of_thread, manager, me}
 use Rattle.rules.specs.Waking.{is_ordinary, blocks_used}

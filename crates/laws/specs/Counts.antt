@@ -1,7 +1,8 @@
 -- What is counted along a run: accepted ticks, beats, the ticks of one thread.
 use Rattle.std.specs.Prelude.{ℕ, ◌+◌, Bool, ◌&&◌, List, [], ◌∷◌, if◌then◌else◌, ◌==◌}
 use Rattle.rules.specs.Lists.{one_if}
-use Rattle.rules.specs.Numbers.{Limits, beat_ticks}
+use Rattle.rules.specs.Numbers.{beat_ticks}
+use Rattle.laws.specs.Words.{Limits}
 use Rattle.rules.specs.Tables.{Tables, live, of_thread, runs_as}
 use Rattle.rules.specs.Events.{decode}
 use Rattle.rules.specs.Refusals.{refusal}

@@ -1,7 +1,7 @@
 -- A ready thread with its answer, over an event and over a run.
 use Rattle.std.specs.Prelude.{ℕ, ◌≡◌, ◌≢◌, false}
 use mathlib.Core.List.{List, [], ◌∷◌, Memᴰ}
-use Rattle.rules.specs.Numbers.{Limits}
+use Rattle.laws.specs.Words.{Limits}
 use Rattle.laws.specs.Words.{State, Running, Ready, Answer, Nothing, Thread}
 use Rattle.rules.specs.Tables.{Tables, live}
 use Rattle.rules.specs.Step.{step}

@@ -1,6 +1,6 @@
 -- The names that the events of a run give.
 use Rattle.std.specs.Prelude.{ℕ, ◌≡◌, ◌&&◌, List, [], ◌∷◌, ◌++◌, if◌then◌else◌, ◌==◌}
-use Rattle.rules.specs.Numbers.{Limits}
+use Rattle.laws.specs.Words.{Limits}
 use Rattle.rules.specs.Tables.{Tables, start}
 use Rattle.rules.specs.Events.{decode}
 use Rattle.rules.specs.Step.{step}

@@ -2,7 +2,8 @@
 use Rattle.std.specs.Prelude.{ℕ, ◌+◌, ◌≡◌, ◌⊎◌, true, false}
 use mathlib.Core.List.{List, [], ◌∷◌, ◌++◌, Memᴰ}
 use Rattle.rules.specs.Lists.{any}
-use Rattle.rules.specs.Numbers.{Limits, beat_ticks}
+use Rattle.rules.specs.Numbers.{beat_ticks}
+use Rattle.laws.specs.Words.{Limits}
 use Rattle.laws.specs.Words.{TrapKind, State, Ready, Clock, Device, Answer, Nothing, FromMessage, FromNotice, SenderGone, Result}
 use Rattle.laws.specs.Words.{Unset, Thread, Held, Runs, Call, CreateBrother, CreateSon, SetManager, GetCpuTime, WaitForIo, Event}
 use Rattle.laws.specs.Words.{ByRunner, Tick, Interrupt}

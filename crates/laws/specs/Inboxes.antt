@@ -1,7 +1,7 @@
 -- The inbox of a thread, and what an event does to it.
 use Rattle.std.specs.Prelude.{ℕ, ◌≡◌, Bool, true, false, ◌||◌, not, List, [], ◌∷◌, ◌++◌, ◌==◌}
 use Rattle.rules.specs.Lists.{any, has, keep}
-use Rattle.rules.specs.Numbers.{Limits}
+use Rattle.laws.specs.Words.{Limits}
 use Rattle.laws.specs.Words.{Wanted, Message, Runs, Send, Receive, ByRunner}
 use Rattle.rules.specs.Tables.{Tables}
 use Rattle.rules.specs.States.{matches}

@@ -1,7 +1,7 @@
 -- Who has sent an answer, in the receiver's present life.
 use Rattle.std.specs.Prelude.{ℕ, ◌≡◌, Bool, true, false}
 use mathlib.Core.List.{List, [], ◌∷◌, ◌++◌, Memᴰ}
-use Rattle.rules.specs.Numbers.{Limits}
+use Rattle.laws.specs.Words.{Limits}
 use Rattle.laws.specs.Words.{Only, TrapKind, Receiving, Answer, Nothing, FromMessage, FromNotice, SenderGone, Result, Unset, Set}
 use Rattle.laws.specs.Words.{Thread, Runs, Send, Trap, ByRunner}
 use Rattle.rules.specs.Tables.{Tables, live, of_thread, manager, start}

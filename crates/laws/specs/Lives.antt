@@ -1,6 +1,6 @@
 -- The ticks of one life of a name.
 use Rattle.std.specs.Prelude.{ℕ, ◌+◌, [], ◌∷◌, if◌then◌else◌}
-use Rattle.rules.specs.Numbers.{Limits}
+use Rattle.laws.specs.Words.{Limits}
 use Rattle.rules.specs.Tables.{Tables, live}
 use Rattle.rules.specs.Step.{step}
 use Rattle.rules.specs.Runs.{Input}

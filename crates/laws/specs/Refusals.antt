@@ -1,7 +1,7 @@
 -- The ten tests behind the refusals of an event, in the document's order.
 use Rattle.std.specs.Prelude.{ℕ, Bool, true, false, ◌&&◌, ◌||◌, not, List, [], ◌∷◌, ltb, if◌then◌else◌, ◌==◌}
 use Rattle.rules.specs.Lists.{any}
-use Rattle.rules.specs.Numbers.{Limits}
+use Rattle.laws.specs.Words.{Limits}
 use Rattle.rules.specs.Tables.{Tables, live, runs, me}
 use Rattle.rules.specs.States.{waits_for}
 use Rattle.rules.specs.Send.{decides}

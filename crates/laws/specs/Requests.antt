@@ -1,7 +1,7 @@
 -- An accepted request, its requester, and the thread that it makes.
 use Rattle.std.specs.Prelude.{ℕ, ◌≡◌, ◌⊎◌, false}
 use mathlib.Core.List.{List, Memᴰ}
-use Rattle.rules.specs.Numbers.{Limits}
+use Rattle.laws.specs.Words.{Limits}
 use Rattle.rules.specs.Tables.{Tables, live, of_thread, manager, me}
 use Rattle.rules.specs.Events.{decode}
 use Rattle.rules.specs.Refusals.{refusal}

@@ -1,7 +1,8 @@
 -- A name given twice, the names between, and how long a name rests.
 use Rattle.std.specs.Prelude.{ℕ, ◌-◌, ◌≡◌, not, List, ◌∷◌, ◌++◌, ◌==◌}
 use Rattle.rules.specs.Lists.{count}
-use Rattle.rules.specs.Numbers.{Limits, names}
+use Rattle.rules.specs.Numbers.{names}
+use Rattle.laws.specs.Words.{Limits}
 
 -- Among the names given a name stands twice. Those between are the names of the threads created between the two givings.
 pub record Twice (n : ℕ) (given : List ℕ) : Type 0 where

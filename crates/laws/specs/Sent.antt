@@ -1,7 +1,7 @@
 -- Of any kind of message: what is sent, handed over by a decision, dropped, and open.
 use Rattle.std.specs.Prelude.{ℕ, ◌+◌, Bool, ◌&&◌, List, [], ◌∷◌, if◌then◌else◌}
 use Rattle.rules.specs.Lists.{any, has, keep, count}
-use Rattle.rules.specs.Numbers.{Limits}
+use Rattle.laws.specs.Words.{Limits}
 use Rattle.rules.specs.Words.{by_manager}
 use Rattle.laws.specs.Words.{Thread, Message, Send, Receive, CreateBrother, CreateSon, Terminate, SetManager, GetCpuTime}
 use Rattle.laws.specs.Words.{WaitForClock, WaitForIo, Trap, Event, Malformed, ByRunner, Tick, Interrupt}

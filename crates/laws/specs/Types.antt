@@ -2,7 +2,8 @@
 use Rattle.std.specs.Prelude.{ℕ, ◌+◌, ◌≤◌, ◌<◌, ◌≡◌, ◌≢◌, Bool, true, false, ◌&&◌, leb, ltb, length}
 use mathlib.Core.List.{List, [], Memᴰ}
 use Rattle.rules.specs.Lists.{one_if, any, count, chain, times_in}
-use Rattle.rules.specs.Numbers.{Limits, names, full_slice, beat_ticks, devices, wrap}
+use Rattle.rules.specs.Numbers.{names, full_slice, beat_ticks, devices, wrap}
+use Rattle.laws.specs.Words.{Limits}
 use Rattle.rules.specs.Words.{by_wanted, by_manager}
 use Rattle.laws.specs.Words.{TrapKind, State, Running, Ready, Receiving, Clock, Device, Trapped, Nothing, Manager, Unset, Set, Gone}
 use Rattle.laws.specs.Words.{Managers, NoParent, ParentIs, Thread, Message, Held, Runner, NoRunner, Runs}

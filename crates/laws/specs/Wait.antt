@@ -1,7 +1,7 @@
 -- When a thread is served, and by which accepted tick.
 use Rattle.std.specs.Prelude.{ℕ, ◌+◌, ◌-◌, Bool, ◌&&◌, ◌||◌, not, List, [], ◌∷◌, leb, ◌==◌}
 use Rattle.rules.specs.Lists.{one_if, has}
-use Rattle.rules.specs.Numbers.{Limits}
+use Rattle.laws.specs.Words.{Limits}
 use Rattle.rules.specs.Tables.{Tables, live, runs_as}
 use Rattle.rules.specs.Events.{decode}
 use Rattle.rules.specs.Step.{step}

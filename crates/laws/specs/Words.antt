@@ -10,8 +10,8 @@ pub use Rattle.rules.specs.declared.Answer.TheVariants.{Nothing, FromMessage, Fr
 pub use Rattle.rules.specs.declared.Manager.{Manager}
 pub use Rattle.rules.specs.declared.Manager.TheVariants.{Unset, Set, Gone}
 pub use Rattle.rules.specs.declared.Managers.{Managers}
-pub use Rattle.rules.specs.declared.Parent.{Parent}
-pub use Rattle.rules.specs.declared.Parent.TheVariants.{NoParent, ParentIs}
+pub use Rattle.rules.specs.Words.{Parent}
+pub use Rattle.std.specs.Prelude.{None as NoParent, Some as ParentIs}
 pub use Rattle.rules.specs.declared.Thread.{Thread}
 pub use Rattle.rules.specs.declared.MessageKind.{MessageKind}
 pub use Rattle.rules.specs.declared.MessageKind.TheVariants.{Ordinary, Notice}
@@ -30,6 +30,7 @@ pub use Rattle.rules.specs.declared.Event.{Event}
 pub use Rattle.rules.specs.declared.Event.TheVariants.{Malformed, ByRunner, Tick, Interrupt}
 pub use Rattle.rules.specs.declared.Decision.{Decision}
 pub use Rattle.rules.specs.declared.Picked.{Picked}
-pub use Rattle.rules.specs.declared.TagFacts.{TagFacts}
+pub use Rattle.rules.specs.Tags.{TagFacts}
 pub use Rattle.rules.specs.declared.Argument.{Argument}
 pub use Rattle.rules.specs.declared.Argument.TheVariants.{NoService, Zero, AnyName, ADevice}
+pub use Rattle.rules.specs.declared.numbers.Limits.{Limits}

@@ -1,4 +1,3 @@
 pub mod Standing
-pub mod DumpExits
 pub mod Determined
 pub mod Runs

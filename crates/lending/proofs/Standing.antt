@@ -1,13 +1,11 @@
 -- What the check tells, what it needs, and the exits of the public step and start.
-use Prim.Native.Nat.{ℕ}
-use mathlib.Core.Path.{◌≡◌, refl, ap, ◌∙◌}
-use mathlib.Core.Bool.{true, false}
-use mathlib.Core.List.{List}
-use native.Mathlib.Omega.{arith}
-use Rattle.rules.specs.Numbers.{Limits, small}
+use Rattle.std.proofs.Common.{◌≡◌, refl, ap, ◌∙◌, ℕ, Bool, true, false, if◌then◌else◌, Ok, Err, List, rules, arith}
+use Rattle.rules.specs.Numbers.{small}
+use Rattle.laws.specs.Words.{Limits}
 use Rattle.rules.specs.Tables.{start}
 use Rattle.rules.specs.Step.{step}
 use Rattle.rules.specs.declared.Decision.{Decision}
+use Rattle.rules.specs.declared.refusal.Refusal.TheVariants.{NoTables}
 use Rattle.laws.proofs.Tests.{clash, and_left, and_right, ◌&◌}
 use Rattle.laws.specs.Types.{Ruled}
 use Rattle.laws.proofs.Sound.{tested_ruled, ruled_tested}
@@ -17,8 +15,10 @@ use Rattle.handling.specs.Standing.{AtRest}
 use Rattle.stepping.specs.Stepping.{Steps}
 use Rattle.memory.specs.Shape.{shaped}
 use Rattle.checking.specs.Stands.{stands}
+use Rattle.dumping.specs.Dumping.{Dumpable}
+use Rattle.loading.proofs.Exits.{writable}
 use Rattle.checking.proofs.Shapes.{own_limits, shaped_right, right_shaped}
-use Rattle.lending.specs.Lent.{no_tables, Answered, Started}
+use Rattle.lending.specs.Lent.{no_tables, standing_of, Answered, Started}
 
 -- a memory that passes the check stands, and has the small limits
 pub checked : (m : List ℕ) → stands small m ≡ true → AtRest m × (limits m ≡ small)
@@ -42,6 +42,15 @@ checked m e =
 pub passes : (m : List ℕ) → AtRest m → limits m ≡ small → stands small m ≡ true
 unfolding stands
 passes m S e = right_shaped small m S.holding.shaped e & (rw e at (ruled_tested S.ruled))
+
+-- where the check refused nothing, a dump can be written
+not_refused : (b : Bool) (u : Unit {0}) → (if b then Ok tt else Err NoTables) ≡ Ok u → b ≡ true
+not_refused true u h = refl
+not_refused false u h = search rules
+
+pub writable_standing : {m : List ℕ} {u : Unit {0}} → standing_of m ≡ Ok u → Dumpable m
+unfolding standing_of
+writable_standing {m} {u} h = (writable m (not_refused (stands small m) u h)).0
 
 -- 11: nothing stands, and nothing is touched
 pub refused_11 : {m bytes : List ℕ} {d : Decision} → stands small m ≡ false → d ≡ no_tables → Answered m bytes m d

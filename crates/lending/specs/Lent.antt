@@ -1,11 +1,15 @@
 -- The public operations on a lent memory, of any length and contents.
-use Rattle.std.specs.Prelude.{ℕ, Bool, true, false, ◌&&◌, ◌≡◌, ◌≢◌, List, ◌++◌, leb, length, drop, if◌then◌else◌}
+use Rattle.std.specs.Prelude.{ℕ, Bool, true, false, ◌&&◌, ◌≡◌, ◌≢◌, Result, Ok, Err, List, ◌++◌, leb, length, drop, if◌then◌else◌}
+use Rattle.std.specs.Result.{result_unwrap_or}
 use Rattle.rules.specs.Numbers.{small}
 use Rattle.rules.specs.Tables.{start}
 use Rattle.rules.specs.Step.{step}
 use Rattle.rules.specs.Dump.{dump}
+use Rattle.rules.specs.Refused.{refusal_told}
 use Rattle.rules.specs.declared.Decision.{Decision}
 use Rattle.rules.specs.declared.Answer.TheVariants.{Nothing}
+use Rattle.rules.specs.declared.refusal.Refusal.{Refusal}
+use Rattle.rules.specs.declared.refusal.Refusal.TheVariants.{NoTables}
 use Rattle.store.specs.Store.{tables}
 use Rattle.checking.specs.Stands.{stands}
 use Rattle.lending.specs.declared.Tables.{Tables as Lent}
@@ -39,6 +43,14 @@ AnsweredValue t bytes s = Answered t.words bytes s.tables.words s.decision
 -- the check of a lent memory: refusal 11, or 0
 unfoldable pub check_of : List ℕ → ℕ
 check_of m = if valid m then 0 else 11
+
+-- the same as an outcome
+unfoldable pub standing_of : List ℕ → Result (Unit {0}) Refusal
+standing_of m = if valid m then Ok tt else Err NoTables
+
+-- what a dump's outcome answers: the refusal, and the length or 0
+unfoldable pub outcome_of : Result ℕ Refusal → Dumped
+outcome_of o = record { refusal = refusal_told o; length = result_unwrap_or o 0 }
 
 -- "12: dump buffer shorter than the dump"; "A refused dump has length 0". 11 comes first.
 unfoldable pub dumped : List ℕ → ℕ → Dumped

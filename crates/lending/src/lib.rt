@@ -1,6 +1,6 @@
 // The public operations on lent tables: a memory of any length and contents gets its answer. Reading a dump in place is
 // loading::load::load_in.
-#![tactic(auto)]
+#![tactic(auto, unfolding(crate::specs::Lent::check_of, crate::specs::Lent::standing_of, crate::specs::Lent::outcome_of, crate::specs::Lent::dumped, crate::specs::Lent::buffer_after, rules::specs::Refused::refusal_told, rules::specs::Refused::refusal_number))]
 
 pub mod check;
 pub mod dump;
@@ -13,7 +13,8 @@ use rules::{Decision, Verdict};
 // The words that tables of 20 threads and 20 blocks need.
 pub const WORDS: usize = loading::load::WORDS;
 
-// The tables as a struct: the same memory. Every bit pattern is a value.
+// The tables as a struct: the same memory. Every bit pattern is a value. The functions by value beside those in place are nucleus.h's:
+// C lends this struct (crates/board), and each calls the one in place.
 #[repr(C)]
 #[derive(Clone, Copy)]
 pub struct Tables {
@@ -27,7 +28,7 @@ pub struct NextTables {
     pub decision: Decision,
 }
 
-// What writing a dump answers: the refusal, and the dump's length. It is laid out as in C, for the entry of crates/board.
+// What writing a dump answers: the refusal, and the dump's length. It is no Result: nucleus_dump hands it to C as it is laid out.
 #[repr(C)]
 #[derive(Clone, Copy)]
 pub struct Dumped {

@@ -12,7 +12,7 @@ pub fn start_in(m: &mut [u32])
     requires { size small ≤ length m.old }
     ensures { Started m.new }
 {
-    stepping::start::start(m, numbers::THREADS as u32, numbers::BLOCKS as u32);
+    stepping::start::start(m, numbers::SMALL);
 }
 
 // The same by value.

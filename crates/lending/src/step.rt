@@ -4,14 +4,15 @@ ghost use Rattle.lending.specs.Lent.{no_tables as no_tables_of, Answered, Answer
 
 use crate::{NextTables, Tables};
 use checking::check;
+use rules::refusal::Refusal;
 use rules::{Answer, Decision, numbers};
 
-// Refusal 11.
+// Refusal 11. A decision's numbers are those that C is handed: 255 for status and runner is the rules' no_tables.
 pub fn no_tables() -> Decision
     ensures { result ≡ no_tables_of }
 {
     Decision {
-        refusal: 11,
+        refusal: u8::from(Refusal::NoTables),
         status: numbers::NOBODY,
         runner: numbers::NOBODY,
         answer: Answer::Nothing,

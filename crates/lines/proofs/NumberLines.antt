@@ -1,11 +1,12 @@
 -- A line of numbers, put number by number.
-use Prim.Native.Nat.{ℕ, ◌+◌, ◌*◌, ◌≤◌, ◌<◌}
+use Prim.Native.Nat.{ℕ, ◌+◌, ◌-◌, ◌*◌, ◌≤◌, ◌<◌}
 use mathlib.Core.Path.{◌≡◌, refl, sym, ap, ◌∙◌}
 use mathlib.Core.List.{List, [], ◌∷◌, ◌++◌, append-nil, append_assoc}
 use native.Mathlib.Numerals.{add-one}
 use native.Mathlib.Omega.{arith}
-use lib.ListN.{length, get_or, take, set, length-append}
+use lib.ListN.{length, get_or, take, drop, set, length-append, length-drop}
 use lib.Seq.{take-suc, take_all, length-take-le}
+use Rattle.std.proofs.lemmas.Grind.{get_or_after_one}
 use Rattle.rules.specs.Lists.{each}
 use Rattle.laws.proofs.Tally.{each_append}
 use Rattle.buffer.specs.Puts.{Puts}
@@ -99,6 +100,16 @@ row_next {row} {before} {mid} {ys} {at} {i} {k} l h q =
         let e : length (take i row) ≡ i = length-take-le i row l.within in
         sym (body_more (take i row) (get_or row i 0) (omega (arith, l.some)))
         ∙ ap body (sym (take-suc row i 0 h) ∙ ap (λ (j : ℕ). take j row) (sym (add-one i)))
+
+-- the same for the number at i behind the first
+pub row_next_behind : {row before mid ys : List ℕ} {at k : ℕ} (i : ℕ) → Row row before mid at (i + 1) → i + 1 < length row
+    → Puts (32 ∷ decimal (get_or (take (length row - 1) (drop 1 row)) i 0)) (rest at mid) ys k → Row row before (back at mid ys) (at + k) (i + 1 + 1)
+row_next_behind {row} i l h q = row_next l h (said q (ap (λ (x : ℕ). 32 ∷ decimal x) same))
+  where
+    same : get_or (take (length row - 1) (drop 1 row)) i 0 ≡ get_or row (i + 1) 0
+    same =
+        ap (λ (l : List ℕ). get_or l i 0) (take_all (length row - 1) (drop 1 row) (omega (arith, length-drop 1 row)))
+        ∙ get_or_after_one row i 0 ∙ ap (λ (j : ℕ). get_or row j 0) (omega arith)
 
 -- the line's end behind the last number
 pub row_ends : {row before mid after : List ℕ} {k at i : ℕ} → Puts (decimal (get_or row 0 0)) before mid k

@@ -1,5 +1,5 @@
 -- A number in decimal: how many digits it has, and its digits from the last to the first.
-use Prim.Native.Nat.{ℕ, zero, suc, ◌+◌, ◌-◌, ◌/◌, ◌%◌, ◌^◌, ◌≤◌, ◌<◌}
+use Prim.Native.Nat.{ℕ, zero, suc, ◌+◌, ◌-◌, ◌*◌, ◌/◌, ◌%◌, ◌^◌, ◌≤◌, ◌<◌}
 use mathlib.Core.Path.{◌≡◌, refl, sym, ap, ap₂, ◌∙◌}
 use mathlib.Core.Logic.{◌⊎◌, inl, inr, ⊎_elim}
 use mathlib.Core.Bool.{Bool, true, false}
@@ -13,6 +13,11 @@ use borrow.Author.Tests.{ltb-true, ltb-false, lt-ltb, le-ltb}
 use Rattle.buffer.specs.Puts.{Puts}
 use Rattle.buffer.proofs.Putting.{puts_none, one_more, said}
 use Rattle.lines.specs.Text.{decimal_in, decimal}
+
+-- a power of ten is some
+pow_pos : (r : ℕ) → 0 < 10 ^ r
+pow_pos zero = omega arith
+pow_pos (suc r) = omega (arith, pow-suc 10 r, pow_pos r)
 
 -- a number is below another, or not
 less? : (a b : ℕ) → (a < b) ⊎ (b ≤ a)
@@ -41,58 +46,20 @@ few_digits (suc f) n =
     (λ h. omega (arith, ap length (more_digits f n h), length-append (decimal_in f (n / 10)) ((48 + n % 10) ∷ []), few_digits f (n / 10)))
     (less? n 10)
 
--- ---- counted from the last
+-- ---- how many
 
--- the digits that are still to be counted: none where nothing is left
-abbrev pub left : ℕ → ℕ → ℕ
-left f zero = 0
-left f (suc r) = length (decimal_in f (suc r))
-
-pub left_some : (f r : ℕ) → 0 < r → left f r ≡ length (decimal_in f r)
-left_some f zero h = absurd (omega arith)
-left_some f (suc r) h = refl
-
-pub counts_one : (f n : ℕ) → length (decimal_in (suc f) n) ≡ 1 + left f (n / 10)
-counts_one f n =
-    ⊎_elim
-    (λ h. let e : n / 10 ≡ 0 = omega arith in ap length (one_digit f n h) ∙ ap (λ (r : ℕ). 1 + left f r) (sym e))
-    (λ h.
-    let some = left_some f (n / 10) (omega arith) in
-    omega (arith, ap length (more_digits f n h), length-append (decimal_in f (n / 10)) ((48 + n % 10) ∷ []), some))
-    (less? n 10)
-
--- k digits were counted, and the rest has at most as many digits as are left of 20
-pub record Counted (n k rest : ℕ) : Type 0 where
-  pub within : k ≤ 20
-  pub low : rest < 10 ^ (20 - k)
-  pub so : length (decimal n) ≡ k + left (20 - k) rest
-
-tenth : (f n : ℕ) → n < 10 ^ suc f → n / 10 < 10 ^ f
-tenth f n h = omega (arith, pow-suc 10 f)
-
-pub counted_first : (n : ℕ) → n < 2 ^ 64 → Counted n 1 (n / 10)
-counted_first n h = record { within = omega arith; low = omega arith; so = counts_one 19 n }
-
-pub counted_next : (n k rest : ℕ) → 0 < rest → Counted n k rest → Counted n (k + 1) (rest / 10)
-counted_next n k rest h c =
-    ⊎_elim
-    (λ g.
-    let f : ℕ = 20 - (k + 1) in
-    let e : 20 - k ≡ suc f = omega arith in
-    record {
-      within = omega arith;
-      low = tenth f rest (rw e at c.low);
-      so = c.so ∙ (ap (λ (j : ℕ). k + left j rest) e ∙ omega (arith, left_some (suc f) rest h, counts_one f rest));
-    })
-    (λ g.
-    let e : 20 - k ≡ 0 = omega arith in
-    let none : rest < 10 ^ 0 = rw e at c.low in
-    absurd (omega arith))
-    (less? k 20)
-
-pub counted_all : (n k rest : ℕ) → rest ≤ 0 → Counted n k rest → k ≡ length (decimal n)
-counted_all n k zero h c = omega (arith, c.so)
-counted_all n k (suc rest) h c = absurd (omega arith)
+-- between two powers of ten
+pub digits_from : (f r n : ℕ) → r < f → 10 ^ r ≤ n → n < 10 * 10 ^ r → length (decimal_in f n) ≡ r + 1
+digits_from zero r n h a b = absurd (omega arith)
+digits_from (suc f) zero n h a b = ap length (one_digit f n (omega (arith, b)))
+digits_from (suc f) (suc r) n h a b =
+    let e = pow-suc 10 r in
+    omega (
+      arith,
+      ap length (more_digits f n (omega (arith, e, pow_pos r))),
+      length-append (decimal_in f (n / 10)) ((48 + n % 10) ∷ []),
+      digits_from f r (n / 10) (omega arith) (omega (arith, e)) (omega (arith, e)),
+    )
 
 -- ---- put from the last
 

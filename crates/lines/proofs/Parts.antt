@@ -6,7 +6,8 @@ use native.Mathlib.Nat.{mul-suc, mul-le-mul_left}
 use native.Mathlib.Omega.{arith}
 use lib.ListN.{length, length-append}
 use Rattle.rules.specs.Lists.{each}
-use Rattle.rules.specs.Numbers.{Limits, small}
+use Rattle.rules.specs.Numbers.{small}
+use Rattle.laws.specs.Words.{Limits}
 use Rattle.rules.specs.Tables.{Tables}
 use Rattle.store.specs.Store.{limits, tables, Shaped}
 use Rattle.store.proofs.Lengths.{threads_limit, ready_limit, clock_limit, messages_limit}

@@ -3,34 +3,19 @@ ghost use Rattle.std.specs.Prelude.{◌≡◌, ◌+◌, ◌*◌, ◌≤◌, ◌�
 ghost use Rattle.buffer.specs.Puts.{Puts};
 ghost use Rattle.lines.specs.Text.{decimal, numbers_line};
 
-// How many digits a number has.
-fn digits(n: u64) -> usize
-    ensures { (result ≡ length (decimal n)) × (result ≤ 20) }
-{
-    let mut k = 1;
-    let mut rest = n / 10;
-    while 0 < rest {
-        rest /= 10;
-        k += 1;
-    }
-    k
-}
-
 // From the last digit to the first. Most numbers of a line have one digit, so that case goes by itself.
 pub fn put_decimal(out: &mut [u8], n: u64) -> usize
     requires { 20 ≤ length out.old }
     ensures { Puts (decimal n) out.old out.new result }
 {
     if n < 10 {
-        out[0] = 48 + n as u8;
+        out[0] = b'0' + n as u8;
         return 1;
     }
-    let k = digits(n);
+    let k = n.ilog10() as usize + 1;
     let mut rest = n;
-    let mut i = k;
-    while 0 < i {
-        i -= 1;
-        out[i] = 48 + (rest % 10) as u8;
+    for i in (0..k).rev() {
+        out[i] = b'0' + (rest % 10) as u8;
         rest /= 10;
     }
     k
@@ -50,15 +35,13 @@ pub fn put_numbers(out: &mut [u8], row: &[u64]) -> usize
     requires { 1 + 21 * length row.now ≤ length out.old }
     ensures { Puts (numbers_line row.now) out.old out.new result }
 {
-    if row.len() == 0 {
+    let [first, others @ ..] = row else {
         out[0] = b'\n';
         return 1;
-    }
-    let mut at = put_decimal(out, row[0]);
-    let mut i = 1;
-    while i < row.len() {
-        at += put_spaced(&mut out[at..], row[i]);
-        i += 1;
+    };
+    let mut at = put_decimal(out, *first);
+    for n in others {
+        at += put_spaced(&mut out[at..], *n);
     }
     out[at] = b'\n';
     at + 1

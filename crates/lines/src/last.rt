@@ -8,15 +8,14 @@ ghost use Rattle.lines.specs.Text.{last_line};
 use handling::dispatch;
 use rules::Status;
 
+#[tactic(auto, unfolding(crate::specs::Text::last_line))]
 pub fn put_last(out: &mut [u8], m: &[u32]) -> usize
     requires { Shaped m.now × (16 ≤ length out.old) }
     ensures { Puts (last_line (status (tables m.now))) out.old out.new result }
 {
-    let s = dispatch::status(m);
-    match s {
+    match dispatch::status(m) {
         Status::Halted => buffer::put_bytes(out, b"SYSTEM HALTED\n"),
         Status::Panicked => buffer::put_bytes(out, b"KERNEL PANIC\n"),
-        Status::Running => buffer::put_bytes(out, b"SYSTEM UP\n"),
-        Status::Idle => buffer::put_bytes(out, b"SYSTEM UP\n"),
+        Status::Running | Status::Idle => buffer::put_bytes(out, b"SYSTEM UP\n"),
     }
 }

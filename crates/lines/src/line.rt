@@ -4,7 +4,7 @@ ghost use Rattle.buffer.specs.Puts.{Puts};
 ghost use Rattle.lines.specs.Text.{line};
 
 use crate::decimal;
-use rules::{Decision, codes};
+use rules::Decision;
 
 // The room that a line is given: seven numbers of at most 20 digits, each with a space or the line's end.
 pub const ROOM: usize = 160;
@@ -14,9 +14,9 @@ pub fn put_line(out: &mut [u8], k: u64, d: Decision) -> usize
     ensures { Puts (line k d) out.old out.new result }
 {
     let a = d.answer;
-    let kind = codes::kind_code(a);
-    let sender = codes::sender_code(a);
-    let word = codes::word_code(a);
+    let kind = a.kind();
+    let sender = a.sender();
+    let word = a.word();
     let row = [
         k,
         d.refusal as u64,

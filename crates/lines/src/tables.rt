@@ -38,10 +38,10 @@ fn put_head(out: &mut [u8], m: &[u32]) -> usize
     let r = store::runner(m);
     let row = [
         HEAD,
-        codes::status_code(s) as u64,
+        u8::from(s) as u64,
         store::last(m) as u64,
-        codes::runner_code(r) as u64,
-        codes::slice_code(r) as u64,
+        r.name() as u64,
+        r.slice() as u64,
         store::since(m) as u64,
         store::beats(m) as u64,
     ];
@@ -63,15 +63,15 @@ fn put_thread(out: &mut [u8], t: Thread) -> usize
         THREAD,
         t.name as u64,
         codes::parent_code(p) as u64,
-        codes::state_code(s) as u64,
-        codes::detail_code(s) as u64,
-        codes::manager_code(program) as u64,
-        codes::manager_code(tlb) as u64,
-        codes::manager_code(sysbp) as u64,
+        s.number() as u64,
+        s.detail() as u64,
+        u8::from(program) as u64,
+        u8::from(tlb) as u64,
+        u8::from(sysbp) as u64,
         t.ticks as u64,
-        codes::kind_code(a) as u64,
-        codes::sender_code(a) as u64,
-        codes::word_code(a) as u64,
+        a.kind() as u64,
+        a.sender() as u64,
+        a.word() as u64,
     ];
     decimal::put_numbers(out, &row)
 }
@@ -82,11 +82,9 @@ fn put_threads(out: &mut [u8], m: &[u32]) -> usize
 {
     let n = store::thread_count(m);
     let mut at = 0;
-    let mut i = 0;
-    while i < n {
+    for i in 0..n {
         let t = store::thread_at(m, i);
         at += put_thread(&mut out[at..], t);
-        i += 1;
     }
     at
 }
@@ -98,14 +96,11 @@ fn put_ready(out: &mut [u8], m: &[u32]) -> usize
 {
     let n = store::ready_count(m);
     let mut row = [READY; 21];
-    let mut i = 0;
-    while i < n {
+    for i in 0..n {
         let name = store::ready_at(m, i);
-        i += 1;
-        row[i] = name as u64;
+        row[i + 1] = name as u64;
     }
-    let end = n + 1;
-    decimal::put_numbers(out, &row[..end])
+    decimal::put_numbers(out, &row[..n + 1])
 }
 
 // Who waits for the clock, behind their tag.
@@ -115,14 +110,11 @@ fn put_clock(out: &mut [u8], m: &[u32]) -> usize
 {
     let n = store::clock_count(m);
     let mut row = [CLOCK; 21];
-    let mut i = 0;
-    while i < n {
+    for i in 0..n {
         let name = store::clock_at(m, i);
-        i += 1;
-        row[i] = name as u64;
+        row[i + 1] = name as u64;
     }
-    let end = n + 1;
-    decimal::put_numbers(out, &row[..end])
+    decimal::put_numbers(out, &row[..n + 1])
 }
 
 fn put_message(out: &mut [u8], x: Message) -> usize
@@ -134,7 +126,7 @@ fn put_message(out: &mut [u8], x: Message) -> usize
         MESSAGE,
         x.to as u64,
         x.from as u64,
-        codes::message_code(k) as u64,
+        u8::from(k) as u64,
         x.word as u64,
     ];
     decimal::put_numbers(out, &row)
@@ -146,11 +138,9 @@ fn put_messages(out: &mut [u8], m: &[u32]) -> usize
 {
     let n = store::message_count(m);
     let mut at = 0;
-    let mut i = 0;
-    while i < n {
+    for i in 0..n {
         let x = store::message_at(m, i);
         at += put_message(&mut out[at..], x);
-        i += 1;
     }
     at
 }
@@ -174,10 +164,8 @@ fn put_held(out: &mut [u8], m: &[u32]) -> usize
     ensures { Puts (each held_line (tables m.now).held) out.old out.new result }
 {
     let mut at = 0;
-    let mut d = 0;
-    while d < numbers::DEVICES {
+    for d in 0..numbers::DEVICES {
         at += put_word(&mut out[at..], m, d);
-        d += 1;
     }
     at
 }

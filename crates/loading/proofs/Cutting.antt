@@ -1,37 +1,23 @@
 -- Cutting fields: what `opens` says by places, and the loop that reads a row of fields of one tag and one length.
-use Rattle.std.proofs.Common.{◌==◌}
+use Rattle.std.proofs.lemmas.Option.{none-some, same_Some}
+use Rattle.std.proofs.Common.{Bor, Option, None, Some, ◌==◌}
 use Prim.Native.Nat.{ℕ, ◌+◌, ◌*◌, ◌-◌, ◌≤◌, ◌<◌}
 use mathlib.Core.Path.{◌≡◌, refl, sym, ap, ◌∙◌}
-use mathlib.Core.Bool.{Bool, true, false, ◌&&◌, true≢false}
+use mathlib.Core.Bool.{Bool, true, false, true≢false}
 use mathlib.Core.List.Memᴰ
 use mathlib.Core.List.{List, [], ◌∷◌, ◌++◌, Memᴰ, append_assoc, append-nil}
 use native.Mathlib.Omega.{arith}
 use lib.Dec.{leb}
 use lib.ListN.{length, take, drop, get_or, length-append, length-drop}
-use lib.Seq.{take_at, drop_at, drop-drop, get_or-drop, take_all, append_snoc}
+use lib.Seq.{length-take-le, take_at, drop_at, drop-drop, take_all, append_snoc}
 use borrow.Author.Tests.{eq-eqb, leb-true, le-leb}
 use Rattle.rules.specs.Lists.{each}
 use Rattle.rules.specs.Dump.{field}
 use Rattle.laws.proofs.Tests.{three, clash, ◌&◌}
 use Rattle.laws.proofs.Bytes.{two_back}
-use Rattle.loading.specs.Reading.{starts, opens, RowRead, NamesCounted, NamesRead}
+use Rattle.loading.specs.Reading.{FieldAt, starts, opens, RowRead, NamesCounted, NamesRead}
 
 -- ---- the head of a field
-
-pub opened : (tag size : ℕ) (s : List ℕ) → 3 ≤ length s →
-    opens tag size s ≡ ((get_or s 0 0 == tag) && (get_or s 1 0 * 256 + get_or s 2 0 == size) && leb size (length s - 3))
-unfolding opens
-opened tag size [] h = absurd (omega arith)
-opened tag size (a ∷ []) h = absurd (omega arith)
-opened tag size (a ∷ b ∷ []) h = absurd (omega arith)
-opened tag size (a ∷ b ∷ c ∷ s) h = ap (λ (n : ℕ). (a == tag) && (b * 256 + c == size) && leb size n) (omega arith)
-
-pub unopened : (tag size : ℕ) (s : List ℕ) → length s < 3 → opens tag size s ≡ false
-unfolding opens
-unopened tag size [] h = refl
-unopened tag size (a ∷ []) h = refl
-unopened tag size (a ∷ b ∷ []) h = refl
-unopened tag size (a ∷ b ∷ c ∷ s) h = absurd (omega arith)
 
 -- what opens has the tag in front, and is as long as it says
 pub opens_room : (tag size : ℕ) (s : List ℕ) → opens tag size s ≡ true → (starts tag s ≡ true) × (size + 3 ≤ length s)
@@ -60,6 +46,34 @@ seen tag size bytes at e f =
 -- the field that opens at a place ends within the bytes
 pub field_within : (tag size : ℕ) (bytes : List ℕ) (at : ℕ) → opens tag size (drop at bytes) ≡ true → at + (size + 3) ≤ length bytes
 field_within tag size bytes at o = omega (arith, (opens_room tag size (drop at bytes) o).1, length-drop at bytes)
+
+-- the value of a field, if one opens
+module _ (tag size : ℕ) (bytes : List ℕ) (at : ℕ) where
+  pub no_field : opens tag size (drop at bytes) ≡ false → FieldAt tag size bytes at None
+  no_field o = record { shut = λ _. o; opened = λ v e. absurd (none-some _ e) }
+
+  pub one_field : opens tag size (drop at bytes) ≡ true → (b : Bor (List ℕ)) (n : ℕ) → n ≡ size →
+      b.now ≡ take (at + 3 + n - (at + 3)) (drop (at + 3) bytes) → FieldAt tag size bytes at (Some b)
+  one_field o b n i e = record {
+    shut = λ f. absurd (none-some _ (sym f));
+    opened = λ v f.
+        let k : at + 3 + n - (at + 3) ≡ size = omega (arith, i) in
+        (o, ap (λ (c : Bor (List ℕ)). c.now) (sym (same_Some _ _ f)) ∙ e ∙ ap (λ (j : ℕ). take j (drop (at + 3) bytes)) k);
+  }
+
+module _ {tag size : ℕ} {bytes : List ℕ} {at : ℕ} {value : Option (Bor (List ℕ))} (F : FieldAt tag size bytes at value) where
+  pub long_value : {v : Bor (List ℕ)} → value ≡ Some v → size ≤ length v.now
+  long_value {v} e =
+      let o = F.opened v e in
+      omega (
+        arith,
+        ap length o.1,
+        length-take-le size (drop (at + 3) bytes) (omega (arith, field_within tag size bytes at o.0, length-drop (at + 3) bytes)),
+      )
+
+  pub read_value : {A : Type 0} (back : List ℕ → A) {v : Bor (List ℕ)} {x : A} → value ≡ Some v → x ≡ back v.now →
+      x ≡ back (take size (drop (at + 3) bytes))
+  read_value back {v} e f = f ∙ ap back (F.opened v e).1
 
 -- ---- a row of fields
 
@@ -121,15 +135,10 @@ module _ {A : Type 0} (most tag size : ℕ) (value : A → List ℕ) (back : Lis
           ap (λ (k : ℕ). drop k bytes) on ∙ sym (drop-drop size (at + 3) bytes) ∙ ap (drop size) (sym (drop-drop 3 at bytes)) ∙ r.1,
         )
 
-    -- as the slice between two places says it
-    exact : (at : ℕ) (x : A) → x ≡ back (take (at + (size + 3) - (at + 3)) (drop (at + 3) bytes)) →
-        x ≡ back (take size (drop (at + 3) bytes))
-    exact at x e = let k : at + (size + 3) - (at + 3) ≡ size = omega arith in e ∙ ap (λ (m : ℕ). back (take m (drop (at + 3) bytes))) k
-
     -- One more field was read. The row with its element is the row and then the element, where the fields are those of a row that is fine.
     pub cut_next : (row row' : List A) (n at : ℕ) (x : A) → Cut most tag value fine bytes from row n at → n < most →
         opens tag size (drop at bytes) ≡ true
-        → x ≡ back (take (at + (size + 3) - (at + 3)) (drop (at + 3) bytes))
+        → x ≡ back (take size (drop (at + 3) bytes))
         → ((xs zs : List A) → fine xs → row ++ x ∷ zs ≡ xs → row' ≡ row ++ (x ∷ []))
         → Cut most tag value fine bytes from row' (n + 1) (at + (size + 3))
     cut_next row row' n at x C h o e grown = record {
@@ -137,7 +146,7 @@ module _ {A : Type 0} (most tag size : ℕ) (value : A → List ℕ) (back : Lis
       within = field_within tag size bytes at o;
       so = λ xs rest l f s g.
           let r = C.so xs rest l f s g in
-          let q = next_is row at x xs r.0 rest o (exact at x e) f s r.1 r.3 in
+          let q = next_is row at x xs r.0 rest o e f s r.1 r.3 in
           let d : row' ≡ row ++ (x ∷ []) = grown xs q.0 f q.1 in (
             q.0,
             ap (λ (l : List A). l ++ q.0) d ∙ append_snoc row x q.0 ∙ q.1,
@@ -172,54 +181,57 @@ module _ {A : Type 0} (most tag size : ℕ) (value : A → List ℕ) (back : Lis
 
     -- an element that no row has which is fine
     pub cut_stops : (row : List A) (n at : ℕ) (x : A) → Cut most tag value fine bytes from row n at → opens tag size (drop at bytes) ≡ true
-        → x ≡ back (take (at + (size + 3) - (at + 3)) (drop (at + 3) bytes)) → ((xs : List A) → fine xs → Memᴰ x xs → ⊥)
+        → x ≡ back (take size (drop (at + 3) bytes)) → ((xs : List A) → fine xs → Memᴰ x xs → ⊥)
         → RowRead most tag value fine (drop from bytes) row (drop at bytes)
     cut_stops row n at x C o e never = record {
       reads = λ xs rest l f s g.
           let r = C.so xs rest l f s g in
-          let q = next_is row at x xs r.0 rest o (exact at x e) f s r.1 r.3 in
+          let q = next_is row at x xs r.0 rest o e f s r.1 r.3 in
           absurd (never xs f (rw (← q.1) (Memᴰ.append_right row (Memᴰ.head refl))));
     }
 
 -- ---- a field of names
 
 module _ (tag : ℕ) (bytes : List ℕ) (from : ℕ) where
-  -- a field of names tells how many
-  many : (q rest : List ℕ) → length q ≤ 20 → drop from bytes ≡ field tag q ++ rest → get_or bytes (from + 2) 0 ≡ length q
-  many q rest l e = omega (arith, ap (λ (s : List ℕ). get_or s 2 0) e, get_or-drop from bytes 2 0)
-
   -- bytes that start with no such field
-  pub names_short : length bytes - from < 3 → NamesCounted tag bytes from 255
-  names_short h =
-      record { whole = λ k. absurd (omega arith); counts = λ q rest l e. absurd (omega (arith, ap length e, length-drop from bytes)) }
+  no_names : ((q rest : List ℕ) → length q ≤ 20 → drop from bytes ≡ field tag q ++ rest → ⊥) → NamesCounted tag bytes from None
+  no_names never = record { whole = λ n e. absurd (none-some _ e); counts = λ q rest l e. absurd (never q rest l e) }
 
-  pub names_many : 20 < get_or bytes (from + 2) 0 → NamesCounted tag bytes from 255
-  names_many h = record { whole = λ k. absurd (omega arith); counts = λ q rest l e. absurd (omega (arith, many q rest l e)) }
+  -- the third byte tells how many, where the slice from the place on has one
+  module _ (size : ℕ) (z : (d : ℕ) → size ≡ get_or (take (length bytes - from) (drop from bytes)) 2 d) where
+    many : (q rest : List ℕ) → length q ≤ 20 → drop from bytes ≡ field tag q ++ rest → size ≡ length q
+    many q rest l e =
+        let k : length (drop from bytes) ≤ length bytes - from = omega (arith, length-drop from bytes) in
+        z 0 ∙ ap (λ (s : List ℕ). get_or s 2 0) (take_all (length bytes - from) (drop from bytes) k ∙ e) ∙ omega arith
 
-  pub names_shut : opens tag (get_or bytes (from + 2) 0) (drop from bytes) ≡ false → NamesCounted tag bytes from 255
-  names_shut o = record {
-    whole = λ k. absurd (omega arith);
-    counts = λ q rest l e.
-        absurd (clash (field_opens tag q rest (omega arith))
-        (ap (λ (n : ℕ). opens tag n (field tag q ++ rest)) (sym (many q rest l e)) ∙ ap (opens tag (get_or bytes (from + 2) 0)) (sym e) ∙ o));
-  }
+    pub names_many : 20 < size → NamesCounted tag bytes from None
+    names_many h = no_names (λ q rest l e. omega (arith, many q rest l e))
 
-  pub names_open : opens tag (get_or bytes (from + 2) 0) (drop from bytes) ≡ true → NamesCounted tag bytes from (get_or bytes (from + 2) 0)
-  names_open o = record { whole = λ k. omega (arith, field_within tag (get_or bytes (from + 2) 0) bytes from o); counts = many }
+    pub names_shut : opens tag size (drop from bytes) ≡ false → NamesCounted tag bytes from None
+    names_shut o = no_names (λ q rest l e. clash (field_opens tag q rest (omega arith))
+        (ap (λ (n : ℕ). opens tag n (field tag q ++ rest)) (sym (many q rest l e)) ∙ ap (opens tag size) (sym e) ∙ o))
 
-  module _ (n : ℕ) (C : NamesCounted tag bytes from n) (names : List ℕ) where
-    pub names_none : 20 < n → NamesRead tag (drop from bytes) false names (drop from bytes)
-    names_none h = record { reads = λ q rest l e. absurd (omega (arith, C.counts q rest l e)) }
-
-    pub names_read : names ≡ take (from + 3 + n - (from + 3)) (drop (from + 3) bytes) →
-        NamesRead tag (drop from bytes) true names (drop (from + 3 + n) bytes)
-    names_read k = record {
-      reads = λ q rest l e.
-          let long : length q ≡ n = sym (C.counts q rest l e) in
-          let size : from + 3 + n - (from + 3) ≡ n = omega arith in
-          let f : drop (from + 3) bytes ≡ q ++ rest = sym (drop-drop 3 from bytes) ∙ ap (drop 3) e in (
-            refl,
-            k ∙ ap (λ (j : ℕ). take j (drop (from + 3) bytes)) size ∙ ap (take n) f ∙ take_at q rest n long,
-            sym (drop-drop n (from + 3) bytes) ∙ ap (drop n) f ∙ drop_at q rest n long,
-          );
+    pub names_open : size ≤ 20 → opens tag size (drop from bytes) ≡ true → NamesCounted tag bytes from (Some size)
+    names_open h o = record {
+      whole = λ n e. (omega (arith, same_Some _ _ e), omega (arith, same_Some _ _ e, field_within tag size bytes from o));
+      counts = λ q rest l e. ap Some (many q rest l e);
     }
+
+  pub names_none : (names : List ℕ) → NamesCounted tag bytes from None → NamesRead tag bytes from None names
+  names_none names C =
+      record { within = λ n e. absurd (none-some _ e); reads = λ q rest l e. absurd (none-some _ (C.counts q rest l e)) }
+
+  pub names_read : (n : ℕ) (names : List ℕ) → NamesCounted tag bytes from (Some n) → names ≡ take (from + 3 + n - (from + 3)) (drop (from + 3) bytes) →
+      NamesRead tag bytes from (Some (from + 3 + n)) names
+  names_read n names C k = record {
+    within = λ p e. omega (arith, same_Some _ _ e, (C.whole n refl).1);
+    reads = λ q rest l e.
+        let long : length q ≡ n = sym (same_Some _ _ (C.counts q rest l e)) in
+        let size : from + 3 + n - (from + 3) ≡ n = omega arith in
+        let f : drop (from + 3) bytes ≡ q ++ rest = sym (drop-drop 3 from bytes) ∙ ap (drop 3) e in (
+          from + 3 + n,
+          refl,
+          k ∙ ap (λ (j : ℕ). take j (drop (from + 3) bytes)) size ∙ ap (take n) f ∙ take_at q rest n long,
+          sym (drop-drop n (from + 3) bytes) ∙ ap (drop n) f ∙ drop_at q rest n long,
+        );
+  }

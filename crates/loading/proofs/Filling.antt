@@ -1,6 +1,6 @@
 -- Rows filled in: the memory that a stage of reading leaves.
 use Rattle.std.proofs.Common.{if◌then◌else◌, ◌==◌}
-use Prim.Native.Nat.{ℕ, ◌+◌, ◌-◌, ◌≤◌, ◌<◌}
+use Prim.Native.Nat.{ℕ, ◌+◌, ◌≤◌, ◌<◌}
 use mathlib.Core.Path.{◌≡◌, refl, sym, ap, ap₂, ◌∙◌}
 use mathlib.Core.Logic.{⊎_elim}
 use mathlib.Core.Bool.{Bool, true, false, not}
@@ -9,7 +9,7 @@ use mathlib.Core.List.{List, [], ◌∷◌, ◌++◌, Memᴰ}
 use native.Mathlib.Numerals.{add-one}
 use native.Mathlib.Omega.{arith}
 use lib.Dec.{ltb}
-use lib.ListN.{length, take, drop, get_or, length-append, length-drop}
+use lib.ListN.{length, take, drop, get_or, length-append}
 use lib.Seq.{take-suc, take_all, length-take-le}
 use borrow.Author.Tests.{ltb-true, lt-ltb, ne_eqb}
 use Rattle.rules.specs.Lists.{all, keep, insert, chain}
@@ -80,7 +80,7 @@ module _ {A : Type 0} (K : Kind A) (m₀ bytes : List ℕ) (from : ℕ) where
   module _ (m : List ℕ) (n at : ℕ) (R : Rowing K m₀ bytes from m n at) where
     -- the memory m became m', in which the row is l
     pub rowing_next : (m' : List ℕ) (x : A) (l : List A) → n < K.most → opens K.tag K.size (drop at bytes) ≡ true
-        → x ≡ K.back (take (at + (K.size + 3) - (at + 3)) (drop (at + 3) bytes)) → Fills m m' (K.put l (tables m)) → K.holds l (n + 1)
+        → x ≡ K.back (take K.size (drop (at + 3) bytes)) → Fills m m' (K.put l (tables m)) → K.holds l (n + 1)
         → ((xs zs : List A) → K.fine xs → K.get (tables m) ++ x ∷ zs ≡ xs → l ≡ K.get (tables m) ++ (x ∷ []))
         → length m' ≡ length m → Rowing K m₀ bytes from m' (n + 1) (at + (K.size + 3))
     rowing_next m' x l h o e F k grown j =
@@ -111,7 +111,7 @@ module _ {A : Type 0} (K : Kind A) (m₀ bytes : List ℕ) (from : ℕ) where
         (K.get (tables m)) n at R.cut h)
 
     pub rowing_stops : (x : A) → opens K.tag K.size (drop at bytes) ≡ true →
-        x ≡ K.back (take (at + (K.size + 3) - (at + 3)) (drop (at + 3) bytes))
+        x ≡ K.back (take K.size (drop (at + 3) bytes))
         → ((xs : List A) → K.fine xs → Memᴰ x xs → ⊥) → Left K m₀ bytes from m at
     rowing_stops x o e never = left (cut_stops K.most K.tag K.size K.value K.back K.fine K.sized K.short K.backs
         bytes from (K.get (tables m)) n at x R.cut o e never)
@@ -309,10 +309,6 @@ module _ (tag : ℕ) (names m₀ : List ℕ) where
       shaped = N.only.shaped;
     }
 
--- nothing was read
-pub unnamed : (tag : ℕ) (m : List ℕ) → Small m → Fills m m (with_names tag (names_in tag (tables m)) (tables m))
-unnamed tag m S = record { says = sym (names_same tag (tables m)); same = refl; shaped = S.shaped }
-
 -- the names q were
 module _ (tag : ℕ) (q m m' : List ℕ) (F : Fills m m' (with_names tag q (tables m))) where
   pub named_now : names_in tag (tables m') ≡ q
@@ -320,10 +316,6 @@ module _ (tag : ℕ) (q m m' : List ℕ) (F : Fills m m' (with_names tag q (tabl
 
   pub named : Fills m m' (with_names tag (names_in tag (tables m')) (tables m))
   named = record { says = F.says ∙ ap (λ (l : List ℕ). with_names tag l (tables m)) (sym named_now); same = F.same; shaped = F.shaped }
-
--- a part of n bytes, where there are so many
-pub part_few : (bytes : List ℕ) (a n : ℕ) → n ≤ 20 → a + n ≤ length bytes → length (take (a + n - a) (drop a bytes)) ≤ 20
-part_few bytes a n h l = omega (arith, length-take-le (a + n - a) (drop a bytes) (omega (arith, length-drop a bytes)))
 
 -- ---- the head
 

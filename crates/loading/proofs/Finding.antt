@@ -13,7 +13,9 @@ use Rattle.rules.specs.Tables.{Tables, with_threads, with_ready, with_clock, wit
 use Rattle.rules.specs.TableRules.{table_rules}
 use Rattle.rules.specs.Dump.{field, head_value, thread_value, message_value, held_value, dump}
 use Rattle.rules.specs.Load.{runner_from, word_at}
-use Rattle.laws.specs.Words.{Held}
+use Rattle.laws.specs.Words.{Thread, Held}
+use Rattle.std.proofs.Common.{Option, None, Some}
+use Rattle.std.proofs.lemmas.Option.{none-some, same_Some}
 use Rattle.laws.proofs.Tests.{clash}
 use Rattle.laws.specs.Types.{Ruled}
 use Rattle.laws.proofs.Sound.{tested_ruled}
@@ -124,10 +126,32 @@ module _ (bytes : List ℕ) {c m : List ℕ} (L : Leaves c m (head_from bytes (t
         held = T.held;
       }
 
--- ---- the stages behind the head
+-- ---- the stages behind the head, where the bytes are the dump of tables that meet the rules
+
+module _ (T : Tables) (h : table_rules small T ≡ true) (bytes : List ℕ) (i : dump T ≡ bytes) where
+  abbrev r : Ruled small T
+  r = ruled T h
+
+  threads_whole : (a : ℕ) {ts : List Thread} → ThreadsRead (drop 12 bytes) ts (drop a bytes) → (ts ≡ T.threads) × (drop a bytes ≡ queues T)
+  threads_whole a R =
+      R.reads T.threads (queues T) r.inv.few
+      (record { each_back = λ x m. thread_back x (thread_ranged small T r x m) }) (queues_start T) (headed T h bytes i).behind
+
+  few : (length T.ready ≤ 20) × (length T.clock ≤ 20)
+  few =
+      let q = queues_few T.threads T.runner T.ready T.clock r.inv.agree in
+      (omega (arith, r.inv.few), omega (arith, r.inv.few))
+
+  ready_whole : {a : ℕ} {place : Option ℕ} {names : List ℕ} → drop a bytes ≡ queues T → NamesRead 3 bytes a place names
+      → (b : ℕ) × (place ≡ Some b) × (names ≡ T.ready) × (drop b bytes ≡ field 4 T.clock ++ post T)
+  ready_whole e R = R.reads T.ready (field 4 T.clock ++ post T) few.0 e
+
+  clock_whole : {b : ℕ} {place : Option ℕ} {names : List ℕ} → drop b bytes ≡ field 4 T.clock ++ post T → NamesRead 4 bytes b place names
+      → (c : ℕ) × (place ≡ Some c) × (names ≡ T.clock) × (drop c bytes ≡ post T)
+  clock_whole e R = R.reads T.clock (post T) few.1 e
 
 -- What the stages did: m₀ became m₁ with the threads, and so on to m₅; a to e are the places behind them.
-pub record Stages (bytes m₀ m₁ m₂ m₃ m₄ m₅ : List ℕ) (good_ready good_clock : Bool) (a b c d e : ℕ) : Type 0 where
+pub record Stages (bytes m₀ m₁ m₂ m₃ m₄ m₅ : List ℕ) (a b c d e : ℕ) : Type 0 where
   pub small : Small m₀
   pub threads : Fills m₀ m₁ (with_threads (tables m₁).threads (tables m₀))
   pub ready : Fills m₁ m₂ (with_ready (tables m₂).ready (tables m₁))
@@ -135,61 +159,70 @@ pub record Stages (bytes m₀ m₁ m₂ m₃ m₄ m₅ : List ℕ) (good_ready g
   pub messages : Fills m₃ m₄ (with_messages (tables m₄).messages (tables m₃))
   pub held : Fills m₄ m₅ (with_held (tables m₅).held (tables m₄))
   pub threads_read : ThreadsRead (drop 12 bytes) (tables m₁).threads (drop a bytes)
-  pub ready_read : NamesRead 3 (drop a bytes) good_ready (tables m₂).ready (drop b bytes)
-  pub clock_read : NamesRead 4 (drop b bytes) good_clock (tables m₃).clock (drop c bytes)
+  pub ready_read : NamesRead 3 bytes a (Some b) (tables m₂).ready
+  pub clock_read : NamesRead 4 bytes b (Some c) (tables m₃).clock
   pub messages_read : MessagesRead (drop c bytes) (tables m₄).messages (drop d bytes)
   pub held_read : HeldRead (drop d bytes) (tables m₅).held (drop e bytes)
 
-pub stages : {bytes m₀ m₁ m₂ m₃ m₄ m₅ : List ℕ} {gr gc : Bool} {a b c d e : ℕ} → Small m₀
+pub stages : {bytes m₀ m₁ m₂ m₃ m₄ m₅ : List ℕ} {a b c d e : ℕ} → Small m₀
     → (a ≤ length bytes) × Fills m₀ m₁ (with_threads (tables m₁).threads (tables m₀))
     × ThreadsRead (drop 12 bytes) (tables m₁).threads (drop a bytes)
-    → (b ≤ length bytes) × Fills m₁ m₂ (with_ready (tables m₂).ready (tables m₁))
-    × NamesRead 3 (drop a bytes) gr (tables m₂).ready (drop b bytes)
-    → (c ≤ length bytes) × Fills m₂ m₃ (with_clock (tables m₃).clock (tables m₂))
-    × NamesRead 4 (drop b bytes) gc (tables m₃).clock (drop c bytes)
+    → Fills m₁ m₂ (with_ready (tables m₂).ready (tables m₁)) × NamesRead 3 bytes a (Some b) (tables m₂).ready
+    → Fills m₂ m₃ (with_clock (tables m₃).clock (tables m₂)) × NamesRead 4 bytes b (Some c) (tables m₃).clock
     → (d ≤ length bytes) × Fills m₃ m₄ (with_messages (tables m₄).messages (tables m₃))
     × MessagesRead (drop c bytes) (tables m₄).messages (drop d bytes)
     → (e ≤ length bytes) × Fills m₄ m₅ (with_held (tables m₅).held (tables m₄)) × HeldRead (drop d bytes) (tables m₅).held (drop e bytes)
-    → Stages bytes m₀ m₁ m₂ m₃ m₄ m₅ gr gc a b c d e
+    → Stages bytes m₀ m₁ m₂ m₃ m₄ m₅ a b c d e
 stages S t q k m h =
     record {
       small = S;
       threads = t.1;
-      ready = q.1;
-      clock = k.1;
+      ready = q.0;
+      clock = k.0;
       messages = m.1;
       held = h.1;
       threads_read = t.2;
-      ready_read = q.2;
-      clock_read = k.2;
+      ready_read = q.1;
+      clock_read = k.1;
       messages_read = m.2;
       held_read = h.2;
     }
 
 -- ... and what they found
-record Whole (T : Tables) (bytes m₁ m₂ m₃ m₄ m₅ : List ℕ) (good_ready good_clock : Bool) (e : ℕ) : Type 0 where
+record Whole (T : Tables) (bytes m₁ m₂ m₃ m₄ m₅ : List ℕ) (e : ℕ) : Type 0 where
   threads : (tables m₁).threads ≡ T.threads
-  good_r : good_ready ≡ true
   ready : (tables m₂).ready ≡ T.ready
-  good_c : good_clock ≡ true
   clock : (tables m₃).clock ≡ T.clock
   messages : (tables m₄).messages ≡ T.messages
   held : (tables m₅).held ≡ T.held
   end : drop e bytes ≡ []
 
-module _ {bytes m₀ m₁ m₂ m₃ m₄ m₅ : List ℕ} {gr gc : Bool} {a b c d e : ℕ} (P : Stages bytes m₀ m₁ m₂ m₃ m₄ m₅ gr gc a b c d e) where
-  whole : (T : Tables) → table_rules small T ≡ true → dump T ≡ bytes → Whole T bytes m₁ m₂ m₃ m₄ m₅ gr gc e
+-- a field of names that does not stand: no dump
+module _ {bytes : List ℕ} {a : ℕ} {ts : List Thread} (R : ThreadsRead (drop 12 bytes) ts (drop a bytes)) (T₀ : Tables) (m : List ℕ) where
+  pub no_ready : {q : List ℕ} → NamesRead 3 bytes a None q → RestFound T₀ bytes m false
+  no_ready N = record {
+    finds = λ T h i. absurd (none-some _ (ready_whole T h bytes i (threads_whole T h bytes i a R).1 N).1);
+  }
+
+  pub no_clock : {b : ℕ} {q k : List ℕ} → NamesRead 3 bytes a (Some b) q → NamesRead 4 bytes b None k → RestFound T₀ bytes m false
+  no_clock {b} N K = record {
+    finds = λ T h i.
+        let q = ready_whole T h bytes i (threads_whole T h bytes i a R).1 N in
+        absurd (none-some _ (clock_whole T h bytes i (ap (λ (n : ℕ). drop n bytes) (same_Some _ _ q.1) ∙ q.3) K).1);
+  }
+
+module _ {bytes m₀ m₁ m₂ m₃ m₄ m₅ : List ℕ} {a b c d e : ℕ} (P : Stages bytes m₀ m₁ m₂ m₃ m₄ m₅ a b c d e) where
+  whole : (T : Tables) → table_rules small T ≡ true → dump T ≡ bytes → Whole T bytes m₁ m₂ m₃ m₄ m₅ e
   unfolding starts
   whole T h i =
       let r = ruled T h in
-      let few = queues_few T.threads T.runner T.ready T.clock r.inv.agree in
-      let t = P.threads_read.reads T.threads (queues T) r.inv.few
-      (record { each_back = λ x m. thread_back x (thread_ranged small T r x m) }) (queues_start T) (headed T h bytes i).behind in
-      let q = P.ready_read.reads T.ready (field 4 T.clock ++ post T) (omega (arith, r.inv.few)) t.1 in
-      let k = P.clock_read.reads T.clock (post T) (omega (arith, r.inv.few)) q.2 in
+      let t = threads_whole T h bytes i a P.threads_read in
+      let q = ready_whole T h bytes i t.1 P.ready_read in
+      let k = clock_whole T h bytes i (ap (λ (n : ℕ). drop n bytes) (same_Some _ _ q.1) ∙ q.3) P.clock_read in
       let m = P.messages_read.reads T.messages (words T)
       (omega (arith, r.inv.few, messages_few 20 T.threads T.messages T.held r.fits))
-      (record { each_back = λ x n. message_back x (r.fits.messages x n).word }) (words_start T.held) k.2 in
+      (record { each_back = λ x n. message_back x (r.fits.messages x n).word }) (words_start T.held)
+      (ap (λ (n : ℕ). drop n bytes) (same_Some _ _ k.1) ∙ k.3) in
       let w = P.held_read.reads T.held [] (held_few 20 T.threads T.messages T.held r.fits)
       (record {
         backs = record { each_back = λ x n. held_back x (r.fits.held x n).1 };
@@ -197,14 +230,7 @@ module _ {bytes m₀ m₁ m₂ m₃ m₄ m₅ : List ℕ} {gr gc : Bool} {a b c 
         rising = r.fits.held_order;
       })
       refl (m.1 ∙ sym (append-nil (words T))) in
-      record { threads = t.0; good_r = q.0; ready = q.1; good_c = k.0; clock = k.1; messages = m.0; held = w.0; end = w.1 }
-
-  -- a field of names that does not stand: no dump
-  pub no_ready : gr ≡ false → RestFound (tables m₀) bytes m₅ false
-  no_ready f = record { finds = λ T h i. absurd (clash (whole T h i).good_r f) }
-
-  pub no_clock : gc ≡ false → RestFound (tables m₀) bytes m₅ false
-  no_clock f = record { finds = λ T h i. absurd (clash (whole T h i).good_c f) }
+      record { threads = t.0; ready = q.2; clock = k.2; messages = m.0; held = w.0; end = w.1 }
 
   -- what stands in the memory is put together
   together : tables m₅ ≡ with_held (tables m₅).held
@@ -228,7 +254,7 @@ module _ {bytes m₀ m₁ m₂ m₃ m₄ m₅ : List ℕ} {gr gc : Bool} {a b c 
         );
   }
     where
-      told : (T : Tables) → Whole T bytes m₁ m₂ m₃ m₄ m₅ gr gc e →
+      told : (T : Tables) → Whole T bytes m₁ m₂ m₃ m₄ m₅ e →
           with_held (tables m₅).held (with_messages (tables m₄).messages
           (with_clock (tables m₃).clock (with_ready (tables m₂).ready (with_threads (tables m₁).threads (tables m₀))))) ≡ behind_head
           (tables m₀) T

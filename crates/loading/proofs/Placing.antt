@@ -1,14 +1,14 @@
 -- Words copied to the front of a longer memory: it stands for what they stand for, since nothing behind them is looked at.
-use Prim.Native.Nat.{ℕ, suc, ◌+◌, ◌≤◌, ◌<◌}
+use Prim.Native.Nat.{ℕ, ◌+◌, ◌≤◌, ◌<◌}
 use mathlib.Core.Path.{◌≡◌, refl, sym, ap, ap₂, ◌∙◌}
 use mathlib.Core.Bool.{true}
-use mathlib.Core.List.{List, [], ◌∷◌, ◌++◌}
-use native.Mathlib.Numerals.{add-one}
+use mathlib.Core.List.{List, ◌++◌}
 use native.Mathlib.Omega.{arith}
-use lib.ListN.{length, take, drop, get_or, set, length-set, length-append, length-drop, get_or-append}
-use lib.Seq.{take-suc, take_all, drop-cons, length-take-le, append_snoc, set-append_seam, ext_get_or}
+use lib.ListN.{length, drop, length-append, length-drop, get_or-append}
+use lib.Seq.{length-take-le, ext_get_or}
 use Rattle.rules.specs.Lists.{each, from_on}
-use Rattle.rules.specs.Numbers.{Limits, small, devices}
+use Rattle.rules.specs.Numbers.{small, devices}
+use Rattle.laws.specs.Words.{Limits}
 use Rattle.rules.specs.TableRules.{table_rules}
 use Rattle.laws.proofs.Tests.{and_left, and_right, ◌&◌}
 use Rattle.words.specs.Saying.{word, byte, thread_in, message_in, held_in}
@@ -22,43 +22,6 @@ use Rattle.store.specs.Store.{limits, tables, Shaped}
 use Rattle.memory.specs.Shape.{shaped}
 use Rattle.checking.specs.Stands.{stands}
 use Rattle.checking.proofs.Shapes.{own_limits, shaped_right, right_shaped}
-
--- ---- the loop that copies
-
--- i words are copied
-pub record Placed (from to₀ to : List ℕ) (i : ℕ) : Type 0 where
-  pub room : length from ≤ length to₀
-  pub within : i ≤ length from
-  pub long : length to ≡ length to₀
-  pub so : to ≡ take i from ++ drop i to₀
-
-module _ (from to₀ : List ℕ) where
-  pub place_starts : length from ≤ length to₀ → Placed from to₀ to₀ 0
-  place_starts h = record { room = h; within = omega arith; long = refl; so = refl }
-
-  module _ (to : List ℕ) (i : ℕ) (P : Placed from to₀ to i) where
-    pub place_next : (x : ℕ) → i < length from → x ≡ get_or from i 0 → Placed from to₀ (set to i x) (i + 1)
-    place_next x h e =
-        let front : length (take i from) ≡ i = length-take-le i from P.within in
-        let k : i < length to₀ = omega (arith, P.room) in
-        record {
-          room = P.room;
-          within = omega arith;
-          long = length-set to i x ∙ P.long;
-          so = ap (λ (t : List ℕ). set t i x) (P.so ∙ ap (λ (r : List ℕ). take i from ++ r) (drop-cons to₀ i 0 k))
-              ∙ ap (λ (j : ℕ). set (take i from ++ get_or to₀ i 0 ∷ drop (suc i) to₀) j x) (sym front)
-              ∙ set-append_seam (take i from) (get_or to₀ i 0) (drop (suc i) to₀) x
-              ∙ sym (append_snoc (take i from) x (drop (suc i) to₀))
-              ∙ ap (λ (y : ℕ). take i from ++ (y ∷ []) ++ drop (suc i) to₀) e
-              ∙ ap (λ (r : List ℕ). r ++ drop (suc i) to₀) (sym (take-suc from i 0 h))
-              ∙ ap (λ (j : ℕ). take j from ++ drop j to₀) (sym (add-one i));
-        }
-
-    pub place_ends : length from ≤ i → to ≡ from ++ drop (length from) to₀
-    place_ends h =
-        let e : i ≡ length from = omega (arith, P.within) in
-        P.so ∙ ap (λ (j : ℕ). take j from ++ drop j to₀) e
-        ∙ ap (λ (r : List ℕ). r ++ drop (length from) to₀) (take_all (length from) from (omega arith))
 
 -- ---- what the memory stands for
 

@@ -1,5 +1,6 @@
 -- What the stages of reading promise: the parts of a dump, put into a memory that is lent.
-use Rattle.std.specs.Prelude.{ℕ, ◌+◌, ◌*◌, ◌≤◌, Bool, true, false, ◌&&◌, ◌≡◌, leb, ltb, length, drop, get_or, if◌then◌else◌, ◌==◌}
+use Rattle.std.specs.Prelude.{ℕ, ◌+◌, ◌*◌, ◌≤◌, Bool, true, false, ◌&&◌, ◌≡◌, leb, ltb, length, take, drop, get_or, if◌then◌else◌, ◌==◌, Option, None, Some}
+use Rattle.std.specs.Borrow.{Bor}
 use mathlib.Core.List.{List, [], ◌∷◌, ◌++◌, Memᴰ}
 use Rattle.rules.specs.Lists.{each, chain}
 use Rattle.rules.specs.Numbers.{small, devices}
@@ -23,6 +24,11 @@ opens tag size [] = false
 opens tag size (t ∷ []) = false
 opens tag size (t ∷ high ∷ []) = false
 opens tag size (t ∷ high ∷ low ∷ rest) = (t == tag) && (high * 256 + low == size) && leb size (length rest)
+
+-- the value of the field of this tag and this length that starts at a place, if one does
+pub record FieldAt (tag size : ℕ) (bytes : List ℕ) (at : ℕ) (value : Option (Bor (List ℕ))) : Type 0 where
+  pub shut : value ≡ None → opens tag size (drop at bytes) ≡ false
+  pub opened : (v : Bor (List ℕ)) → value ≡ Some v → (opens tag size (drop at bytes) ≡ true) × (v.now ≡ take size (drop (at + 3) bytes))
 
 -- ---- the memory that is filled
 
@@ -94,16 +100,17 @@ MessagesRead bytes row behind =
 abbrev pub HeldRead : List ℕ → List Held → List ℕ → Type 0
 HeldRead bytes row behind = RowRead devices held_tag held_value HeldFine bytes row behind
 
--- From a place on there are n names of a field: where such a field stands there, as many as it has. Else n is any; where it is 20 at
--- most, so many bytes are there.
-pub record NamesCounted (tag : ℕ) (bytes : List ℕ) (from n : ℕ) : Type 0 where
-  pub whole : n ≤ small.threads → from + before_value + n ≤ length bytes
-  pub counts : (q rest : List ℕ) → length q ≤ small.threads → drop from bytes ≡ field tag q ++ rest → n ≡ length q
+-- From a place on there is a field of so many names: where such a field stands there, as many as it has. Where there is one, so many bytes
+-- are there.
+pub record NamesCounted (tag : ℕ) (bytes : List ℕ) (from : ℕ) (many : Option ℕ) : Type 0 where
+  pub whole : (n : ℕ) → many ≡ Some n → (n ≤ small.threads) × (from + before_value + n ≤ length bytes)
+  pub counts : (q rest : List ℕ) → length q ≤ small.threads → drop from bytes ≡ field tag q ++ rest → many ≡ Some (length q)
 
--- Names were read from these bytes and `behind` is left, as for a row.
-pub record NamesRead (tag : ℕ) (bytes : List ℕ) (good : Bool) (names : List ℕ) (behind : List ℕ) : Type 0 where
-  pub reads : (q : List ℕ) (rest : List ℕ) → length q ≤ small.threads → bytes ≡ field tag q ++ rest → (good ≡ true) × (names ≡ q)
-      × (behind ≡ rest)
+-- Names were read from a place on, and there is a place behind their field, as for a row.
+pub record NamesRead (tag : ℕ) (bytes : List ℕ) (from : ℕ) (place : Option ℕ) (names : List ℕ) : Type 0 where
+  pub within : (n : ℕ) → place ≡ Some n → n ≤ length bytes
+  pub reads : (q rest : List ℕ) → length q ≤ small.threads → drop from bytes ≡ field tag q ++ rest
+      → (n : ℕ) × (place ≡ Some n) × (names ≡ q) × (drop n bytes ≡ rest)
 
 -- What stands behind a head T₀, if the bytes are the dump of tables that meet the rules: all else of them.
 pub record RestFound (T₀ : Tables) (bytes m : List ℕ) (good : Bool) : Type 0 where

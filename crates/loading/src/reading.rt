@@ -12,19 +12,6 @@ use crate::opening;
 use faults::values;
 use rules::{numbers, tags};
 
-// A field has at most so many names: a queue holds a thread once.
-const MOST_NAMES: u8 = numbers::THREADS as u8;
-
-// More names than these no field has.
-const NO_FIELD: usize = 255;
-
-// The place behind a field of names, if one stands there.
-#[derive(Clone, Copy)]
-struct Names {
-    at: usize,
-    good: bool,
-}
-
 // Field 1, but for the status. The memory still holds nothing.
 fn read_head(m: &mut [u32], bytes: &[u8])
     requires { Holding m.old × (before_value + head_size ≤ length bytes.now) }
@@ -41,38 +28,28 @@ fn read_threads(m: &mut [u32], bytes: &[u8], from: usize) -> usize
         × Fills m.old m.new (with_threads (tables m.new).threads (tables m.old))
         × ThreadsRead (drop from bytes.now) (tables m.new).threads (drop result bytes.now) }
 {
-    let mut n: usize = 0;
     let mut at = from;
-    while n < numbers::THREADS {
-        if !opening::opens(&bytes[at..], tags::THREAD, tags::THREAD_SIZE) {
+    for n in 0..numbers::THREADS {
+        let Some(value) = opening::value_at(bytes, at, tags::THREAD, tags::THREAD_SIZE) else {
             return at;
-        }
-        let start = at + tags::BEFORE_VALUE;
-        let end = at + tags::THREAD_FIELD;
-        let x = values::read_thread(&bytes[start..end]);
-        store::fill_thread(m, x);
-        n += 1;
-        at = end;
+        };
+        store::fill_thread(m, values::read_thread(value));
+        at += tags::THREAD_FIELD;
     }
     at
 }
 
-// How many names the field has that starts there.
-fn count_names(bytes: &[u8], from: usize, tag: u8) -> usize
+// How many names the field has that starts there, if one does: a queue holds a thread once.
+fn count_names(bytes: &[u8], from: usize, tag: u8) -> Option<usize>
     requires { from ≤ length bytes.now }
     ensures { NamesCounted tag bytes.now from result }
 {
-    if bytes.len() - from < 3 {
-        return NO_FIELD;
+    let size = *bytes[from..].get(2)?;
+    if usize::from(size) <= numbers::THREADS && opening::opens(&bytes[from..], tag, size) {
+        Some(usize::from(size))
+    } else {
+        None
     }
-    let size = bytes[from + 2];
-    if size > MOST_NAMES {
-        return NO_FIELD;
-    }
-    if !opening::opens(&bytes[from..], tag, size) {
-        return NO_FIELD;
-    }
-    size as usize
 }
 
 // A name behind the others of a queue.
@@ -92,36 +69,22 @@ fn fill_names(m: &mut [u32], names: &[u8], tag: u8)
     requires { Small m.old × (names_in tag (tables m.old) ≡ []) × (length names.now ≤ small.threads) }
     ensures { Fills m.old m.new (with_names tag names.now (tables m.old)) }
 {
-    let n = names.len();
-    let mut i = 0;
-    while i < n {
-        fill_name(m, tag, names[i]);
-        i += 1;
+    for name in names {
+        fill_name(m, tag, *name);
     }
 }
 
-// A field of names: its length is how many.
-fn read_names(m: &mut [u32], bytes: &[u8], from: usize, tag: u8) -> Names
+// A field of names: its length is how many. It answers the place behind the field, if one stands there.
+fn read_names(m: &mut [u32], bytes: &[u8], from: usize, tag: u8) -> Option<usize>
     requires { Small m.old × (names_in tag (tables m.old) ≡ []) × (from ≤ length bytes.now) }
-    ensures { (result.at ≤ length bytes.now)
-        × Fills m.old m.new (with_names tag (names_in tag (tables m.new)) (tables m.old))
-        × NamesRead tag (drop from bytes.now) result.good (names_in tag (tables m.new))
-        (drop result.at bytes.now) }
+    ensures { Fills m.old m.new (with_names tag (names_in tag (tables m.new)) (tables m.old))
+        × NamesRead tag bytes.now from result (names_in tag (tables m.new)) }
 {
-    let n = count_names(bytes, from, tag);
-    if n > numbers::THREADS {
-        return Names {
-            at: from,
-            good: false,
-        };
-    }
+    let n = count_names(bytes, from, tag)?;
     let start = from + tags::BEFORE_VALUE;
     let end = start + n;
     fill_names(m, &bytes[start..end], tag);
-    Names {
-        at: end,
-        good: true,
-    }
+    Some(end)
 }
 
 fn read_messages(m: &mut [u32], bytes: &[u8], from: usize) -> usize
@@ -130,18 +93,13 @@ fn read_messages(m: &mut [u32], bytes: &[u8], from: usize) -> usize
         × Fills m.old m.new (with_messages (tables m.new).messages (tables m.old))
         × MessagesRead (drop from bytes.now) (tables m.new).messages (drop result bytes.now) }
 {
-    let mut n: usize = 0;
     let mut at = from;
-    while n < numbers::MESSAGES {
-        if !opening::opens(&bytes[at..], tags::MESSAGE, tags::MESSAGE_SIZE) {
+    for n in 0..numbers::MESSAGES {
+        let Some(value) = opening::value_at(bytes, at, tags::MESSAGE, tags::MESSAGE_SIZE) else {
             return at;
-        }
-        let start = at + tags::BEFORE_VALUE;
-        let end = at + tags::MESSAGE_FIELD;
-        let x = values::read_message(&bytes[start..end]);
-        store::fill_message(m, x);
-        n += 1;
-        at = end;
+        };
+        store::fill_message(m, values::read_message(value));
+        at += tags::MESSAGE_FIELD;
     }
     at
 }
@@ -153,21 +111,17 @@ fn read_held(m: &mut [u32], bytes: &[u8], from: usize) -> usize
         × Fills m.old m.new (with_held (tables m.new).held (tables m.old))
         × HeldRead (drop from bytes.now) (tables m.new).held (drop result bytes.now) }
 {
-    let mut n: usize = 0;
     let mut at = from;
-    while n < numbers::HELD {
-        if !opening::opens(&bytes[at..], tags::HELD, tags::HELD_SIZE) {
+    for n in 0..numbers::HELD {
+        let Some(value) = opening::value_at(bytes, at, tags::HELD, tags::HELD_SIZE) else {
             return at;
-        }
-        let start = at + tags::BEFORE_VALUE;
-        let end = at + tags::HELD_FIELD;
-        let x = values::read_word(&bytes[start..end]);
+        };
+        let x = values::read_word(value);
         if x.device >= numbers::DEVICES {
             return at;
         }
         store::fill_held(m, x.device, x.word);
-        n += 1;
-        at = end;
+        at += tags::HELD_FIELD;
     }
     at
 }
@@ -178,16 +132,14 @@ fn read_rest(m: &mut [u32], bytes: &[u8]) -> bool
     ensures { RestFound (tables m.old) bytes.now m.new result }
 {
     let threads = read_threads(m, bytes, tags::HEAD_FIELD);
-    let ready = read_names(m, bytes, threads, tags::READY);
-    let clock = read_names(m, bytes, ready.at, tags::CLOCK);
-    let messages = read_messages(m, bytes, clock.at);
+    let Some(ready) = read_names(m, bytes, threads, tags::READY) else {
+        return false;
+    };
+    let Some(clock) = read_names(m, bytes, ready, tags::CLOCK) else {
+        return false;
+    };
+    let messages = read_messages(m, bytes, clock);
     let held = read_held(m, bytes, messages);
-    if !ready.good {
-        return false;
-    }
-    if !clock.good {
-        return false;
-    }
     held == bytes.len()
 }
 
@@ -199,7 +151,7 @@ pub fn read_fields(m: &mut [u32], bytes: &[u8]) -> bool
     if !opening::opens(bytes, tags::HEAD, tags::HEAD_SIZE) {
         return false;
     }
-    store::clear(m, numbers::THREADS as u32, numbers::BLOCKS as u32);
+    store::clear(m, numbers::SMALL);
     read_head(m, bytes);
     read_rest(m, bytes)
 }

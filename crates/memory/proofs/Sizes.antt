@@ -5,7 +5,7 @@ use mathlib.Core.List.{List}
 use native.Mathlib.Omega.{arith}
 use lib.ListN.{length}
 use lib.Seq.{length-take-le}
-use Rattle.rules.specs.Numbers.{Limits}
+use Rattle.laws.specs.Words.{Limits}
 use Rattle.memory.specs.Rows.{view, members, Fits}
 use Rattle.memory.specs.Memory.{rows_of}
 use Rattle.memory.proofs.Rowing.{length_row}

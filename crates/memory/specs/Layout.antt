@@ -9,7 +9,7 @@
 --          for each thread and each block a message of 4: receiver, sender with kind, word, 1 spare (a second word)                4 each
 --
 use Rattle.std.specs.Prelude.{ℕ, ◌+◌, ◌*◌}
-use Rattle.rules.specs.Numbers.{Limits}
+use Rattle.laws.specs.Words.{Limits}
 use Rattle.laws.specs.Words.{TrapKind, Program, Tlb, SysBp}
 
 -- more blocks than these no start gives; so every count is a word

@@ -1,7 +1,8 @@
 -- The rows that a memory holds. Hints and spare words are no part of them.
 use Rattle.std.specs.Prelude.{ℕ, zero, suc, ◌+◌, List, [], ◌∷◌, length, take, drop}
 use Rattle.rules.specs.Lists.{each, from_on}
-use Rattle.rules.specs.Numbers.{Limits, devices}
+use Rattle.rules.specs.Numbers.{devices}
+use Rattle.laws.specs.Words.{Limits}
 use Rattle.laws.specs.Words.{Thread, Message, Held}
 use Rattle.words.specs.Saying.{word, byte, thread_in, message_in, held_in, runner_in}
 use Rattle.memory.specs.Layout.{thread_place, message_place, held_place}

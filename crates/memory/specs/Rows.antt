@@ -1,7 +1,8 @@
 -- What a memory holds: rows, each with as many entries as there is room for, and their counts; and as the rules' tables.
 use Rattle.std.specs.Prelude.{ℕ, suc, ◌+◌, ◌≤◌, ◌<◌, ◌≡◌, Bool, List, [], ◌∷◌, length, take, if◌then◌else◌, Option, Some, None}
 use Rattle.rules.specs.Lists.{any}
-use Rattle.rules.specs.Numbers.{Limits, names}
+use Rattle.rules.specs.Numbers.{names}
+use Rattle.laws.specs.Words.{Limits}
 use Rattle.laws.specs.Words.{Running, NoParent, Ordinary, Thread, Message, Held, Runner, NoRunner}
 use Rattle.rules.specs.Tables.{Tables, new_thread}
 use Rattle.rules.specs.Interrupt.{held_for}

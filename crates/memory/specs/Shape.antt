@@ -1,7 +1,7 @@
 -- When a memory of any length and contents is shaped for limits: it is long enough, and its head has them and counts within them.
 use Rattle.std.specs.Prelude.{ℕ, ◌+◌, Bool, List, [], ◌∷◌, leb, length, ◌==◌}
 use Rattle.rules.specs.Lists.{all}
-use Rattle.rules.specs.Numbers.{Limits}
+use Rattle.laws.specs.Words.{Limits}
 use Rattle.words.specs.Saying.{word}
 use Rattle.memory.specs.Layout.{size}
 

@@ -13,6 +13,7 @@ ghost use Rattle.memory.specs.Rows.{put_beats, put_count, put_readies, put_clock
 ghost use Rattle.memory.specs.Rows.{put_clock, put_messages, put_held, put_ended};
 ghost use Rattle.memory.specs.Memory.{part, rows_of};
 
+use rules::numbers::Limits;
 use rules::{
     Answer, Manager, Message, MessageKind, Parent, Runner, State, Thread, TrapKind, numbers,
 };
@@ -110,9 +111,9 @@ pub fn set_runner(m: &mut [u32], r: Runner)
     requires { Roomy (rows_of m.old) }
     ensures { rows_of m.new ≡ put_runner r (rows_of m.old) }
 {
-    let w = saying::runner_words(r);
-    m[RUNNER] = w.name;
-    m[SLICE] = w.slice;
+    let (name, slice) = saying::runner_words(r);
+    m[RUNNER] = name;
+    m[SLICE] = slice;
 }
 
 // Ticks since the beat.
@@ -469,6 +470,15 @@ pub fn put_clock(m: &mut [u32], i: usize, name: u8)
     m[THREADS + i * RECORD + CLOCK] = name as u32;
 }
 
+// The name at one place of the clock queue is written at another, as the word stands.
+pub fn move_clock(m: &mut [u32], from: usize, to: usize)
+    requires { Roomy (rows_of m.old) × (from < (rows_of m.old).limits.threads) × (to < (rows_of m.old).limits.threads) }
+    ensures { rows_of m.new ≡ put_clock
+        (set (rows_of m.old).clock to (get_or (rows_of m.old).clock from 0)) (rows_of m.old) }
+{
+    m[THREADS + to * RECORD + CLOCK] = m[THREADS + from * RECORD + CLOCK];
+}
+
 pub fn put_ended(m: &mut [u32], i: usize, name: u8)
     requires { Roomy (rows_of m.old) × (i < (rows_of m.old).limits.threads) }
     ensures { rows_of m.new ≡ put_ended (set (rows_of m.old).ended i name) (rows_of m.old) }
@@ -612,14 +622,14 @@ fn clear_all_held(m: &mut [u32])
 }
 
 // Whatever stood there, the memory has these limits and holds nothing.
-pub fn clear(m: &mut [u32], threads: u32, blocks: u32)
-    requires { Room (record { threads = threads; blocks = blocks }) (length m.old) }
+pub fn clear(m: &mut [u32], l: Limits)
+    requires { Room l (length m.old) }
     ensures { (view (rows_of m.new) ≡ nothing)
-        × ((rows_of m.new).limits ≡ record { threads = threads; blocks = blocks }) × ((rows_of m.new).count ≡ 0)
+        × ((rows_of m.new).limits ≡ l) × ((rows_of m.new).count ≡ 0)
         × ((rows_of m.new).readies ≡ 0) × ((rows_of m.new).clocks ≡ 0) × ((rows_of m.new).letters ≡ 0) }
 {
-    m[LIMIT] = threads;
-    m[BLOCKS] = blocks;
+    m[LIMIT] = l.threads;
+    m[BLOCKS] = l.blocks;
     m[LAST] = 0;
     m[SINCE] = 0;
     m[BEATS] = 0;
@@ -634,31 +644,25 @@ pub fn clear(m: &mut [u32], threads: u32, blocks: u32)
 // ---- a memory of any length and contents
 
 // Is it long enough for these limits, and has it them and counts within them in its head?
-pub fn shaped(m: &[u32], threads: u32, blocks: u32) -> bool
-    requires { (threads < names) × (blocks ≤ most_blocks) }
-    ensures { result ≡ Shaped_of (record { threads = threads; blocks = blocks }) m.now }
+#[tactic(auto, unfolding(crate::specs::Shape::shaped, rules::specs::Lists::all))]
+pub fn shaped(m: &[u32], l: Limits) -> bool
+    requires { (l.threads < names) × (l.blocks ≤ most_blocks) }
+    ensures { result ≡ Shaped_of l m.now }
 {
-    let messages = threads + blocks;
-    let need = THREADS + (threads as usize) * RECORD + (messages as usize) * MESSAGE;
+    let messages = l.threads + l.blocks;
+    let need = THREADS + (l.threads as usize) * RECORD + (messages as usize) * MESSAGE;
     if m.len() < need {
         return false;
     }
-    if m[LIMIT] != threads {
-        return false;
-    }
-    if m[BLOCKS] != blocks {
-        return false;
-    }
-    if m[COUNT] > threads {
-        return false;
-    }
-    if m[READIES] > threads {
-        return false;
-    }
-    if m[CLOCKS] > threads {
-        return false;
-    }
-    m[LETTERS] <= messages
+    let right = [
+        m[LIMIT] == l.threads,
+        m[BLOCKS] == l.blocks,
+        m[COUNT] <= l.threads,
+        m[READIES] <= l.threads,
+        m[CLOCKS] <= l.threads,
+        m[LETTERS] <= messages,
+    ];
+    right.iter().all(|r| *r)
 }
 
 // ---- words as they stand, for a dump

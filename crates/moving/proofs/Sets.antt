@@ -12,8 +12,9 @@ use borrow.Author.Tests.{eqb-true, eq-eqb}
 use Rattle.rules.specs.Lists.{any, has, keep, count}
 use Rattle.rules.specs.Words.{by_parent, by_manager}
 use Rattle.rules.specs.Tables.{in_state, manager, with_managers, set_entry}
-use Rattle.rules.specs.States.{awaits}
+use Rattle.rules.specs.States.{awaits, trapped_on}
 use Rattle.rules.specs.Ending.{depends, grow, gone_if, without_managers, misses, told_gone}
+use Rattle.laws.specs.Words.{Running, Receiving, Clock, Device, Trapped}
 use Rattle.laws.specs.Words.{State, Ready, Answer, TrapKind, Program, Tlb, SysBp, Manager, Managers, Unset, Set, Gone, Thread}
 use Rattle.laws.proofs.Closure.{joins}
 use Rattle.memory.specs.Rows.{Rows, view, Roomy, members, put_threads, put_ready, put_readies, put_ended, put_ends, ReadyIs, MembersAre}
@@ -55,6 +56,24 @@ managed l Gone = any_never l
 
 pub never : (l : List ℕ) → false ≡ any (λ k. false) l
 never l = sym (any_never l)
+
+-- nor who is not trapped
+pub not_trapped : (l : List ℕ) (t : Thread) → ((k : TrapKind) → t.state ≡ Trapped k → ⊥) → false ≡ any (λ n. awaits n t) l
+unfolding trapped_on
+not_trapped l t h = go t.state refl
+  where
+    go : (s : State) → t.state ≡ s → false ≡ any (λ n. awaits n t) l
+    go Running e = rw e (never l)
+    go Ready e = rw e (never l)
+    go (Receiving w) e = rw e (never l)
+    go Clock e = rw e (never l)
+    go (Device d) e = rw e (never l)
+    go (Trapped k) e = absurd (h k e)
+
+-- the first of all that are found are all
+pub whole_set : (r : Rows) (n k : ℕ) → n ≡ r.ends → has k (take n (members r)) ≡ has k (members r)
+whole_set r n k e = ap (λ (j : ℕ). has k (take j (members r))) e
+    ∙ ap (has k) (take-take r.ends r.ends r.ended (omega arith))
 
 and_no : (d : Bool) → false ≡ (d && false)
 and_no true = refl

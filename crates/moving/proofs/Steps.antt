@@ -9,6 +9,8 @@ use lib.Seq.{length-take-le}
 use Rattle.laws.specs.Words.{Thread, Message}
 use Rattle.memory.specs.Rows.{Rows, view, Roomy, put_threads, put_count, put_ready, put_readies, put_clock, put_clocks, put_messages}
 use Rattle.memory.specs.Rows.{put_letters, ReadyIs, ClockIs, ThreadsAre, ThreadsLeft, MessagesAre}
+pub use Rattle.moving.specs.Row.{Row, the_threads, the_ready, the_clock, the_messages}
+use Rattle.moving.specs.Row.{RowIs}
 use Rattle.moving.proofs.Loops.{wrote, Sifted, sift_drops, sift_holds, Shifted, shift_ends, Appended, append_starts, append_next}
 use Rattle.moving.proofs.Loops.{append_ends}
 
@@ -31,27 +33,6 @@ BothAmong i j r = Roomy r × (i < r.limits.threads + r.limits.blocks) × (j < r.
 
 -- ---- one row of the rows
 
-pub record Row (A : Type 0) : Type 0 where
-  pub of : Rows → List A
-  pub put : List A → Rows → Rows
-  pub put_own : (r : Rows) → put (of r) r ≡ r
-  pub put_of : (l : List A) (r : Rows) → of (put l r) ≡ l
-  pub put_over : (l k : List A) (r : Rows) → put l (put k r) ≡ put l r
-
-abbrev pub the_threads : Row Thread
-the_threads =
-    record { of = λ r. r.threads; put = λ l r. put_threads l r; put_own = λ r. refl; put_of = λ l r. refl; put_over = λ l k r. refl }
-
-abbrev pub the_ready : Row ℕ
-the_ready = record { of = λ r. r.ready; put = λ l r. put_ready l r; put_own = λ r. refl; put_of = λ l r. refl; put_over = λ l k r. refl }
-
-abbrev pub the_clock : Row ℕ
-the_clock = record { of = λ r. r.clock; put = λ l r. put_clock l r; put_own = λ r. refl; put_of = λ l r. refl; put_over = λ l k r. refl }
-
-abbrev pub the_messages : Row Message
-the_messages =
-    record { of = λ r. r.messages; put = λ l r. put_messages l r; put_own = λ r. refl; put_of = λ l r. refl; put_over = λ l k r. refl }
-
 -- only that row is not as it was in r₀, and P tells of it
 pub record Only {A : Type 0} (w : Row A) (r₀ : Rows) (P : List A → Type 0) (r : Rows) : Type 0 where
   pub only : r ≡ w.put (w.of r) r₀
@@ -73,6 +54,20 @@ module _ {A : Type 0} (w : Row A) {r₀ : Rows} where
   -- or does not
   pub stays : {P Q : List A → Type 0} {r : Rows} → Only w r₀ P r → Q (w.of r) → Only w r₀ Q r
   stays O q = record { only = O.only; so = q }
+
+-- the rest of the rows stands
+module _ {A : Type 0} (w : Row A) {r₀ r : Rows} (o : r ≡ w.put (w.of r) r₀) where
+  limits_stand : r.limits ≡ r₀.limits
+  limits_stand = ap (λ (x : Rows). x.limits) o ∙ w.put_limits (w.of r) r₀
+
+  pub only_room : r.room ≡ r₀.room
+  only_room = ap (λ (x : Rows). x.room) o ∙ w.put_room (w.of r) r₀
+
+  pub only_limit : w.limit r.limits ≡ w.limit r₀.limits
+  only_limit = ap w.limit limits_stand
+
+  pub only_roomy : Roomy r₀ → Roomy r
+  only_roomy h = rw (limits_stand, only_room) h
 
 -- ---- a row without those that a test finds, what is left closed up
 
@@ -120,6 +115,17 @@ module _ {r₀ r r₁ : Rows} (k : ℕ) where
   pub messages_are : {l : List Message} → r ≡ put_messages r.messages r₀ → r₁ ≡ put_letters k r → take k r.messages ≡ l →
       k ≤ r₀.limits.threads + r₀.limits.blocks → MessagesAre r₀ r₁ l
   messages_are o e s f = rw e (record { only = ap (put_letters k) o; says = s; fits = f })
+
+-- the same of any row
+pub row_is : {A : Type 0} (w : Row A) {r₀ r r₁ : Rows} (k : ℕ) {l : List A} → r ≡ w.put (w.of r) r₀ → r₁ ≡ w.put_count k r →
+    take k (w.of r) ≡ l → k ≤ length (w.of r) → k ≤ w.limit r₀.limits → RowIs w r₀ r₁ l
+row_is w {r₀} {r} k o e s h f =
+    rw e (record {
+      only = ap (w.put_count k) (o ∙ ap (λ (x : List _). w.put x r₀) (sym (w.count_of k r))) ∙ ap (λ (n : ℕ). w.put_count n (w.put (w.of (w.put_count k r)) r₀)) (sym (w.count_is k r));
+      says = rw (w.count_is k r, w.count_of k r) s;
+      counts = w.count_is k r ∙ (sym (length-take-le k (w.of r) h) ∙ ap length s);
+      fits = rw (w.count_is k r) f;
+    })
 
 -- as many threads as before
 pub threads_are : {r₀ r : Rows} {l : List Thread} → r ≡ put_threads r.threads r₀ → take r₀.count r.threads ≡ l → ThreadsAre r₀ r l

@@ -4,5 +4,6 @@
 pub mod members;
 pub mod messages;
 pub mod queues;
+pub mod row;
 pub mod threads;
 pub mod without;

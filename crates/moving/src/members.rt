@@ -12,7 +12,7 @@ ghost use Rattle.memory.specs.Rows.{no_message};
 ghost use Rattle.memory.specs.Memory.{rows_of};
 ghost use Rattle.moving.specs.Marks.{Marks};
 
-use memory::memory as rows;
+use memory::{memory as rows, records};
 use rules::{Manager, Parent, State, TrapKind, Wanted};
 
 // A byte as a place. A call asks for no bound of an array's byte, where a cast would.
@@ -23,7 +23,7 @@ fn wide(b: u8) -> usize
 }
 
 // Is the name among the first n of the set?
-fn has(marks: &[u8; 256], n: usize, name: u8) -> bool
+pub(crate) fn has(marks: &[u8; 256], n: usize, name: u8) -> bool
     requires { n ≤ 255 }
     ensures { (xs : List ℕ) → Marks xs marks.now → result ≡ has_in name (take n xs) }
 {
@@ -79,10 +79,7 @@ fn is_child(marks: &[u8; 256], n: usize, p: Parent) -> bool
     requires { n ≤ 255 }
     ensures { (xs : List ℕ) → Marks xs marks.now → result ≡ by_parent false (λ k. has_in k (take n xs)) p }
 {
-    match p {
-        Parent::NoParent => false,
-        Parent::ParentIs(name) => has(marks, n, name),
-    }
+    matches!(p, Some(name) if has(marks, n, name))
 }
 
 // Is the entry one of the first n?
@@ -90,11 +87,7 @@ fn is_managed(marks: &[u8; 256], n: usize, g: Manager) -> bool
     requires { n ≤ 255 }
     ensures { (xs : List ℕ) → Marks xs marks.now → result ≡ by_manager false (λ k. has_in k (take n xs)) g }
 {
-    match g {
-        Manager::Unset => false,
-        Manager::Set(name) => has(marks, n, name),
-        Manager::Gone => false,
-    }
+    matches!(g, Manager::Set(name) if has(marks, n, name))
 }
 
 // Is the thread at a place trapped on one of the first n?
@@ -104,17 +97,11 @@ fn is_trapped_on(m: &[u32], marks: &[u8; 256], n: usize, i: usize) -> bool
     ensures { result ≡ any (λ k. awaits k (get_or (rows_of m.now).threads i no_thread))
         (take n (members_of (rows_of m.now))) }
 {
-    let s = rows::state_at(m, i);
-    match s {
-        State::Running => false,
-        State::Ready => false,
-        State::Receiving(_) => false,
-        State::Clock => false,
-        State::Device(_) => false,
-        State::Trapped(k) => {
-            let g = rows::manager_at(m, i, k);
-            is_managed(marks, n, g)
-        }
+    let t = records::record(m, i);
+    if let State::Trapped(k) = t.state() {
+        is_managed(marks, n, t.manager(k))
+    } else {
+        false
     }
 }
 
@@ -125,14 +112,8 @@ fn joins(m: &[u32], marks: &[u8; 256], n: usize, i: usize) -> bool
     ensures { result ≡ (depends_of (take n (members_of (rows_of m.now))) (get_or (rows_of m.now).threads i no_thread)
         && not (has_in (get_or (rows_of m.now).threads i no_thread).name (take n (members_of (rows_of m.now))))) }
 {
-    if has(marks, n, rows::name_at(m, i)) {
-        return false;
-    }
-    let p = rows::parent_at(m, i);
-    if is_child(marks, n, p) {
-        return true;
-    }
-    is_trapped_on(m, marks, n, i)
+    let t = records::record(m, i);
+    !has(marks, n, t.name()) && (is_child(marks, n, t.parent()) || is_trapped_on(m, marks, n, i))
 }
 
 // A round: those join that depend on who was in the set when it began.
@@ -145,17 +126,13 @@ pub fn grow(m: &mut [u32], marks: &mut [u8; 256])
         (grow_of (view (rows_of m.old)).threads (members_of (rows_of m.old)))
         × Marks (members_of (rows_of m.new)) marks.new }
 {
-    let n = rows::count(m);
     let e = rows::ends(m);
-    let mut i = 0;
-    while i < n {
-        if joins(m, marks, e, i) {
-            let name = rows::name_at(m, i);
-            add(m, marks, name);
-            i += 1;
-        } else {
-            i += 1;
+    for i in 0..rows::count(m) {
+        if !joins(m, marks, e, i) {
+            continue;
         }
+        let name = records::record(m, i).name();
+        add(m, marks, name);
     }
 }
 
@@ -174,8 +151,7 @@ fn lose(m: &mut [u32], marks: &[u8; 256], i: usize, k: TrapKind)
         (rows_of m.old) }
 {
     let n = rows::ends(m);
-    let g = rows::manager_at(m, i, k);
-    if is_managed(marks, n, g) {
+    if is_managed(marks, n, records::record(m, i).manager(k)) {
         rows::set_manager(m, i, k, Manager::Gone);
     }
 }
@@ -194,34 +170,12 @@ pub fn lose_managers(m: &mut [u32], marks: &[u8; 256], i: usize)
     lose(m, marks, i, TrapKind::SysBp);
 }
 
-// Is the message at a place to a member, or from one?
-pub fn names_member(m: &[u32], marks: &[u8; 256], i: usize) -> bool
-    requires { Roomy (rows_of m.now) × ((rows_of m.now).ends ≤ (rows_of m.now).limits.threads)
-        × (i < (rows_of m.now).limits.threads + (rows_of m.now).limits.blocks) × Marks (members_of (rows_of m.now)) marks.now }
-    ensures { result ≡ (has_in (get_or (rows_of m.now).messages i no_message).to (members_of (rows_of m.now))
-        || has_in (get_or (rows_of m.now).messages i no_message).from (members_of (rows_of m.now))) }
-{
-    if is_member(m, marks, rows::receiver_at(m, i)) {
-        return true;
-    }
-    is_member(m, marks, rows::sender_at(m, i))
-}
-
 // Does it receive from a member alone?
+#[tactic(auto, unfolding(rules::specs::Ending::misses))]
 pub fn misses(m: &[u32], marks: &[u8; 256], s: State) -> bool
     requires { Roomy (rows_of m.now) × ((rows_of m.now).ends ≤ (rows_of m.now).limits.threads)
         × Marks (members_of (rows_of m.now)) marks.now }
     ensures { result ≡ Misses_of (members_of (rows_of m.now)) s }
 {
-    match s {
-        State::Running => false,
-        State::Ready => false,
-        State::Receiving(w) => match w {
-            Wanted::Anybody => false,
-            Wanted::Only(name) => is_member(m, marks, name),
-        },
-        State::Clock => false,
-        State::Device(_) => false,
-        State::Trapped(_) => false,
-    }
+    matches!(s, State::Receiving(Wanted::Only(name)) if is_member(m, marks, name))
 }

@@ -6,6 +6,7 @@ ghost use Rattle.rules.specs.Receive.{wanted_by};
 ghost use Rattle.memory.specs.Rows.{view, Roomy, MessagesAre, place, no_message};
 ghost use Rattle.memory.specs.Memory.{rows_of};
 
+use crate::row::{self, MessageRow};
 use memory::{memory as rows, records};
 use rules::{Message, Wanted};
 use words::states;
@@ -37,14 +38,7 @@ pub fn open_gap(m: &mut [u32], at: usize, x: Message)
     ensures { MessagesAre (rows_of m.old) (rows_of m.new) (take at (view (rows_of m.old)).messages
         ++ x ∷ drop at (view (rows_of m.old)).messages) }
 {
-    let n = rows::letters(m);
-    let mut i = n;
-    while at < i {
-        rows::move_message(m, i - 1, i);
-        i -= 1;
-    }
-    rows::put_message(m, at, x);
-    rows::set_letters(m, n + 1);
+    row::open_gap::<MessageRow>(m, at, x);
 }
 
 // The message at a place goes.
@@ -54,25 +48,7 @@ pub fn close_gap(m: &mut [u32], at: usize)
     ensures { MessagesAre (rows_of m.old) (rows_of m.new) (take at (view (rows_of m.old)).messages
         ++ drop (at + 1) (view (rows_of m.old)).messages) }
 {
-    let last = rows::letters(m) - 1;
-    let mut i = at;
-    while i < last {
-        rows::move_message(m, i + 1, i);
-        i += 1;
-    }
-    rows::set_letters(m, last);
-}
-
-fn is_notice_of(m: &[u32], i: usize, name: u8) -> bool
-    requires { Roomy (rows_of m.now) × (i < (rows_of m.now).limits.threads + (rows_of m.now).limits.blocks) }
-    ensures { result ≡ notice_of name (get_or (rows_of m.now).messages i no_message) }
-{
-    let k = rows::kind_at(m, i);
-    if states::is_ordinary(k) {
-        false
-    } else {
-        rows::sender_at(m, i) == name
-    }
+    row::close_gap::<MessageRow>(m, at);
 }
 
 // The notice of a thread goes.
@@ -82,19 +58,7 @@ pub fn drop_notice(m: &mut [u32], name: u8)
     ensures { MessagesAre (rows_of m.old) (rows_of m.new)
         (keep (λ x. not (notice_of name x)) (view (rows_of m.old)).messages) }
 {
-    let n = rows::letters(m);
-    let mut k = 0;
-    let mut i = 0;
-    while i < n {
-        if is_notice_of(m, i, name) {
-            i += 1;
-        } else {
-            rows::move_message(m, i, k);
-            k += 1;
-            i += 1;
-        }
-    }
-    rows::set_letters(m, k);
+    row::sift::<MessageRow, _>(m, |x| !states::is_ordinary(x.kind) && x.from == name);
 }
 
 // How many ordinary messages there are: the blocks in use.

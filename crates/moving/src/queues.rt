@@ -3,6 +3,7 @@ ghost use Rattle.std.specs.Prelude.{List, [], ◌∷◌, ◌++◌, ◌+◌, ◌<
 ghost use Rattle.memory.specs.Rows.{view, Roomy, ReadyIs, ClockIs};
 ghost use Rattle.memory.specs.Memory.{rows_of};
 
+use crate::row::{self, ClockRow, ReadyRow};
 use memory::memory as rows;
 
 // A name joins the tail of the ready queue.
@@ -11,9 +12,7 @@ pub fn join_ready(m: &mut [u32], name: u8)
     ensures { ReadyIs (rows_of m.old) (rows_of m.new) ((view (rows_of m.old)).ready
         ++ (name ∷ [])) }
 {
-    let n = rows::readies(m);
-    rows::put_ready(m, n, name);
-    rows::set_readies(m, n + 1);
+    row::join::<ReadyRow>(m, name);
 }
 
 // The front of the ready queue goes.
@@ -22,13 +21,7 @@ pub fn drop_front(m: &mut [u32])
         × ((rows_of m.old).readies ≤ (rows_of m.old).limits.threads) }
     ensures { ReadyIs (rows_of m.old) (rows_of m.new) (drop 1 (view (rows_of m.old)).ready) }
 {
-    let last = rows::readies(m) - 1;
-    let mut i = 0;
-    while i < last {
-        rows::move_ready(m, i + 1, i);
-        i += 1;
-    }
-    rows::set_readies(m, last);
+    row::close_gap::<ReadyRow>(m, 0);
 }
 
 // All who wait for the clock join the ready queue, in order of waiting.
@@ -37,12 +30,9 @@ pub fn clock_joins_ready(m: &mut [u32])
     ensures { ReadyIs (rows_of m.old) (rows_of m.new) ((view (rows_of m.old)).ready
         ++ (view (rows_of m.old)).clock) }
 {
-    let n = rows::clocks(m);
-    let mut i = 0;
-    while i < n {
+    for i in 0..rows::clocks(m) {
         let x = rows::clock_at(m, i);
         join_ready(m, x);
-        i += 1;
     }
 }
 
@@ -52,7 +42,5 @@ pub fn join_clock(m: &mut [u32], name: u8)
     ensures { ClockIs (rows_of m.old) (rows_of m.new) ((view (rows_of m.old)).clock
         ++ (name ∷ [])) }
 {
-    let n = rows::clocks(m);
-    rows::put_clock(m, n, name);
-    rows::set_clocks(m, n + 1);
+    row::join::<ClockRow>(m, name);
 }

@@ -9,6 +9,7 @@ ghost use Rattle.rules.specs.declared.Answer.TheVariants.{Result as ResultIs};
 ghost use Rattle.memory.specs.Rows.{view, Roomy, ThreadsAre, ThreadsLeft, place, no_thread};
 ghost use Rattle.memory.specs.Memory.{rows_of};
 
+use crate::row::{self, ThreadRow};
 use memory::{memory as rows, records};
 use rules::{Answer, State, Thread};
 
@@ -32,15 +33,11 @@ pub fn wake_clock(m: &mut [u32], beats: u32)
         (map (λ t. if on_clock t.state then in_state ReadyState (ResultIs beats) t else t)
         (view (rows_of m.old)).threads) }
 {
-    let n = rows::count(m);
-    let mut i = 0;
-    while i < n {
-        if rows::on_clock_at(m, i) {
-            rows::turn(m, i, State::Ready, Answer::Result(beats));
-            i += 1;
-        } else {
-            i += 1;
+    for i in 0..rows::count(m) {
+        if !records::record(m, i).on_clock() {
+            continue;
         }
+        rows::turn(m, i, State::Ready, Answer::Result(beats));
     }
 }
 
@@ -89,12 +86,5 @@ pub fn open_gap(m: &mut [u32], at: usize, t: Thread)
     ensures { ThreadsLeft (rows_of m.old) (rows_of m.new) (take at (view (rows_of m.old)).threads
         ++ t ∷ drop at (view (rows_of m.old)).threads) }
 {
-    let n = rows::count(m);
-    let mut i = n;
-    while at < i {
-        rows::move_thread(m, i - 1, i);
-        i -= 1;
-    }
-    rows::put_thread(m, at, t);
-    rows::set_count(m, n + 1);
+    row::open_gap::<ThreadRow>(m, at, t);
 }

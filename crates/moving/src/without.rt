@@ -1,5 +1,5 @@
 // The rows without the members of the ended set: what is left moves up, in order.
-ghost use Rattle.std.specs.Prelude.{◌≡◌, not, ◌||◌, ◌++◌, map, ◌+◌, ◌≤◌, if◌then◌else◌};
+ghost use Rattle.std.specs.Prelude.{◌≡◌, not, ℕ, List, take, ◌||◌, ◌++◌, map, ◌+◌, ◌≤◌, if◌then◌else◌};
 ghost use Rattle.rules.specs.Lists.{has as has_in, keep, count as count_of};
 ghost use Rattle.rules.specs.Tables.{in_state};
 ghost use Rattle.rules.specs.Ending.{without_managers, misses as Misses_of, told_gone as told_gone_of};
@@ -7,10 +7,12 @@ ghost use Rattle.rules.specs.declared.State.TheVariants.{Ready as ReadyState};
 ghost use Rattle.memory.specs.Rows.{view, Roomy, members as members_of, ThreadsLeft, ReadyIs, ClockIs, MessagesAre, Woken};
 ghost use Rattle.memory.specs.Memory.{rows_of};
 ghost use Rattle.moving.specs.Marks.{Marks};
+ghost use Rattle.moving.specs.Row.{RowIs, entries};
 
+use crate::row::{self, ClockRow, MessageRow, ReadyRow, Row};
 use crate::{members, queues};
-use memory::memory as rows;
-use rules::{Answer, State, Wanted};
+use memory::{memory as rows, records};
+use rules::{Answer, Message, State, Wanted};
 
 // Threads: the members go, and no manager entry names one. A record is changed before it is moved: what is read behind a move waits for
 // its stores.
@@ -21,20 +23,31 @@ pub fn threads(m: &mut [u32], marks: &[u8; 256])
         (map (without_managers (members_of (rows_of m.old)))
         (keep (λ t. not (has_in t.name (members_of (rows_of m.old)))) (view (rows_of m.old)).threads)) }
 {
-    let n = rows::count(m);
     let mut k = 0;
-    let mut i = 0;
-    while i < n {
-        if members::is_member(m, marks, rows::name_at(m, i)) {
-            i += 1;
-        } else {
-            members::lose_managers(m, marks, i);
-            rows::move_thread(m, i, k);
-            k += 1;
-            i += 1;
+    for i in 0..rows::count(m) {
+        if members::is_member(m, marks, records::record(m, i).name()) {
+            continue;
         }
+        members::lose_managers(m, marks, i);
+        rows::move_thread(m, i, k);
+        k += 1;
     }
     rows::set_count(m, k);
+}
+
+// The names of a queue.
+fn names<R: Row<Entry = u8>>(m: &mut [u32], marks: &[u8; 256])
+    requires { Roomy (rows_of m.old) × ((rows_of m.old).ends ≤ (rows_of m.old).limits.threads)
+        × (R.Row.row.count (rows_of m.old) ≤ R.Row.row.limit (rows_of m.old).limits) × Marks (members_of (rows_of m.old)) marks.now }
+    ensures { RowIs R.Row.row (rows_of m.old) (rows_of m.new)
+        (keep (λ x. not (has_in x (members_of (rows_of m.old)))) (entries R.Row.row (rows_of m.old))) }
+{
+    let n = rows::ends(m);
+    let goes = |x: u8| -> bool
+        requires { n ≤ 255 }
+        ensures { (xs : List ℕ) → Marks xs marks.entry.now → result ≡ has_in x (take n xs) }
+    { members::has(marks, n, x) };
+    row::sift::<R, _>(m, goes);
 }
 
 // The ready queue.
@@ -44,20 +57,7 @@ pub fn ready(m: &mut [u32], marks: &[u8; 256])
     ensures { ReadyIs (rows_of m.old) (rows_of m.new)
         (keep (λ x. not (has_in x (members_of (rows_of m.old)))) (view (rows_of m.old)).ready) }
 {
-    let n = rows::readies(m);
-    let mut k = 0;
-    let mut i = 0;
-    while i < n {
-        let x = rows::ready_at(m, i);
-        if members::is_member(m, marks, x) {
-            i += 1;
-        } else {
-            rows::put_ready(m, k, x);
-            k += 1;
-            i += 1;
-        }
-    }
-    rows::set_readies(m, k);
+    names::<ReadyRow>(m, marks);
 }
 
 // The clock queue.
@@ -67,20 +67,7 @@ pub fn clock(m: &mut [u32], marks: &[u8; 256])
     ensures { ClockIs (rows_of m.old) (rows_of m.new)
         (keep (λ x. not (has_in x (members_of (rows_of m.old)))) (view (rows_of m.old)).clock) }
 {
-    let n = rows::clocks(m);
-    let mut k = 0;
-    let mut i = 0;
-    while i < n {
-        let x = rows::clock_at(m, i);
-        if members::is_member(m, marks, x) {
-            i += 1;
-        } else {
-            rows::put_clock(m, k, x);
-            k += 1;
-            i += 1;
-        }
-    }
-    rows::set_clocks(m, k);
+    names::<ClockRow>(m, marks);
 }
 
 // Messages and notices to or from members.
@@ -92,34 +79,21 @@ pub fn messages(m: &mut [u32], marks: &[u8; 256])
         (keep (λ x. not (has_in x.to (members_of (rows_of m.old))
         || has_in x.from (members_of (rows_of m.old)))) (view (rows_of m.old)).messages) }
 {
-    let n = rows::letters(m);
-    let mut k = 0;
-    let mut i = 0;
-    while i < n {
-        if members::names_member(m, marks, i) {
-            i += 1;
-        } else {
-            rows::move_message(m, i, k);
-            k += 1;
-            i += 1;
-        }
-    }
-    rows::set_letters(m, k);
+    let n = rows::ends(m);
+    let goes = |x: Message| -> bool
+        requires { n ≤ 255 }
+        ensures { (xs : List ℕ) → Marks xs marks.entry.now → result ≡ (has_in x.to (take n xs) || has_in x.from (take n xs)) }
+    { members::has(marks, n, x.to) || members::has(marks, n, x.from) };
+    row::sift::<MessageRow, _>(m, goes);
 }
 
+#[tactic(auto, unfolding(rules::specs::Ending::told_gone))]
 fn told_gone(s: State) -> Answer
     ensures { result ≡ told_gone_of s }
 {
     match s {
-        State::Running => Answer::Nothing,
-        State::Ready => Answer::Nothing,
-        State::Receiving(w) => match w {
-            Wanted::Anybody => Answer::Nothing,
-            Wanted::Only(n) => Answer::SenderGone(n),
-        },
-        State::Clock => Answer::Nothing,
-        State::Device(_) => Answer::Nothing,
-        State::Trapped(_) => Answer::Nothing,
+        State::Receiving(Wanted::Only(n)) => Answer::SenderGone(n),
+        _ => Answer::Nothing,
     }
 }
 
@@ -135,18 +109,15 @@ pub fn receivers(m: &mut [u32], marks: &[u8; 256])
         ++ map (λ t. t.name) (keep (λ t. Misses_of (members_of (rows_of m.old)) t.state)
         (view (rows_of m.old)).threads)) }
 {
-    let n = rows::count(m);
-    let mut i = 0;
-    while i < n {
-        let s = rows::state_at(m, i);
-        if members::misses(m, marks, s) {
-            let name = rows::name_at(m, i);
-            let a = told_gone(s);
-            rows::turn(m, i, State::Ready, a);
-            queues::join_ready(m, name);
-            i += 1;
-        } else {
-            i += 1;
+    for i in 0..rows::count(m) {
+        let t = records::record(m, i);
+        let s = t.state();
+        if !members::misses(m, marks, s) {
+            continue;
         }
+        let name = t.name();
+        let a = told_gone(s);
+        rows::turn(m, i, State::Ready, a);
+        queues::join_ready(m, name);
     }
 }

@@ -1,4 +1,3 @@
-pub mod Moving
 pub mod Streams
 pub mod Turning
 pub mod Whole

@@ -11,7 +11,8 @@ use lib.ListN.{length, take, drop, length-append, length-drop}
 use lib.Seq.{take_at, drop_at, drop-drop}
 use borrow.Author.Tests.{lt-ltb, eq-eqb}
 use borrow.Rule.Slice.PartMut.{same_len_mid}
-use Rattle.rules.specs.Numbers.{Limits, small}
+use Rattle.rules.specs.Numbers.{small}
+use Rattle.laws.specs.Words.{Limits}
 use Rattle.rules.specs.Tables.{Tables}
 use Rattle.rules.specs.Step.{step}
 use Rattle.rules.specs.Runs.{Input, run}

@@ -1,34 +1,37 @@
 -- The window over the input.
-use Rattle.std.specs.Prelude.{ℕ, zero, suc, ◌+◌, ◌-◌, ◌≤◌, min, Bool, true, false, ◌≡◌, List, ℤ, pos, negsuc, length, take, drop}
+use Rattle.std.specs.Prelude.{ℕ, zero, suc, ◌+◌, ◌-◌, ◌≤◌, Bool, true, false, ◌≡◌, Option, Some, None, unwrap_or, List, length, take, drop}
 use Rattle.printing.specs.declared.Span.{Span}
+use Rattle.printing.specs.declared.Reading.{Reading}
+use Rattle.printing.specs.declared.Reading.TheVariants.{Open, Ended, Failed}
 
 -- what has been read and is not served yet
 abbrev pub waiting : Span → List ℕ → List ℕ
 waiting w buffer = take (w.held - w.at) (drop w.at buffer)
 
--- what a read that is handed n bytes may answer: -1, or how many bytes it moved, at most n
-abbrev pub MayAnswer : ℕ → ℤ → Type 0
-MayAnswer n (pos k) = k ≤ n
-MayAnswer n (negsuc k) = k ≡ 0
+-- what a read that is handed n bytes may answer: how many bytes it moved, at most n, or nothing where it failed
+abbrev pub MayAnswer : ℕ → Option ℕ → Type 0
+MayAnswer n (Some k) = k ≤ n
+MayAnswer n None = Unit {0}
 
--- what a read answered, brought into `0..=most`
-abbrev pub clamp_len : ℤ → ℕ → ℕ
-clamp_len (pos k) most = min k most
-clamp_len (negsuc k) most = 0
+-- how many bytes it moved
+abbrev pub moved : Option ℕ → ℕ
+moved got = unwrap_or got 0
 
--- a read that answers 0 is at the end of the input, one that answers below 0 has failed
-abbrev pub is_end : ℤ → Bool
-is_end (pos zero) = true
-is_end (pos (suc n)) = false
-is_end (negsuc n) = false
+-- a read that moves none is at the end of the input
+abbrev pub told : Option ℕ → Reading
+told None = Failed
+told (Some zero) = Ended
+told (Some (suc k)) = Open
 
-abbrev pub is_failure : ℤ → Bool
-is_failure (pos n) = false
-is_failure (negsuc n) = true
+-- nothing comes behind what was read
+abbrev pub is_ended : Reading → Bool
+is_ended Open = false
+is_ended Ended = true
+is_ended Failed = false
 
--- the window after a read: `left` bytes stood at the front, it answered `got`, and put n bytes behind them
-abbrev pub heard : ℕ → ℕ → ℤ → Span
-heard left n got = record { at = 0; held = left + n; ended = is_end got; failed = is_failure got }
+-- the window after a read behind the first `left` bytes
+abbrev pub heard : ℕ → Option ℕ → Span
+heard left got = record { at = 0; held = left + moved got; reading = told got }
 
 -- the bytes that waited stand at the front, n of them
 pub record Settled (w : Span) (before after : List ℕ) (n : ℕ) : Type 0 where
@@ -41,6 +44,6 @@ pub record Settled (w : Span) (before after : List ℕ) (n : ℕ) : Type 0 where
 pub record Refilled (w : Span) (before : List ℕ) (v : Span) (after : List ℕ) : Type 0 where
   pub size : length after ≡ length before
   pub front : take (w.held - w.at) after ≡ waiting w before
-  pub got : ℤ
+  pub got : Option ℕ
   pub answers : MayAnswer (length before - (w.held - w.at)) got
-  pub told : v ≡ heard (w.held - w.at) (clamp_len got (length before - (w.held - w.at))) got
+  pub told : v ≡ heard (w.held - w.at) got

@@ -12,11 +12,18 @@ pub struct Turned {
     pub filled: usize,
 }
 
-// The bytes of a buffer from `at` up to `held` wait to be served. `ended`: nothing comes behind them. `failed`: the last read failed.
+// What the last read told of the input.
+#[derive(Clone, Copy, PartialEq, Eq)]
+pub enum Reading {
+    Open,
+    Ended,
+    Failed,
+}
+
+// The bytes of a buffer from `at` up to `held` wait to be served, and so stands the input behind them.
 #[derive(Clone, Copy)]
 pub struct Span {
     pub at: usize,
     pub held: usize,
-    pub ended: bool,
-    pub failed: bool,
+    pub reading: Reading,
 }

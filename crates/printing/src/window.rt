@@ -1,49 +1,43 @@
 // A window over the input: what has been read and is not served yet. The input streams through one buffer.
 ghost use Rattle.std.specs.Prelude.{◌≡◌, ◌+◌, ◌<◌, ◌≤◌, length};
-ghost use Rattle.printing.specs.Input.{Settled, Refilled, heard as heard_of};
+ghost use Rattle.printing.specs.Input.{Settled, Refilled, moved, heard as heard_of};
 
-use crate::Span;
+use crate::{Reading, Span};
 use std::io::Read;
 
-// What waits moves to the front of the buffer, if it does not stand there. The answer: how many bytes that is.
-fn settle(buf: &mut [u8], w: Span) -> usize
-    requires { (w.at ≤ w.held) × (w.held ≤ length buf.old) }
-    ensures { Settled w buf.old buf.new result }
-{
-    let at = w.at;
-    let n = w.held - at;
-    if at == 0 {
-        return n;
-    }
-    let mut i = 0;
-    while i < n {
-        buf[i] = buf[at + i];
-        i += 1;
-    }
-    n
-}
-
-// The window after a read that answered `got` and put n bytes behind the first `left`.
-fn heard(left: usize, n: usize, got: isize) -> Span
-    requires { left + n < 18446744073709551616 }
-    ensures { result ≡ heard_of left n got }
+// The window after a read behind the first `left` bytes: how many it put there, or none where it failed.
+fn heard(left: usize, got: Option<usize>) -> Span
+    requires { left + moved got < 18446744073709551616 }
+    ensures { result ≡ heard_of left got }
 {
     Span {
         at: 0,
-        held: left + n,
-        ended: got == 0,
-        failed: got < 0,
+        held: left + got.unwrap_or(0),
+        reading: match got {
+            None => Reading::Failed,
+            Some(0) => Reading::Ended,
+            Some(_) => Reading::Open,
+        },
     }
 }
 
-// What comes next is read behind what waits. What the read answers is handed on as it is: no contract can say it.
-pub fn refill<R: Read>(reader: &mut R, buf: &mut [u8], w: Span) -> Span
-    requires { (w.at ≤ w.held) × (w.held ≤ length buf.old) }
-    ensures { Refilled w buf.old result buf.new }
-{
-    let left = settle(buf, w);
-    match reader.read(&mut buf[left..]) {
-        Ok(n) => heard(left, n, n as isize),
-        Err(_) => heard(left, 0, -1),
+impl Span {
+    // What waits moves to the front of the buffer. The answer: how many bytes that is.
+    fn settle(self, buf: &mut [u8]) -> usize
+        requires { (self.at ≤ self.held) × (self.held ≤ length buf.old) }
+        ensures { Settled self buf.old buf.new result }
+    {
+        let n = self.held - self.at;
+        buf.copy_within(self.at..self.held, 0);
+        n
+    }
+
+    // What comes next is read behind what waits. What the read answers is handed on as it is: no contract can say it.
+    pub fn refill<R: Read>(self, reader: &mut R, buf: &mut [u8]) -> Span
+        requires { (self.at ≤ self.held) × (self.held ≤ length buf.old) }
+        ensures { Refilled self buf.old result buf.new }
+    {
+        let left = self.settle(buf);
+        heard(left, reader.read(&mut buf[left..]).ok())
     }
 }

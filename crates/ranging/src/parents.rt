@@ -17,8 +17,8 @@ fn above(at: &[u8; 256], n: usize, i: usize, name: u8, p: Parent) -> usize
     ensures { (ts : List ThreadIs) → Indexed ts at.now → length ts ≡ n → result ≡ above_of ts i name p }
 {
     match p {
-        Parent::NoParent => { if name == 0 { n } else { i } }
-        Parent::ParentIs(m) => {
+        None => { if name == 0 { n } else { i } }
+        Some(m) => {
             if name == 0 {
                 return i;
             }

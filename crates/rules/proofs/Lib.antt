@@ -1,5 +1,4 @@
 -- The laws that belong to no one function of the crate.
 pub mod Bits
 pub mod Masks
-pub mod Table
 pub mod Runners

@@ -1,10 +1,7 @@
 -- The numbers of document 01 ("Numbers") and of document 02, each once.
 use Rattle.std.specs.Prelude.{ℕ}
-
 -- "threads, ordinary message blocks: 20 each". The rules are stated over the limits.
-pub record Limits : Type 0 where
-  pub threads : ℕ
-  pub blocks : ℕ
+pub use Rattle.rules.specs.declared.numbers.Limits.{Limits}
 
 abbrev pub small : Limits
 small = record { threads = 20; blocks = 20 }

@@ -1,9 +1,10 @@
 -- The one table of document 01 that step and program share: "Event tags", and the services with their argument rules. Then the fields of
 -- a dump. Every tag and every length of a field stands here once.
-use Rattle.std.specs.Prelude.{ℕ, suc, Bool, true, false, List, [], ◌∷◌, ltb, if◌then◌else◌, ◌==◌}
+use Rattle.std.specs.declared.option.Option.{Option}
+use Rattle.std.specs.Prelude.{Some, None, ℕ, suc, Bool, true, false, List, [], ◌∷◌, ltb, if◌then◌else◌, ◌==◌}
 use Rattle.rules.specs.Numbers.{devices, nobody}
 use Rattle.rules.specs.Words.{Program, Tlb, SysBp, Target, Oneself, Named, Call, CreateBrother, CreateSon, Terminate, SetManager}
-use Rattle.rules.specs.Words.{GetCpuTime, WaitForClock, WaitForIo, TagFacts, DumpFacts, Argument, NoService, Zero, AnyName, ADevice}
+use Rattle.rules.specs.Words.{GetCpuTime, WaitForClock, WaitForIo, EventField, DumpField, Argument, NoService, Zero, AnyName, ADevice}
 
 -- ---- events
 
@@ -44,6 +45,11 @@ rows =
     ∷ []
 
 -- what the table says of a tag: that it is known, its length, its need of a runner
+pub record TagFacts : Type 0 where
+  pub known : Bool
+  pub length : ℕ
+  pub runner : Bool
+
 unfoldable pub facts_in : List Row → ℕ → TagFacts
 facts_in [] n = record { known = false; length = 0; runner = false }
 facts_in (r ∷ rs) n = let later =
@@ -52,6 +58,10 @@ facts_in (r ∷ rs) n = let later =
 -- "These facts stand in one table that step and program share"
 unfoldable pub tag_facts : ℕ → TagFacts
 tag_facts n = facts_in rows n
+
+-- the same as the code has it: nothing of a tag that is not known
+unfoldable pub event_field : TagFacts → Option EventField
+event_field f = if f.known then Some (record { length = f.length; runner = f.runner }) else None
 
 -- ---- services
 
@@ -154,6 +164,14 @@ dump_rows =
     ∷ record { tag = held_tag; sized = true; length = held_size; once = false }
     ∷ []
 
+-- what the table says of a field's tag: that it is known, the field's place, whether its length is fixed, the length, whether it stands once
+pub record DumpFacts : Type 0 where
+  pub known : Bool
+  pub place : ℕ
+  pub sized : Bool
+  pub length : ℕ
+  pub once : Bool
+
 -- what the rows from a place on say of a tag; one that is not among them has its place behind them all
 unfoldable pub dump_facts_in : ℕ → List DumpRow → ℕ → DumpFacts
 dump_facts_in place [] n = record { known = false; place = place; sized = false; length = 0; once = false }
@@ -163,3 +181,8 @@ dump_facts_in place (r ∷ rs) n =
 
 unfoldable pub dump_facts : ℕ → DumpFacts
 dump_facts n = dump_facts_in 0 dump_rows n
+
+-- the same as the code has it: nothing of a tag that is not known, and a length where it is fixed
+unfoldable pub dump_field : DumpFacts → Option DumpField
+dump_field f =
+    if f.known then Some (record { place = f.place; length = if f.sized then Some f.length else None; once = f.once }) else None

@@ -1,5 +1,6 @@
 -- The vocabulary of src/lib.rt under one roof, and what can be said of a value by its case.
 use Rattle.std.specs.Prelude.{ℕ}
+use Rattle.std.specs.declared.option.Option.{Option}
 pub use Rattle.rules.specs.declared.Wanted.{Wanted}
 pub use Rattle.rules.specs.declared.Wanted.TheVariants.{Anybody, Only}
 pub use Rattle.rules.specs.declared.TrapKind.{TrapKind}
@@ -11,8 +12,7 @@ pub use Rattle.rules.specs.declared.Answer.TheVariants.{Nothing, FromMessage, Fr
 pub use Rattle.rules.specs.declared.Manager.{Manager}
 pub use Rattle.rules.specs.declared.Manager.TheVariants.{Unset, Set, Gone}
 pub use Rattle.rules.specs.declared.Managers.{Managers}
-pub use Rattle.rules.specs.declared.Parent.{Parent}
-pub use Rattle.rules.specs.declared.Parent.TheVariants.{NoParent, ParentIs}
+pub use Rattle.std.specs.Prelude.{None as NoParent, Some as ParentIs}
 pub use Rattle.rules.specs.declared.Thread.{Thread}
 pub use Rattle.rules.specs.declared.MessageKind.{MessageKind}
 pub use Rattle.rules.specs.declared.MessageKind.TheVariants.{Ordinary, Notice}
@@ -31,11 +31,15 @@ pub use Rattle.rules.specs.declared.Event.{Event}
 pub use Rattle.rules.specs.declared.Event.TheVariants.{Malformed, ByRunner, Tick, Interrupt}
 pub use Rattle.rules.specs.declared.Decision.{Decision}
 pub use Rattle.rules.specs.declared.Picked.{Picked}
-pub use Rattle.rules.specs.declared.TagFacts.{TagFacts}
-pub use Rattle.rules.specs.declared.DumpFacts.{DumpFacts}
+pub use Rattle.rules.specs.declared.EventField.{EventField}
+pub use Rattle.rules.specs.declared.DumpField.{DumpField}
 pub use Rattle.rules.specs.declared.Verdict.{Verdict}
 pub use Rattle.rules.specs.declared.Argument.{Argument}
 pub use Rattle.rules.specs.declared.Argument.TheVariants.{NoService, Zero, AnyName, ADevice}
+
+-- a thread's parent, or none
+abbrev pub Parent : Type 0
+Parent = Option ℕ
 
 module _ {ℓ} {A : Type ℓ} where
   -- of a receiver what `from` says, of one that waits for a device what `at` says, of a trapped one what `on` says, of others x

@@ -1,6 +1,6 @@
 // The vocabulary of document 01, as types. The rules in specs/ speak of lists of these very types.
 // The document's numbers for the cases stand in specs/Codes.antt.
-#![tactic(auto, unfolding(crate::specs::Refused::refusal_number, crate::specs::Refused::refusal_told))]
+#![tactic(auto)]
 
 pub mod codes;
 pub mod numbers;
@@ -8,7 +8,7 @@ pub mod pick;
 pub mod refusal;
 pub mod tags;
 
-// Whom a thread receives from.
+// Whom a thread receives from. No Option: None would read as nobody where the document says anybody.
 #[derive(Clone, Copy, PartialEq, Eq)]
 pub enum Wanted {
     Anybody,
@@ -43,7 +43,7 @@ pub enum Answer {
     Result(u32),
 }
 
-// One of a thread's three manager entries.
+// One of a thread's three manager entries. No Option: it is one of three.
 #[derive(Clone, Copy, PartialEq, Eq)]
 pub enum Manager {
     Unset,
@@ -58,11 +58,8 @@ pub struct Managers {
     pub sysbp: Manager,
 }
 
-#[derive(Clone, Copy, PartialEq, Eq)]
-pub enum Parent {
-    NoParent,
-    ParentIs(u8),
-}
+// A thread's parent, where it has one.
+pub type Parent = Option<u8>;
 
 #[derive(Clone, Copy)]
 pub struct Thread {
@@ -96,7 +93,7 @@ pub struct Held {
     pub word: u32,
 }
 
-// Who runs, with what is left of its slice.
+// Who runs, with what is left of its slice. No Option of a pair: the laws and claims speak of `Runs n s` and `NoRunner`.
 #[derive(Clone, Copy, PartialEq, Eq)]
 pub enum Runner {
     NoRunner,
@@ -111,7 +108,7 @@ pub enum Status {
     Panicked,
 }
 
-// Whom request 3 ends.
+// Whom request 3 ends. No Option: None would read as nobody where the document says oneself.
 #[derive(Clone, Copy, PartialEq, Eq)]
 pub enum Target {
     Oneself,
@@ -142,7 +139,8 @@ pub enum Event {
     Interrupt(u8, u32),
 }
 
-// What a step answers. The status and the runner are the document's numbers, since refusal 11 gives 255 for both.
+// What a step answers. The status and the runner are the document's numbers, since refusal 11 gives 255 for both, and the refusal is
+// one too: the laws and claims speak of decisions by these numbers.
 #[derive(Clone, Copy)]
 pub struct Decision {
     pub refusal: u8,
@@ -151,7 +149,7 @@ pub struct Decision {
     pub answer: Answer,
 }
 
-// What the pick answers.
+// What the pick answers: no Option of a device, since it is laid out as in C, for nucleus_pick.
 #[repr(C)]
 #[derive(Clone, Copy)]
 pub struct Picked {
@@ -159,25 +157,24 @@ pub struct Picked {
     pub device: u8,
 }
 
-// What the table of tags says of a tag.
+// What the table of tags says of a tag: how long its value is, and whether it needs a runner.
 #[derive(Clone, Copy)]
-pub struct TagFacts {
-    pub known: bool,
+pub struct EventField {
     pub length: u16,
     pub runner: bool,
 }
 
-// What the table of a dump's fields says of a tag.
+// What the table of a dump's fields says of a tag: where the field stands, its length where that is fixed, and whether it stands
+// exactly once.
 #[derive(Clone, Copy)]
-pub struct DumpFacts {
-    pub known: bool,
+pub struct DumpField {
     pub place: u8,
-    pub sized: bool,
-    pub length: u8,
+    pub length: Option<u8>,
     pub once: bool,
 }
 
-// What reading a dump answers: the refusal, and the offset of the field at fault. It is laid out as in C, for the entry of crates/board.
+// What reading a dump answers: the refusal, and the offset of the field at fault. No Result: it is laid out as in C, for the entry of
+// crates/board.
 #[repr(C)]
 #[derive(Clone, Copy)]
 pub struct Verdict {

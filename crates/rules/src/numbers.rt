@@ -3,6 +3,18 @@ pub const THREADS: usize = 20;
 
 pub const BLOCKS: usize = 20;
 
+// The limits that a start gives a memory.
+#[derive(Clone, Copy, PartialEq, Eq)]
+pub struct Limits {
+    pub threads: u32,
+    pub blocks: u32,
+}
+
+pub const SMALL: Limits = Limits {
+    threads: THREADS as u32,
+    blocks: BLOCKS as u32,
+};
+
 // What inboxes hold at most: an ordinary message in each block, and a notice of each thread.
 pub const MESSAGES: usize = BLOCKS + THREADS;
 

@@ -28,7 +28,7 @@ fn lowest(class: u64) -> Picked
 {
     Picked {
         refusal: 0,
-        device: u64::trailing_zeros(class) as u8,
+        device: class.trailing_zeros() as u8,
     }
 }
 

@@ -1,4 +1,6 @@
 // Why something is refused: the list of document 01, and document 02's numbers behind it. Number 13 is given no more: 15 to 19 split it.
+#![tactic(auto, unfolding(crate::specs::Refused::refusal_number, crate::specs::Refused::refusal_told))]
+
 ghost use Rattle.std.specs.Prelude.{◌≡◌};
 ghost use Rattle.rules.specs.Refused.{refusal_number, refusal_told};
 

@@ -1,10 +1,13 @@
 // The one table of tags and services that step and program share: value length, need of a runner, argument rule.
-// The proofs test it as a whole against the table of specs/Tags.antt. Then the fields of a dump; what is written and read by these
+// It is proved to be the table of specs/Tags.antt, number by number. Then the fields of a dump; what is written and read by these
 // numbers is proved to be what the rules' numbers give.
-ghost use Rattle.std.specs.Prelude.{◌≡◌};
-ghost use Rattle.rules.specs.Tags.{tag_facts as facts_of, dump_facts as dump_facts_of, argument_rule as rule_of, meets as meets_of};
+#![tactic(auto, unfolding(crate::specs::Tags::facts_in, crate::specs::Tags::tag_facts, crate::specs::Tags::event_field, crate::specs::Tags::dump_facts_in, crate::specs::Tags::dump_facts, crate::specs::Tags::dump_field, crate::specs::Tags::rule_in, crate::specs::Tags::argument_rule, crate::specs::Tags::meets))]
 
-use crate::{Argument, DumpFacts, TagFacts, numbers};
+ghost use Rattle.std.specs.Prelude.{◌≡◌};
+ghost use Rattle.rules.specs.Tags.{event_field, tag_facts as facts_of, dump_field, dump_facts as dump_facts_of, argument_rule as rule_of};
+ghost use Rattle.rules.specs.Tags.{meets as meets_of};
+
+use crate::{Argument, DumpField, EventField, numbers};
 
 pub const SEND: u8 = 16;
 
@@ -18,41 +21,29 @@ pub const TICK: u8 = 20;
 
 const FIRST_TAG: u8 = SEND;
 
-const UNKNOWN: TagFacts = TagFacts {
-    known: false,
-    length: 0,
-    runner: false,
-};
-
 // From FIRST_TAG on: send, receive, request, trap, tick, interrupt.
-const TAGS: [TagFacts; 6] = [
-    TagFacts {
-        known: true,
+const TAGS: [EventField; 6] = [
+    EventField {
         length: 5,
         runner: true,
     },
-    TagFacts {
-        known: true,
+    EventField {
         length: 1,
         runner: true,
     },
-    TagFacts {
-        known: true,
+    EventField {
         length: 2,
         runner: true,
     },
-    TagFacts {
-        known: true,
+    EventField {
         length: 5,
         runner: true,
     },
-    TagFacts {
-        known: true,
+    EventField {
         length: 0,
         runner: false, // time goes on while nobody runs
     },
-    TagFacts {
-        known: true,
+    EventField {
         length: 12,
         runner: false, // and so do devices
     },
@@ -105,94 +96,38 @@ pub const HELD_SIZE: u8 = 5;
 
 pub const HELD_FIELD: usize = BEFORE_VALUE + HELD_SIZE as usize;
 
-pub fn tag_facts(tag: u8) -> TagFacts
-    ensures { result ≡ facts_of tag }
+pub fn tag_facts(tag: u8) -> Option<EventField>
+    ensures { result ≡ event_field (facts_of tag) }
 {
-    if tag < FIRST_TAG {
-        return UNKNOWN;
-    }
-    let row = (tag - FIRST_TAG) as usize;
-    if row < TAGS.len() { TAGS[row] } else { UNKNOWN }
+    TAGS.get(tag.checked_sub(FIRST_TAG)? as usize).copied()
 }
 
-// From HEAD on: head, thread, ready, clock, message, held.
-const DUMP_FIELDS: [DumpFacts; 6] = [
-    DumpFacts {
-        known: true,
-        place: 0,
-        sized: true,
-        length: HEAD_SIZE,
-        once: true,
-    },
-    DumpFacts {
-        known: true,
-        place: 1,
-        sized: true,
-        length: THREAD_SIZE,
-        once: false,
-    },
-    DumpFacts {
-        known: true,
-        place: 2,
-        sized: false,
-        length: 0,
-        once: true,
-    },
-    DumpFacts {
-        known: true,
-        place: 3,
-        sized: false,
-        length: 0,
-        once: true,
-    },
-    DumpFacts {
-        known: true,
-        place: 4,
-        sized: true,
-        length: MESSAGE_SIZE,
-        once: false,
-    },
-    DumpFacts {
-        known: true,
-        place: 5,
-        sized: true,
-        length: HELD_SIZE,
-        once: false,
-    },
-];
-
-// No field of a dump: its place is behind them all.
-const NO_FIELD: DumpFacts = DumpFacts {
-    known: false,
-    place: 6,
-    sized: false,
-    length: 0,
-    once: false,
-};
-
-pub fn dump_facts(tag: u8) -> DumpFacts
-    ensures { result ≡ dump_facts_of tag }
+pub fn dump_facts(tag: u8) -> Option<DumpField>
+    ensures { result ≡ dump_field (dump_facts_of tag) }
 {
-    if tag < HEAD {
-        return NO_FIELD;
-    }
-    let row = (tag - HEAD) as usize;
-    if row < DUMP_FIELDS.len() {
-        DUMP_FIELDS[row]
-    } else {
-        NO_FIELD
-    }
+    let (place, length, once) = match tag {
+        HEAD => (0, Some(HEAD_SIZE), true),
+        THREAD => (1, Some(THREAD_SIZE), false),
+        READY => (2, None, true),
+        CLOCK => (3, None, true),
+        MESSAGE => (4, Some(MESSAGE_SIZE), false),
+        HELD => (5, Some(HELD_SIZE), false),
+        _ => return None,
+    };
+    Some(DumpField {
+        place,
+        length,
+        once,
+    })
 }
 
 pub fn argument_rule(service: u8) -> Argument
     ensures { result ≡ rule_of service }
 {
-    let row = service as usize;
-    if row < RULES.len() {
-        RULES[row]
-    } else {
-        Argument::NoService
-    }
+    RULES
+        .get(service as usize)
+        .copied()
+        .unwrap_or(Argument::NoService)
 }
 
 pub fn meets(rule: Argument, argument: u8) -> bool

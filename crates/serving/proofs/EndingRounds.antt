@@ -7,7 +7,7 @@ use mathlib.Core.List.{List, [], ◌∷◌}
 use native.Mathlib.Omega.{arith}
 use lib.ListN.{length}
 use Rattle.rules.specs.Lists.{has, count, times}
-use Rattle.rules.specs.Numbers.{Limits}
+use Rattle.laws.specs.Words.{Limits}
 use Rattle.rules.specs.Words.{by_wanted}
 use Rattle.rules.specs.Tables.{Tables, live}
 use Rattle.rules.specs.Ending.{grow, ended_set, remove, misses, release, end}

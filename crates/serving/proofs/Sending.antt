@@ -8,7 +8,7 @@ use mathlib.Core.List.{List}
 use native.Mathlib.Omega.{arith}
 use lib.ListN.{length}
 use Rattle.rules.specs.Lists.{Pulled, missing, pulled, pull, keep, count}
-use Rattle.rules.specs.Numbers.{Limits}
+use Rattle.laws.specs.Words.{Limits}
 use Rattle.rules.specs.Words.{by_manager}
 use Rattle.rules.specs.Tables.{Tables, with_messages, named, live, of_thread, change, manager}
 use Rattle.rules.specs.States.{is_running, is_ready, on_clock, trapped_on, awaits}

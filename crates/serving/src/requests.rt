@@ -94,7 +94,7 @@ pub fn create_son(m: &mut [u32], me: u8) -> Answer
     requires { MidEvent m.old × ((limits m.old).threads < names) × (length (tables m.old).threads < (limits m.old).threads) }
     ensures { Hands m.old m.new result (create_son_of me (tables m.old)) }
 {
-    create(m, Parent::ParentIs(me))
+    create(m, Some(me))
 }
 
 pub fn terminate(m: &mut [u32], me: u8, who: Target) -> Answer

@@ -1,5 +1,5 @@
 -- The bytes of one field: the numbers in them, how long each tag's field is, and what the rules say of each exit of the decoder.
-use Rattle.std.proofs.Common.{if◌then◌else◌, ◌==◌}
+use Rattle.std.proofs.Common.{if◌then◌else◌, ◌==◌, Some, None}
 use Prim.Native.Nat.{ℕ, suc, ◌+◌, ◌*◌, ◌≤◌, ◌<◌}
 use mathlib.Core.Path.{◌≡◌, refl, ◌∙◌}
 use mathlib.Core.Logic.{◌≢◌}
@@ -13,9 +13,11 @@ use mir.Val.{Fits}
 use borrow.Author.Tests.{eqb-true, eq-eqb, ne_eqb, lt-ltb}
 use Rattle.rules.specs.Lists.{all, is_byte, number_from, number}
 use Rattle.rules.specs.Numbers.{wrap}
-use Rattle.rules.specs.Tags.{facts_in, tag_facts, rule_in, argument_rule, meets}
+use Rattle.rules.specs.Tags.{facts_in, tag_facts, event_field, rule_in, argument_rule, meets}
 use Rattle.rules.specs.Pick.{pick}
 use Rattle.rules.specs.Events.{wanted, request, trap_of, interrupt_of, meaning, field_of, decode}
+use Rattle.std.specs.declared.option.Option.{Option}
+use Rattle.rules.specs.declared.EventField.{EventField}
 use Rattle.laws.specs.Words.{Send, Receive, Event, Malformed, ByRunner, Tick, TagFacts, NoService, ADevice}
 use Rattle.laws.proofs.Tests.{by_if, ◌&◌}
 use Rattle.laws.proofs.Bytes.{first_four}
@@ -132,27 +134,48 @@ long_field (a ∷ []) h = absurd (omega arith)
 long_field (a ∷ b ∷ []) h = absurd (omega arith)
 long_field (a ∷ b ∷ c ∷ l) h = refl
 
-read : (l : List ℕ) → ((i : ℕ) → Fits w8 (get_or l i 0)) → 3 ≤ length l → (f : TagFacts) → f ≡ tag_facts (get_or l 0 0) → decode l ≡ judged f l
+read : (l : List ℕ) → ((i : ℕ) → Fits w8 (get_or l i 0)) → 3 ≤ length l → decode l ≡ judged (tag_facts (get_or l 0 0)) l
 unfolding decode
-read l bytes long f says = rw (all_bytes l bytes, says) (long_field l long)
+read l bytes long = rw (all_bytes l bytes) (long_field l long)
 
-pub unknown : (l : List ℕ) → ((i : ℕ) → Fits w8 (get_or l i 0)) → 3 ≤ length l → (f : TagFacts) → f ≡ tag_facts (get_or l 0 0) →
-    f.known ≡ false → decode l ≡ Malformed
+abbrev row : Bool → TagFacts → Option EventField
+row b t = if b then Some (record { length = t.length; runner = t.runner }) else None
+
+not_known : (t : TagFacts) → event_field t ≡ None → t.known ≡ false
+unfolding event_field
+not_known t e = go t.known e
+  where
+    go : (b : Bool) → row b t ≡ None → b ≡ false
+    go true e = cc
+    go false e = refl
+
+as_known : (t : TagFacts) (f : EventField) → event_field t ≡ Some f → (t.known ≡ true) × (t.length ≡ f.length)
+unfolding event_field
+as_known t f e = go t.known e
+  where
+    go : (b : Bool) → row b t ≡ Some f → (b ≡ true) × (t.length ≡ f.length)
+    go true e = (refl, cc)
+    go false e = cc
+
+pub unknown : (l : List ℕ) → ((i : ℕ) → Fits w8 (get_or l i 0)) → 3 ≤ length l → event_field (tag_facts (get_or l 0 0)) ≡ None →
+    decode l ≡ Malformed
 unfolding judged
-unknown l bytes long f says k = read l bytes long f says ∙ rw k
+unknown l bytes long says = read l bytes long ∙ rw (not_known _ says)
 
 -- what is known of a slice once the facts of its tag and the length that it gives are read
-pub record Head (l : List ℕ) (f : TagFacts) (n : ℕ) : Type 0 where
+pub record Head (l : List ℕ) (f : EventField) (n : ℕ) : Type 0 where
   pub bytes : (i : ℕ) → Fits w8 (get_or l i 0)
   pub long : 3 ≤ length l
-  pub says : f ≡ tag_facts (get_or l 0 0)
-  pub known : f.known ≡ true
+  pub says : event_field (tag_facts (get_or l 0 0)) ≡ Some f
   pub gives : n ≡ get_or l 1 0 * 256 + get_or l 2 0
 
-module _ {l : List ℕ} {f : TagFacts} {n : ℕ} (h : Head l f n) where
+module _ {l : List ℕ} {f : EventField} {n : ℕ} (h : Head l f n) where
+  pub known : ((tag_facts (get_or l 0 0)).known ≡ true) × ((tag_facts (get_or l 0 0)).length ≡ f.length)
+  known = as_known (tag_facts (get_or l 0 0)) f h.says
+
   told : decode l ≡ (if n == f.length && length (drop 3 l) == n then meaning (get_or l 0 0) (drop 3 l) else Malformed)
   unfolding judged
-  told = read l h.bytes h.long f h.says ∙ rw (h.known, h.gives)
+  told = read l h.bytes h.long ∙ rw (known.0, known.1, h.gives)
 
   pub wrong_length : n ≢ f.length → decode l ≡ Malformed
   wrong_length r = told ∙ rw (ne_eqb n f.length r)

@@ -9,7 +9,8 @@ use lib.Dec.{ltb}
 use lib.ListN.{length}
 use borrow.Author.Tests.{leb-false}
 use Rattle.rules.specs.Lists.{any, insert}
-use Rattle.rules.specs.Numbers.{Limits, devices, full_slice}
+use Rattle.rules.specs.Numbers.{devices, full_slice}
+use Rattle.laws.specs.Words.{Limits}
 use Rattle.rules.specs.Tables.{Tables, with_runner, with_threads, live, new_thread, me, start}
 use Rattle.rules.specs.Waking.{Outcome, ◌handing◌, blocks_used, accepts}
 use Rattle.rules.specs.Send.{message, decides}

@@ -7,7 +7,7 @@ ghost use Rattle.rules.specs.Events.{request as request_of, trap_of as trap_for,
 ghost use Rattle.rules.specs.Events.{decode as decode_of};
 ghost use Rattle.rules.specs.Tags.{target as target_of, tag_facts as facts_of, meets as meets_of, argument_rule as rule_of};
 
-use rules::{Call, Event, Target, TrapKind, codes, numbers, pick, tags};
+use rules::{Call, Event, Target, TrapKind, Wanted, numbers, pick, tags};
 
 fn target(n: u8) -> Target
     ensures { result ≡ target_of n }
@@ -104,7 +104,7 @@ fn meaning(tag: u8, s: &[u8]) -> Event
 {
     match tag {
         tags::SEND => Event::ByRunner(Call::Send(s[3], word_at(s, 4))),
-        tags::RECEIVE => Event::ByRunner(Call::Receive(codes::wanted(s[3]))),
+        tags::RECEIVE => Event::ByRunner(Call::Receive(Wanted::from(s[3]))),
         tags::REQUEST => asked(s[3], s[4]),
         tags::TRAP => trap(s[3], word_at(s, 4)),
         tags::TICK => Event::Tick,
@@ -120,10 +120,9 @@ pub fn decode(s: &[u8]) -> Event
         return Event::Malformed;
     }
     let tag = s[0];
-    let f = tags::tag_facts(tag);
-    if !f.known {
+    let Some(f) = tags::tag_facts(tag) else {
         return Event::Malformed;
-    }
+    };
     let length = (wide(s[1]) * 256 + wide(s[2])) as usize;
     if length != f.length as usize {
         return Event::Malformed;

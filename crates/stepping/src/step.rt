@@ -12,7 +12,7 @@ ghost use Rattle.stepping.specs.Stepping.{Steps, event_of, Asks};
 use crate::refusals::Accepted;
 use crate::{decode, refusals};
 use handling::{dispatch, interrupt, tick};
-use rules::{Answer, Call, Decision, codes};
+use rules::{Answer, Call, Decision};
 use serving::{receive, requests, send, trap};
 use store;
 
@@ -62,9 +62,9 @@ fn decided(m: &[u32], refusal: u8, answer: Answer) -> Decision
     ensures { result ≡ (decided_of refusal (tables m.now handing answer)).decision }
 {
     let s = dispatch::status(m);
-    let status = codes::status_code(s);
+    let status = u8::from(s);
     let r = store::runner(m);
-    let runner = codes::runner_code(r);
+    let runner = r.name();
     Decision {
         refusal,
         status,

@@ -1,7 +1,7 @@
 -- Tables filled in: nothing, and an entry behind the others.
 use Rattle.std.proofs.Common.{◌≡◌, ℕ, ◌+◌, ◌<◌, List, [], ◌∷◌, ◌++◌, length, take, set, refl, ap, ◌∙◌, add-one, arith, take-suc-set}
 use Rattle.rules.specs.Lists.{count, chain}
-use Rattle.rules.specs.Numbers.{Limits}
+use Rattle.laws.specs.Words.{Limits}
 use Rattle.rules.specs.Tables.{Tables, with_threads, with_messages}
 use Rattle.laws.specs.Words.{Thread, Message}
 use Rattle.memory.specs.Rows.{view, Room, nothing, put_threads, put_count, put_messages, put_letters}

@@ -4,7 +4,7 @@ use Rattle.std.specs.Prelude.{◌≡◌, ℕ, ◌≤◌, Bool, List, Option, Non
 use Rattle.std.specs.List.{find}
 use Rattle.std.specs.Option.{option_map}
 use Rattle.rules.specs.Lists.{count, Pulled, missing, pulled}
-use Rattle.rules.specs.Numbers.{Limits}
+use Rattle.laws.specs.Words.{Limits}
 use Rattle.laws.specs.Words.{Thread, Message, Answer}
 use Rattle.laws.specs.Types.{Rising}
 use Rattle.rules.specs.Tables.{Tables, named, with_messages}

@@ -8,15 +8,15 @@ ghost use Rattle.store.specs.Store.{limits, tables, Shaped, Holding, Fills, Room
 
 use memory::memory as rows;
 use moving::queues;
+use rules::numbers::Limits;
 use rules::{Message, Thread};
 
 // Whatever stood there, the memory has these limits and holds nothing.
-pub fn clear(m: &mut [u32], threads: u32, blocks: u32)
-    requires { Room (record { threads = threads; blocks = blocks }) (length m.old) }
-    ensures { (tables m.new ≡ nothing) × (limits m.new ≡ record { threads = threads; blocks = blocks })
-        × Holding m.new }
+pub fn clear(m: &mut [u32], l: Limits)
+    requires { Room l (length m.old) }
+    ensures { (tables m.new ≡ nothing) × (limits m.new ≡ l) × Holding m.new }
 {
-    rows::clear(m, threads, blocks);
+    rows::clear(m, l);
 }
 
 // A thread behind the others.

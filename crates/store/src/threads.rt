@@ -1,5 +1,5 @@
 // Threads, by name.
-ghost use Rattle.std.specs.Prelude.{◌≡◌, ◌<◌, false, not, ltb, length, get_or, nat_lt, slice_index_or};
+ghost use Rattle.std.specs.Prelude.{None as Parentless, ◌≡◌, ◌<◌, false, not, ltb, length, get_or, nat_lt, slice_index_or};
 ghost use Rattle.rules.specs.Lists.{any, insert};
 ghost use Rattle.std.specs.List.{find};
 ghost use Rattle.rules.specs.Tables.{named, of_thread, live, change, in_state, with_ticks, with_threads, with_managers, set_entry};
@@ -9,7 +9,6 @@ ghost use Rattle.rules.specs.Tick.{one_more};
 ghost use Rattle.rules.specs.Refusals.{no_thread_free};
 ghost use Rattle.rules.specs.declared.Answer.TheVariants.{Nothing as NoAnswer};
 ghost use Rattle.rules.specs.declared.Manager.TheVariants.{Unset as NoManager};
-ghost use Rattle.rules.specs.declared.Parent.TheVariants.{NoParent as Parentless};
 ghost use Rattle.memory.specs.Rows.{no_thread};
 ghost use Rattle.store.specs.Store.{limits, tables, Shaped, Holding, Leaves, place, name_where};
 
@@ -97,7 +96,7 @@ pub fn parent_of(m: &[u32], name: u8) -> Parent
     requires { Holding m.now }
     ensures { result ≡ of_thread Parentless (λ t. t.parent) name (tables m.now).threads }
 {
-    thread(m, name).map_or(Parent::NoParent, |t| t.parent())
+    thread(m, name).map_or(None, |t| t.parent())
 }
 
 pub fn manager_of(m: &[u32], name: u8, k: TrapKind) -> Manager

@@ -1,18 +1,17 @@
 -- What turns, reads and rounds keep: the run lies in its buffers, and the number of the next line grows by no more than the bytes that
 -- are there.
+use Rattle.std.proofs.Common.{Option, Some, None}
 use Prim.Native.Nat.{ℕ, zero, suc, ◌+◌, ◌-◌, ◌≤◌}
 use mathlib.Core.Path.{◌≡◌, refl, sym, ap, subst}
 use mathlib.Core.Bool.{Bool}
 use mathlib.Core.List.{List}
-use native.Mathlib.Nat.{min-le_right}
 use native.Mathlib.Omega.{arith}
-use lib.IntN.{ℤ, pos, negsuc}
 use lib.ListN.{length, drop, length-drop}
 use lib.Seq.{length-take-le}
-use Rattle.printing.specs.Input.{clamp_len, waiting, Refilled}
+use Rattle.printing.specs.Input.{MayAnswer, moved, waiting, Refilled}
 use Rattle.printing.specs.declared.Span.{Span}
 use Rattle.stream.specs.declared.Run.{Run}
-use Rattle.stream.specs.Stream.{window, Right, Begins, Serves, Reads, Rounds}
+use Rattle.stream.specs.Stream.{Right, Begins, Serves, Reads, Rounds}
 
 -- the same with the lengths said otherwise
 pub placed : {m : List ℕ} {r : Run} {a b n k : ℕ} → n ≡ a → k ≡ b → Right m r n k → Right m r a b
@@ -30,8 +29,8 @@ begins_right {m} n k b =
 module _ {m : List ℕ} {r : Run} {last : Bool} {input before after m' : List ℕ} {v : Run}
     (p : Right m r (length input) (length before)) (s : Serves m r last input before after m' v) where
   -- so many bytes wait
-  waits : length (waiting (window r) input) ≡ r.held - r.at
-  waits = length-take-le (r.held - r.at) (drop r.at input) (omega (arith, length-drop r.at input, p.within))
+  waits : length (waiting r.window input) ≡ r.window.held - r.window.at
+  waits = length-take-le (r.window.held - r.window.at) (drop r.window.at input) (omega (arith, length-drop r.window.at input, p.within))
 
   pub serves_right : Right m' v (length input) (length before)
   serves_right =
@@ -46,18 +45,16 @@ module _ {m : List ℕ} {r : Run} {last : Bool} {input before after m' : List �
 
 -- ---- a read
 
-clamped_low : (z : ℤ) (n : ℕ) → clamp_len z n ≤ n
-clamped_low (pos k) n = min-le_right k n
-clamped_low (negsuc k) n = omega arith
+moved_low : (got : Option ℕ) (n : ℕ) → MayAnswer n got → moved got ≤ n
+moved_low None n h = omega arith
+moved_low (Some k) n h = h
 
 module _ {w v : Span} {before after : List ℕ} (f : Refilled w before v after) where
   pub refilled_opens : v.at ≤ v.held
   refilled_opens = omega (arith, ap (λ (x : Span). x.at) f.told)
 
   pub refilled_within : w.held ≤ length before → v.held ≤ length before
-  refilled_within h =
-      let room = length before - (w.held - w.at) in
-      omega (arith, ap (λ (x : Span). x.held) f.told, clamped_low f.got room)
+  refilled_within h = omega (arith, ap (λ (x : Span). x.held) f.told, moved_low f.got (length before - (w.held - w.at)) f.answers)
 
 -- ---- a round
 

@@ -5,23 +5,20 @@ use Rattle.store.specs.Store.{tables}
 use Rattle.printing.specs.Printing.{Standing, Turns}
 use Rattle.printing.specs.Input.{waiting, Refilled}
 use Rattle.printing.specs.declared.Span.{Span}
+use Rattle.printing.specs.declared.Reading.TheVariants.{Open}
 use Rattle.printing.specs.declared.Turned.{Turned}
 use Rattle.stream.specs.declared.Run.{Run}
-
--- the window of a run
-abbrev pub window : Run → Span
-window r = record { at = r.at; held = r.held; ended = r.ended; failed = r.failed }
 
 -- Between two rounds: the tables stand, the window lies in the input's buffer, and what is to be written in the other one.
 pub record Right (m : List ℕ) (r : Run) (input out : ℕ) : Type 0 where
   pub standing : Standing m
-  pub opens : r.at ≤ r.held
-  pub within : r.held ≤ input
+  pub opens : r.window.at ≤ r.window.held
+  pub within : r.window.held ≤ input
   pub filled : r.filled ≤ out
 
 -- nothing read, nothing to write, line 1 next
 abbrev pub first : Run
-first = record { line = 1; at = 0; held = 0; filled = 0; ended = false; failed = false }
+first = record { line = 1; window = record { at = 0; held = 0; reading = Open }; filled = 0 }
 
 -- "From a start"
 pub record Begins (m : List ℕ) (r : Run) : Type 0 where
@@ -31,22 +28,24 @@ pub record Begins (m : List ℕ) (r : Run) : Type 0 where
 
 -- a run after a turn: what the turn used is served, its lines are to be written
 abbrev pub after_turn : Run → Turned → Run
-after_turn r t = record { line = t.line; at = r.at + t.used; held = r.held; filled = t.filled; ended = r.ended; failed = r.failed }
+after_turn r t =
+    let w = r.window in
+    record { line = t.line; window = record { at = w.at + t.used; held = w.held; reading = w.reading }; filled = t.filled }
 
 -- The bytes that wait are served by one turn. `last`: nothing comes behind them.
 pub record Serves (m : List ℕ) (r : Run) (last : Bool) (input before after : List ℕ) (m' : List ℕ) (v : Run) : Type 0 where
   pub turn : Turned
-  pub turns : Turns m r.line (waiting (window r) input) last before after turn m'
+  pub turns : Turns m r.line (waiting r.window input) last before after turn m'
   pub leaves : v ≡ after_turn r turn
 
 -- a run after a read
 abbrev pub after_read : Run → Span → Run
-after_read r w = record { line = r.line; at = w.at; held = w.held; filled = r.filled; ended = w.ended; failed = w.failed }
+after_read r w = record { line = r.line; window = w; filled = r.filled }
 
 -- More is read behind the bytes that wait.
 pub record Reads (r : Run) (before after : List ℕ) (v : Run) : Type 0 where
   pub span : Span
-  pub refills : Refilled (window r) before span after
+  pub refills : Refilled r.window before span after
   pub leaves : v ≡ after_read r span
 
 -- One round: a turn; where that has no line to write, more is read.

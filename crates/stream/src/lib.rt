@@ -7,18 +7,15 @@ ghost use Rattle.rules.specs.Numbers.{small};
 ghost use Rattle.memory.specs.Layout.{size};
 ghost use Rattle.stream.specs.Stream.{Right, Begins, Serves, Reads, Rounds};
 
-use printing::{Span, turn, window};
+use printing::{Reading, Span, turn};
 use std::io::Read;
 
-// The window over the input's buffer, the number of the next line, and how many bytes of lines wait to be written.
+// The number of the next line, the window over the input's buffer, and how many bytes of lines wait to be written.
 #[derive(Clone, Copy)]
 pub struct Run {
     pub line: u64,
-    pub at: usize,
-    pub held: usize,
+    pub window: Span,
     pub filled: usize,
-    pub ended: bool,
-    pub failed: bool,
 }
 
 // Room for the input: no field is longer than 65,538 bytes, so that a window without a whole field has room for more.
@@ -42,79 +39,68 @@ pub fn room() -> [u32; 656]
     [0; 656]
 }
 
-pub fn begin(m: &mut [u32]) -> Run
-    requires { size small ≤ length m.old }
-    ensures { Begins m.new result }
-{
-    lending::start::start_in(m);
-    Run {
-        line: 1,
-        at: 0,
-        held: 0,
-        filled: 0,
-        ended: false,
-        failed: false,
+impl Run {
+    // From a start: nothing is read yet.
+    pub fn begin(m: &mut [u32]) -> Run
+        requires { size small ≤ length m.old }
+        ensures { Begins m.new result }
+    {
+        lending::start::start_in(m);
+        Run {
+            line: 1,
+            window: Span {
+                at: 0,
+                held: 0,
+                reading: Reading::Open,
+            },
+            filled: 0,
+        }
     }
-}
 
-// The fields in the window are served. `last`: nothing comes behind them.
-pub fn serve(m: &mut [u32], r: Run, last: bool, input: &[u8], out: &mut [u8]) -> Run
-    requires { Right m.old r (length input.now) (length out.old) × (r.line + length input.now ≤ 9223372036854775808) }
-    ensures { Serves m.old r last input.now out.old out.new m.new result }
-{
-    let at = r.at;
-    let held = r.held;
-    let t = turn::turn(m, r.line, &input[at..held], last, out);
-    Run {
-        line: t.line,
-        at: at + t.used,
-        held,
-        filled: t.filled,
-        ended: r.ended,
-        failed: r.failed,
+    // The fields in the window are served. `last`: nothing comes behind them.
+    pub fn serve(self, m: &mut [u32], last: bool, input: &[u8], out: &mut [u8]) -> Run
+        requires { Right m.old self (length input.now) (length out.old) × (self.line + length input.now ≤ 9223372036854775808) }
+        ensures { Serves m.old self last input.now out.old out.new m.new result }
+    {
+        let window = self.window;
+        let t = turn::turn(m, self.line, &input[window.at..window.held], last, out);
+        Run {
+            line: t.line,
+            window: Span {
+                at: window.at + t.used,
+                ..window
+            },
+            filled: t.filled,
+        }
     }
-}
 
-// More is read behind the window.
-pub fn read_more<R: Read>(reader: &mut R, r: Run, input: &mut [u8]) -> Run
-    requires { (r.at ≤ r.held) × (r.held ≤ length input.old) }
-    ensures { Reads r input.old input.new result }
-{
-    let w = window::refill(
-        reader,
-        input,
-        Span {
-            at: r.at,
-            held: r.held,
-            ended: r.ended,
-            failed: r.failed,
-        },
-    );
-    Run {
-        line: r.line,
-        at: w.at,
-        held: w.held,
-        filled: r.filled,
-        ended: w.ended,
-        failed: w.failed,
+    // More is read behind the window.
+    pub fn read_more<R: Read>(self, reader: &mut R, input: &mut [u8]) -> Run
+        requires { (self.window.at ≤ self.window.held) × (self.window.held ≤ length input.old) }
+        ensures { Reads self input.old input.new result }
+    {
+        Run {
+            window: self.window.refill(reader, input),
+            ..self
+        }
     }
-}
 
-// One round: lines to be written, or more read.
-pub fn round<R: Read>(
-    reader: &mut R,
-    m: &mut [u32],
-    r: Run,
-    input: &mut [u8],
-    out: &mut [u8],
-) -> Run
-    requires { Right m.old r (length input.old) (length out.old) × (r.line + length input.old ≤ 9223372036854775808) }
-    ensures { Rounds m.old r input.old out.old m.new input.new out.new
-        result }
-{
-    let v = serve(m, r, false, input, out);
-    if 0 < v.filled {
-        return v;
+    // One round: lines to be written, or more read.
+    pub fn round<R: Read>(
+        self,
+        reader: &mut R,
+        m: &mut [u32],
+        input: &mut [u8],
+        out: &mut [u8],
+    ) -> Run
+        requires { Right m.old self (length input.old) (length out.old) × (self.line + length input.old ≤ 9223372036854775808) }
+        ensures { Rounds m.old self input.old out.old m.new input.new out.new
+            result }
+    {
+        let v = self.serve(m, false, input, out);
+        if 0 < v.filled {
+            return v;
+        }
+        v.read_more(reader, input)
     }
-    read_more(reader, v, input)
 }

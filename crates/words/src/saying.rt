@@ -1,5 +1,7 @@
 // What the words of a record say, and back: the words that are written.
-ghost use Rattle.std.specs.Prelude.{◌≡◌, [], ◌∷◌, ◌≤◌, ◌<◌, length, drop};
+#![tactic(auto, unfolding(crate::specs::Saying::state_in, crate::specs::Saying::answer_in, crate::specs::Saying::thread_in, crate::specs::Saying::message_in, crate::specs::Saying::runner_in))]
+
+ghost use Rattle.std.specs.Prelude.{◌≡◌, ◌≤◌, length};
 ghost use Rattle.rules.specs.Tables.{in_state};
 ghost use Rattle.rules.specs.declared.State.TheVariants.{Trapped as TrappedBy};
 ghost use Rattle.words.specs.Saying.{byte as byte_of, parent_in, manager_in, wanted_in, trapped_in, state_in, answer_in, sender_in};
@@ -11,53 +13,68 @@ use rules::{
 };
 
 // The first word that is no byte: "no name" where a name can stand, and what is added to the sender of a notice.
-const PAST_BYTES: u32 = 256;
+pub(crate) const PAST_BYTES: u32 = 256;
 
 // "Gone" among managers.
 const GONE: u32 = 257;
 
-// ---- words to what they say
+// The words of states.
+pub(crate) const RUNNING: u32 = 0;
+
+pub(crate) const READY: u32 = 1;
+
+pub(crate) const RECEIVING: u32 = 2;
+
+pub(crate) const CLOCK: u32 = 3;
+
+pub(crate) const DEVICE: u32 = 4;
+
+pub(crate) const TRAPPED: u32 = 5;
+
+// The words of answers.
+const NOTHING: u32 = 0;
+
+const FROM_MESSAGE: u32 = 1;
+
+const FROM_NOTICE: u32 = 2;
+
+const SENDER_GONE: u32 = 3;
+
+const RESULT: u32 = 4;
+
+// ---- words to what they say. No `From`: a word is a u32 and what it says is of crates/rules, so neither type is this crate's.
 
 pub fn byte(w: u32) -> u8
     ensures { result ≡ byte_of w }
 {
-    if w < PAST_BYTES {
-        w as u8
-    } else {
-        numbers::NOBODY
-    }
+    u8::try_from(w).unwrap_or(numbers::NOBODY)
 }
 
 pub fn parent_from(w: u32) -> Parent
     ensures { result ≡ parent_in w }
 {
-    if w == PAST_BYTES {
-        Parent::NoParent
-    } else {
-        Parent::ParentIs(byte(w))
+    match w {
+        PAST_BYTES => None,
+        _ => Some(byte(w)),
     }
 }
 
 pub fn manager_from(w: u32) -> Manager
     ensures { result ≡ manager_in w }
 {
-    if w == PAST_BYTES {
-        return Manager::Unset;
-    }
-    if w == GONE {
-        Manager::Gone
-    } else {
-        Manager::Set(byte(w))
+    match w {
+        PAST_BYTES => Manager::Unset,
+        GONE => Manager::Gone,
+        _ => Manager::Set(byte(w)),
     }
 }
 
 fn wanted_from(w: u32) -> Wanted
     ensures { result ≡ wanted_in w }
 {
-    if w == PAST_BYTES {
-        Wanted::Anybody
-    } else {
-        Wanted::Only(byte(w))
+    match w {
+        PAST_BYTES => Wanted::Anybody,
+        _ => Wanted::Only(byte(w)),
     }
 }
 
@@ -78,13 +95,13 @@ fn trapped_from(d: u32) -> State
 pub fn state_from(w: u32, d: u32) -> State
     ensures { result ≡ state_in w d }
 {
-    match w {
-        0 => if d == 0 { State::Running } else { WRONG_STATE },
-        1 => if d == 0 { State::Ready } else { WRONG_STATE },
-        2 => State::Receiving(wanted_from(d)),
-        3 => if d == 0 { State::Clock } else { WRONG_STATE },
-        4 => State::Device(byte(d)),
-        5 => trapped_from(d),
+    match (w, d) {
+        (RUNNING, 0) => State::Running,
+        (READY, 0) => State::Ready,
+        (RECEIVING, _) => State::Receiving(wanted_from(d)),
+        (CLOCK, 0) => State::Clock,
+        (DEVICE, _) => State::Device(byte(d)),
+        (TRAPPED, _) => trapped_from(d),
         _ => WRONG_STATE,
     }
 }
@@ -95,26 +112,12 @@ const WRONG_ANSWER: Answer = Answer::FromMessage(numbers::NOBODY, 0);
 pub fn answer_from(k: u32, s: u32, w: u32) -> Answer
     ensures { result ≡ answer_in k s w }
 {
-    match k {
-        0 => {
-            if s == 0 && w == 0 {
-                Answer::Nothing
-            } else {
-                WRONG_ANSWER
-            }
-        }
-        1 => Answer::FromMessage(byte(s), w),
-        2 => Answer::FromNotice(byte(s), w),
-        3 => if w == 0 {
-            Answer::SenderGone(byte(s))
-        } else {
-            WRONG_ANSWER
-        },
-        4 => if s == 0 {
-            Answer::Result(w)
-        } else {
-            WRONG_ANSWER
-        },
+    match (k, s, w) {
+        (NOTHING, 0, 0) => Answer::Nothing,
+        (FROM_MESSAGE, _, _) => Answer::FromMessage(byte(s), w),
+        (FROM_NOTICE, _, _) => Answer::FromNotice(byte(s), w),
+        (SENDER_GONE, _, 0) => Answer::SenderGone(byte(s)),
+        (RESULT, 0, _) => Answer::Result(w),
         _ => WRONG_ANSWER,
     }
 }
@@ -122,11 +125,7 @@ pub fn answer_from(k: u32, s: u32, w: u32) -> Answer
 pub fn sender_from(w: u32) -> u8
     ensures { result ≡ sender_in w }
 {
-    if w < PAST_BYTES {
-        w as u8
-    } else {
-        byte(w - PAST_BYTES)
-    }
+    byte(if w < PAST_BYTES { w } else { w - PAST_BYTES })
 }
 
 pub fn kind_from(w: u32) -> MessageKind
@@ -142,10 +141,9 @@ pub fn kind_from(w: u32) -> MessageKind
 pub fn runner_from(n: u32, s: u32) -> Runner
     ensures { result ≡ runner_in n s }
 {
-    if n == PAST_BYTES && s == 0 {
-        Runner::NoRunner
-    } else {
-        Runner::Runs(byte(n), byte(s))
+    match (n, s) {
+        (PAST_BYTES, 0) => Runner::NoRunner,
+        _ => Runner::Runs(byte(n), byte(s)),
     }
 }
 
@@ -153,23 +151,17 @@ pub fn read_thread(w: &[u32]) -> Thread
     requires { 11 ≤ length w.now }
     ensures { result ≡ thread_in w.now }
 {
-    let parent = parent_from(w[1]);
-    let state = state_from(w[2], w[3]);
-    let program = manager_from(w[4]);
-    let tlb = manager_from(w[5]);
-    let sysbp = manager_from(w[6]);
-    let answer = answer_from(w[8], w[9], w[10]);
     Thread {
         name: byte(w[0]),
-        parent,
-        state,
+        parent: parent_from(w[1]),
+        state: state_from(w[2], w[3]),
         managers: Managers {
-            program,
-            tlb,
-            sysbp,
+            program: manager_from(w[4]),
+            tlb: manager_from(w[5]),
+            sysbp: manager_from(w[6]),
         },
         ticks: w[7],
-        answer,
+        answer: answer_from(w[8], w[9], w[10]),
     }
 }
 
@@ -177,45 +169,22 @@ pub fn read_message(w: &[u32]) -> Message
     requires { 3 ≤ length w.now }
     ensures { result ≡ message_in w.now }
 {
-    let kind = kind_from(w[1]);
     Message {
         to: byte(w[0]),
         from: sender_from(w[1]),
-        kind,
+        kind: kind_from(w[1]),
         word: w[2],
     }
 }
 
-// ---- and back: words that say it
-
-// The two words of a runner.
-#[derive(Clone, Copy)]
-pub struct RunnerWords {
-    pub name: u32,
-    pub slice: u32,
-}
-
-// The two words of a state.
-#[derive(Clone, Copy)]
-struct StateWords {
-    state: u32,
-    detail: u32,
-}
-
-// The three words of an answer.
-#[derive(Clone, Copy)]
-struct AnswerWords {
-    kind: u32,
-    sender: u32,
-    word: u32,
-}
+// ---- and back: words that say it. No `From` for the same reason.
 
 fn parent_word(p: Parent) -> u32
     ensures { parent_in result ≡ p }
 {
     match p {
-        Parent::NoParent => PAST_BYTES,
-        Parent::ParentIs(n) => n as u32,
+        None => PAST_BYTES,
+        Some(n) => u32::from(n),
     }
 }
 
@@ -224,7 +193,7 @@ pub fn manager_word(m: Manager) -> u32
 {
     match m {
         Manager::Unset => PAST_BYTES,
-        Manager::Set(n) => n as u32,
+        Manager::Set(n) => u32::from(n),
         Manager::Gone => GONE,
     }
 }
@@ -234,7 +203,7 @@ fn wanted_word(w: Wanted) -> u32
 {
     match w {
         Wanted::Anybody => PAST_BYTES,
-        Wanted::Only(n) => n as u32,
+        Wanted::Only(n) => u32::from(n),
     }
 }
 
@@ -248,66 +217,30 @@ fn trap_word(k: TrapKind) -> u32
     }
 }
 
-fn state_words(s: State) -> StateWords
-    ensures { state_in result.state result.detail ≡ s }
+// The state's number and its detail.
+fn state_words(s: State) -> (u32, u32)
+    ensures { state_in result.0 result.1 ≡ s }
 {
     match s {
-        State::Running => StateWords {
-            state: 0,
-            detail: 0,
-        },
-        State::Ready => StateWords {
-            state: 1,
-            detail: 0,
-        },
-        State::Receiving(w) => {
-            let detail = wanted_word(w);
-            StateWords { state: 2, detail }
-        }
-        State::Clock => StateWords {
-            state: 3,
-            detail: 0,
-        },
-        State::Device(d) => StateWords {
-            state: 4,
-            detail: d as u32,
-        },
-        State::Trapped(k) => {
-            let detail = trap_word(k);
-            StateWords { state: 5, detail }
-        }
+        State::Running => (RUNNING, 0),
+        State::Ready => (READY, 0),
+        State::Receiving(w) => (RECEIVING, wanted_word(w)),
+        State::Clock => (CLOCK, 0),
+        State::Device(d) => (DEVICE, u32::from(d)),
+        State::Trapped(k) => (TRAPPED, trap_word(k)),
     }
 }
 
-fn answer_words(a: Answer) -> AnswerWords
-    ensures { answer_in result.kind result.sender result.word ≡ a }
+// The answer's kind, sender and word.
+fn answer_words(a: Answer) -> (u32, u32, u32)
+    ensures { answer_in result.0 result.1 result.2 ≡ a }
 {
     match a {
-        Answer::Nothing => AnswerWords {
-            kind: 0,
-            sender: 0,
-            word: 0,
-        },
-        Answer::FromMessage(n, w) => AnswerWords {
-            kind: 1,
-            sender: n as u32,
-            word: w,
-        },
-        Answer::FromNotice(n, w) => AnswerWords {
-            kind: 2,
-            sender: n as u32,
-            word: w,
-        },
-        Answer::SenderGone(n) => AnswerWords {
-            kind: 3,
-            sender: n as u32,
-            word: 0,
-        },
-        Answer::Result(w) => AnswerWords {
-            kind: 4,
-            sender: 0,
-            word: w,
-        },
+        Answer::Nothing => (NOTHING, 0, 0),
+        Answer::FromMessage(n, w) => (FROM_MESSAGE, u32::from(n), w),
+        Answer::FromNotice(n, w) => (FROM_NOTICE, u32::from(n), w),
+        Answer::SenderGone(n) => (SENDER_GONE, u32::from(n), 0),
+        Answer::Result(w) => (RESULT, 0, w),
     }
 }
 
@@ -316,23 +249,18 @@ fn sender_word(k: MessageKind, from: u8) -> u32
     ensures { (sender_in result ≡ from) × (kind_in result ≡ k) }
 {
     match k {
-        MessageKind::Ordinary => from as u32,
-        MessageKind::Notice => from as u32 + PAST_BYTES,
+        MessageKind::Ordinary => u32::from(from),
+        MessageKind::Notice => u32::from(from) + PAST_BYTES,
     }
 }
 
-pub fn runner_words(r: Runner) -> RunnerWords
-    ensures { runner_in result.name result.slice ≡ r }
+// The runner's name and what is left of its slice.
+pub fn runner_words(r: Runner) -> (u32, u32)
+    ensures { runner_in result.0 result.1 ≡ r }
 {
     match r {
-        Runner::NoRunner => RunnerWords {
-            name: PAST_BYTES,
-            slice: 0,
-        },
-        Runner::Runs(n, s) => RunnerWords {
-            name: n as u32,
-            slice: s as u32,
-        },
+        Runner::NoRunner => (PAST_BYTES, 0),
+        Runner::Runs(n, s) => (u32::from(n), u32::from(s)),
     }
 }
 
@@ -340,26 +268,22 @@ pub fn write_thread(w: &mut [u32], t: Thread)
     requires { length w.old ≡ 11 }
     ensures { thread_in w.new ≡ t }
 {
-    let p = t.parent;
-    let s = t.state;
-    let g = t.managers;
-    let a = t.answer;
-    let program = g.program;
-    let tlb = g.tlb;
-    let sysbp = g.sysbp;
-    let s_words = state_words(s);
-    let a_words = answer_words(a);
-    w[0] = t.name as u32;
-    w[1] = parent_word(p);
-    w[2] = s_words.state;
-    w[3] = s_words.detail;
-    w[4] = manager_word(program);
-    w[5] = manager_word(tlb);
-    w[6] = manager_word(sysbp);
-    w[7] = t.ticks;
-    w[8] = a_words.kind;
-    w[9] = a_words.sender;
-    w[10] = a_words.word;
+    let (state, detail) = state_words(t.state);
+    let (kind, sender, word) = answer_words(t.answer);
+    let words = [
+        u32::from(t.name),
+        parent_word(t.parent),
+        state,
+        detail,
+        manager_word(t.managers.program),
+        manager_word(t.managers.tlb),
+        manager_word(t.managers.sysbp),
+        t.ticks,
+        kind,
+        sender,
+        word,
+    ];
+    w.copy_from_slice(&words);
 }
 
 // The words of a thread in another state, with another answer.
@@ -367,52 +291,33 @@ pub fn turn_thread(w: &mut [u32], s: State, a: Answer)
     requires { length w.old ≡ 11 }
     ensures { thread_in w.new ≡ in_state s a (thread_in w.old) }
 {
-    let x = state_words(s);
-    let y = answer_words(a);
-    w[2] = x.state;
-    w[3] = x.detail;
-    w[8] = y.kind;
-    w[9] = y.sender;
-    w[10] = y.word;
+    let (state, detail) = state_words(s);
+    let (kind, sender, word) = answer_words(a);
+    w[2] = state;
+    w[3] = detail;
+    w[8] = kind;
+    w[9] = sender;
+    w[10] = word;
 }
 
 pub fn write_message(w: &mut [u32], m: Message)
     requires { length w.old ≡ 3 }
     ensures { message_in w.new ≡ m }
 {
-    let k = m.kind;
-    w[0] = m.to as u32;
-    w[1] = sender_word(k, m.from);
-    w[2] = m.word;
+    w.copy_from_slice(&[u32::from(m.to), sender_word(m.kind, m.from), m.word]);
 }
 
 // Four words as they stand: to move an entry, it need not be known what they say.
-#[derive(Clone, Copy)]
-pub struct Four {
-    pub a: u32,
-    pub b: u32,
-    pub c: u32,
-    pub d: u32,
-}
-
-pub fn four_at(w: &[u32]) -> Four
+pub fn four_at(w: &[u32]) -> [u32; 4]
     requires { length w.now ≡ 4 }
-    ensures { w.now ≡ result.a ∷ result.b ∷ result.c ∷ result.d ∷ [] }
+    ensures { w.now ≡ result }
 {
-    Four {
-        a: w[0],
-        b: w[1],
-        c: w[2],
-        d: w[3],
-    }
+    [w[0], w[1], w[2], w[3]]
 }
 
-pub fn put_four(w: &mut [u32], x: Four)
+pub fn put_four(w: &mut [u32], x: [u32; 4])
     requires { length w.old ≡ 4 }
-    ensures { w.new ≡ x.a ∷ x.b ∷ x.c ∷ x.d ∷ [] }
+    ensures { w.new ≡ x }
 {
-    w[0] = x.a;
-    w[1] = x.b;
-    w[2] = x.c;
-    w[3] = x.d;
+    w.copy_from_slice(&x);
 }

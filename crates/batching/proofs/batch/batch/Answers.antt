@@ -3,4 +3,4 @@ use Rattle.batching.proofs.Serving.{hands_back}
 use Rattle.batching.proofs.batch.batch.Goals as goal
 
 pub returns : goal.returns
-returns c = hands_back c.serve-t.ensures c.rest_at.ensures
+returns c = rw c.told.ensures (hands_back c.serve-taken.ensures (rw (← c.unwrap_or.ensures) c.rest_at.ensures))

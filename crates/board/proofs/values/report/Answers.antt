@@ -10,7 +10,7 @@ returns c =
       refusal = d.refusal;
       status = d.status;
       runner = d.runner;
-      kind = c.kind_code.ensures i;
-      sender = c.sender_code.ensures i;
-      word = c.word_code.ensures i;
+      kind = c.kind.ensures i;
+      sender = c.sender.ensures i;
+      word = c.word.ensures i;
     }

@@ -1,40 +1,21 @@
 -- `writing::write_held` meets its contract. The loop: the fields of the held words of the devices passed stand at the front.
+use Rattle.std.proofs.Common.{arith, ◌+◌, ap, length}
+use Rattle.rules.specs.Lists.{each}
+use Rattle.rules.specs.Dump.{field, held_value}
 use Rattle.laws.proofs.DumpLength.{held_length}
-use Rattle.dumping.proofs.Walks.{walk_held}
-use Rattle.dumping.proofs.Puttings.{write_starts, written_long, write_room, write_fits, write_within, write_next}
-use Rattle.dumping.proofs.Puttings.{write_ends}
-use native.Mathlib.Omega.{arith}
+use Rattle.buffer.proofs.Putting.{said}
+use Rattle.dumping.proofs.Walks.{none_passed, one_passed, last_passed, few_passed}
+use Rattle.dumping.proofs.Puttings.{write_starts, write_fits, write_next}
 use Rattle.dumping.proofs.writing.write_held.Goals as goal
 
 pub loop-d-init : goal.loop-d-init
-loop-d-init c = write_starts (walk_held c.requires.0) (λ h. omega (arith, held_length h)) c.requires.1
-
-pub slice_bounds-write_word-count : goal.slice_bounds-write_word-count
-slice_bounds-write_word-count c = omega (arith, written_long c.loop-d.invariant, write_room c.loop-d.invariant c.loop-d-test.true)
-
-pub slice_bounds-write_word-start : goal.slice_bounds-write_word-start
-slice_bounds-write_word-start c = omega (arith, written_long c.loop-d.invariant, write_room c.loop-d.invariant c.loop-d-test.true)
+loop-d-init c = rw (none_passed c.requires.0) (write_starts (λ h. omega (arith, held_length h)) c.requires.1)
 
 pub write_word-at-requires : goal.write_word-at-requires
-write_word-at-requires c = (
-  c.requires.0.shaped,
-  c.loop-d-test.true,
-  write_fits c.loop-d.invariant c.loop-d-test.true,
-)
-
-pub overflow_add-at : goal.overflow_add-at
-overflow_add-at c = omega (
-  arith,
-  write_within c.loop-d.invariant
-      c.loop-d-test.true c.write_word-at.ensures,
-)
+write_word-at-requires c = (c.requires.0.shaped, c.loop-d-test.true, write_fits c.loop-d.invariant _ (omega (arith, ap length (one_passed c.requires.0 c.loop-d.d), few_passed c.requires.0 (c.loop-d.d + 1))))
 
 pub loop-d-preserved : goal.loop-d-preserved
-loop-d-preserved c = write_next c.loop-d.invariant c.loop-d-test.true
-    c.write_word-at.ensures
-
-pub shape_of-out : goal.shape_of-out
-shape_of-out c = written_long c.loop-d.invariant
+loop-d-preserved c = rw (one_passed c.requires.0 c.loop-d.d) (write_next c.loop-d.invariant _ (omega (arith, ap length (one_passed c.requires.0 c.loop-d.d), few_passed c.requires.0 (c.loop-d.d + 1))) c.write_word-at.ensures)
 
 pub returns : goal.returns
-returns c = write_ends c.loop-d.invariant c.loop-d-test.false
+returns c = said c.loop-d.invariant.so (ap (each (λ h. field 6 (held_value h))) (last_passed c.requires.0 (omega (arith, c.loop-d-test.false, c.loop-d.auto.d-end))))

@@ -1,15 +1,21 @@
--- `writing::write_thread` meets its contract: each put behind the one before.
-use mathlib.Core.Path.{refl}
+-- `writing::write_thread` meets its contract: each put stands behind the one before.
+use Rattle.std.proofs.Common.{refl, ap, ◌∙◌}
+use Rattle.rules.specs.Dump.{field, thread_value}
+use Rattle.laws.specs.Words.{Thread}
 use Rattle.buffer.proofs.Putting.{behind, counted, said}
-use Rattle.dumping.specs.Shown.{thread_front}
 use Rattle.dumping.proofs.Showing.{thread_bytes}
 use Rattle.dumping.proofs.writing.write_thread.Goals as goal
 
 pub returns : goal.returns
-unfolding thread_front
 returns c =
-    let w = c.args.w.now in
-    let p10 =
-    counted c.write_front.ensures 10 refl in
-    let p14 = counted (behind p10 c.put_word.ensures) 14 refl in
-    said (counted (behind p14 c.write_answer.ensures) 20 refl) (thread_bytes w)
+    let front = counted (behind (counted c.put_bytes.ensures 10 refl) c.put_word.ensures) 14 refl in
+    said (counted (behind front c.write_answer.ensures) 20 refl)
+    (thread_bytes
+    c.words-w.result.now
+    c.byte-name.ensures
+    c.byte-parent.ensures
+    c.state_bytes.ensures
+    c.manager_number-program.ensures
+    c.manager_number-tlb.ensures
+    c.manager_number-sysbp.ensures
+    ∙ ap (λ (t : Thread). field 2 (thread_value t)) c.words-w.ensures.1)

@@ -1,12 +1,7 @@
 -- `values::word_at` meets its contract: `four_at`.
+use Rattle.std.proofs.Common.{arith}
 use Rattle.laws.proofs.Bytes.{four_at}
-use native.Mathlib.Omega.{arith}
 use Rattle.faults.proofs.values.word_at.Goals as goal
 
 pub returns : goal.returns
-returns c = omega (
-  arith,
-  four_at c.args.v.now
-      c.args.at
-      c.requires,
-)
+returns c = omega (arith, c.from_be_bytes.ensures, four_at c.args.v.now c.args.at c.requires)

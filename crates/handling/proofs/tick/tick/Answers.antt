@@ -1,6 +1,7 @@
 -- `tick::tick` meets its contract: each part leaves what the next asks.
 use Rattle.std.proofs.Common.{◌<◌, arith}
-use Rattle.rules.specs.Numbers.{Limits, beat_ticks}
+use Rattle.rules.specs.Numbers.{beat_ticks}
+use Rattle.laws.specs.Words.{Limits}
 use Rattle.rules.specs.Tables.{Tables}
 use Rattle.rules.specs.Tick.{beat, rotate, tick}
 use Rattle.laws.proofs.PlacesKept.{charge_inv, beat_inv}

@@ -1,9 +1,6 @@
--- `lines::decimal::put_decimal` meets its contract: the digits are put from the last to the first.
+-- `decimal::put_decimal`: the digits are put from the last to the first.
 use Rattle.lines.proofs.Numerals.{Putting}
 use Rattle.lines.proofs.decimal.put_decimal.Given as goal
 
 abbrev pub invariant-loop-i : goal.invariant-loop-i
 invariant-loop-i l = Putting l.n l.k l.i l.rest l.initial.out l.out
-
-abbrev pub decreases-loop-i : goal.decreases-loop-i
-decreases-loop-i l = l.i

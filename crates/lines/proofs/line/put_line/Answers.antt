@@ -3,5 +3,5 @@ use Rattle.lines.proofs.line.put_line.Goals as goal
 
 pub returns : goal.returns
 returns c =
-    rw (← c.kind_code-kind.ensures, ← c.sender_code-sender.ensures, ← c.word_code-word.ensures)
+    rw (← c.kind-kind.ensures, ← c.sender-sender.ensures, ← c.word-word.ensures)
     c.put_numbers.ensures

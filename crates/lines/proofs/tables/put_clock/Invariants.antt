@@ -1,11 +1,7 @@
 -- `lines::tables::put_clock` meets its contract. After i turns the tag and the first i names stand in the row of numbers.
-use Prim.Native.Nat.{◌-◌}
 use Rattle.store.specs.Store.{tables}
 use Rattle.lines.proofs.Entries.{Named}
 use Rattle.lines.proofs.tables.put_clock.Given as goal
 
 abbrev pub invariant-loop-i : goal.invariant-loop-i
 invariant-loop-i l = Named 4 (tables l.m).clock l.row l.i
-
-abbrev pub decreases-loop-i : goal.decreases-loop-i
-decreases-loop-i l = l.n - l.i

@@ -21,10 +21,10 @@ returns c =
     rw (
       ← c.status-s.ensures,
       ← c.runner-r.ensures,
-      ← c.status_code.ensures,
+      ← c.from.ensures,
       ← c.last.ensures,
-      ← c.runner_code.ensures,
-      ← c.slice_code.ensures,
+      ← c.name.ensures,
+      ← c.slice.ensures,
       ← c.since.ensures,
       ← c.beats.ensures,
     ) c.put_numbers.ensures

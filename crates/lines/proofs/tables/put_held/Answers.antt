@@ -31,12 +31,6 @@ overflow_add-at c =
     c.put_word-at.ensures in
     omega (arith, next.low, next.within)
 
-pub overflow_add-d : goal.overflow_add-d
-overflow_add-d c = omega (arith, c.loop-d-test.true)
-
-pub loop-d-smaller : goal.loop-d-smaller
-loop-d-smaller c = omega (arith, c.loop-d-test.true)
-
 pub loop-d-preserved : goal.loop-d-preserved
 loop-d-preserved c =
     listed_next (walk_held c.requires.0) c.loop-d.invariant c.loop-d-test.true (word_few _ _)

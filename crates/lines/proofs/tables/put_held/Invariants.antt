@@ -1,5 +1,4 @@
 -- `lines::tables::put_held` meets its contract. After d turns the lines of the words held for devices below d stand at the front.
-use Prim.Native.Nat.{◌-◌}
 use Rattle.rules.specs.Numbers.{devices}
 use Rattle.store.specs.Store.{tables}
 use Rattle.dumping.proofs.Walks.{below}
@@ -9,6 +8,3 @@ use Rattle.lines.proofs.tables.put_held.Given as goal
 
 abbrev pub invariant-loop-d : goal.invariant-loop-d
 invariant-loop-d l = Listed held_line 64 devices (λ j. below j (tables l.m).held) l.initial.out l.out l.at l.d
-
-abbrev pub decreases-loop-d : goal.decreases-loop-d
-decreases-loop-d l = devices - l.d

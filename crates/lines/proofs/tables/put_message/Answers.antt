@@ -2,4 +2,4 @@
 use Rattle.lines.proofs.tables.put_message.Goals as goal
 
 pub returns : goal.returns
-returns c = rw (← c.message_code.ensures) c.put_numbers.ensures
+returns c = rw (← c.from.ensures) c.put_numbers.ensures

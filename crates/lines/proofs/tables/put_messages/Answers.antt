@@ -39,13 +39,6 @@ overflow_add-at c =
     (one_line message_line c.message_at-x.ensures c.put_message-at.ensures) in
     omega (arith, next.low, next.within, c.requires.1, c.message_count-n.ensures)
 
-pub overflow_add-i : goal.overflow_add-i
-overflow_add-i c =
-    omega (arith, c.loop-i-test.true, c.message_count-n.ensures, c.requires.1)
-
-pub loop-i-smaller : goal.loop-i-smaller
-loop-i-smaller c = omega (arith, c.loop-i-test.true)
-
 pub loop-i-preserved : goal.loop-i-preserved
 loop-i-preserved c =
     let walk = walk_list _ no_message _ c.message_count-n.ensures in

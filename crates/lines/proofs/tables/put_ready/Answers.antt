@@ -16,24 +16,14 @@ pub ready_at-name-requires : goal.ready_at-name-requires
 ready_at-name-requires c =
     (c.requires.0, omega (arith, c.loop-i-test.true, c.ready_count-n.ensures))
 
-pub overflow_add-i : goal.overflow_add-i
-overflow_add-i c =
-    omega (arith, c.loop-i-test.true, c.ready_count-n.ensures, c.requires.1)
-
 pub bounds-row-i : goal.bounds-row-i
 bounds-row-i c =
     omega (arith, c.loop-i-test.true, c.ready_count-n.ensures, c.requires.1)
-
-pub loop-i-smaller : goal.loop-i-smaller
-loop-i-smaller c = omega (arith, c.loop-i-test.true)
 
 pub loop-i-preserved : goal.loop-i-preserved
 loop-i-preserved c =
     named_next _ c.loop-i.invariant (omega (arith, c.loop-i-test.true, c.ready_count-n.ensures))
     c.ready_at-name.ensures
-
-pub overflow_add-end : goal.overflow_add-end
-overflow_add-end c = omega (arith, c.ready_count-n.ensures, c.requires.1)
 
 pub slice_bounds-row-end : goal.slice_bounds-row-end
 slice_bounds-row-end c =

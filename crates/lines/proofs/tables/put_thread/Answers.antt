@@ -5,12 +5,12 @@ pub returns : goal.returns
 returns c =
     rw (
       ← c.parent_code.ensures,
-      ← c.state_code.ensures,
-      ← c.detail_code.ensures,
-      ← c.manager_code.ensures,
-      ← c.manager_code-2.ensures,
-      ← c.manager_code-3.ensures,
-      ← c.kind_code.ensures,
-      ← c.sender_code.ensures,
-      ← c.word_code.ensures,
+      ← c.number.ensures,
+      ← c.detail.ensures,
+      ← c.from.ensures,
+      ← c.from-2.ensures,
+      ← c.from-3.ensures,
+      ← c.kind.ensures,
+      ← c.sender.ensures,
+      ← c.word.ensures,
     ) c.put_numbers.ensures

@@ -1,30 +1,18 @@
 -- `load::reads` meets its contract: a law of Exits for each exit.
-use mathlib.Core.Path.{sym, ◌∙◌}
+use Rattle.std.proofs.Common.{sym, ◌∙◌}
+use Rattle.laws.proofs.Tests.{clash}
 use Rattle.loading.proofs.Exits.{nothing_found, rules_broken, compared}
 use Rattle.loading.proofs.load.reads.Goals as goal
+use Rattle.loading.proofs.load.reads.Goals.{then-read_fields, else-read_fields}
 
-pub read_fields-requires : goal.read_fields-requires
-read_fields-requires c = c.requires
+pub returns-then-check : goal.returns-then-check
+returns-then-check c = elim c.if-read_fields.branch [
+  | then-read_fields w ↦ compared c.read_fields.ensures (sym w.check.ensures ∙ sym w.value-is ∙ c.if-check.true) _ c.gives.ensures
+  | else-read_fields w ↦ absurd (clash (sym w.value-is ∙ c.if-check.true) w.if-read_fields.false)
+]
 
-pub shape_of-m-then-not-read_fields : goal.shape_of-m-then-not-read_fields
-shape_of-m-then-not-read_fields c = c.read_fields.auto.m
-
-pub returns-then-not-read_fields : goal.returns-then-not-read_fields
-returns-then-not-read_fields c = nothing_found c.read_fields.ensures (c.if-not-read_fields.true)
-
-pub shape_of-m-then-not-check : goal.shape_of-m-then-not-check
-shape_of-m-then-not-check c = c.read_fields.auto.m
-
-pub returns-then-not-check : goal.returns-then-not-check
-returns-then-not-check c = rules_broken c.read_fields.ensures (sym c.check.ensures
-    ∙ c.if-not-check.true)
-
-pub gives-requires : goal.gives-requires
-gives-requires c = sym c.check.ensures ∙ c.if-not-check.false
-
-pub shape_of-m : goal.shape_of-m
-shape_of-m c = c.read_fields.auto.m
-
-pub returns : goal.returns
-returns c = compared c.read_fields.ensures
-    (sym c.check.ensures ∙ c.if-not-check.false) _ c.gives.ensures
+pub returns-else-check : goal.returns-else-check
+returns-else-check c = rw c.if-check.false (elim c.if-read_fields.branch [
+  | then-read_fields w ↦ rules_broken c.read_fields.ensures (sym w.check.ensures ∙ sym w.value-is ∙ c.if-check.false)
+  | else-read_fields w ↦ nothing_found c.read_fields.ensures w.if-read_fields.false
+])

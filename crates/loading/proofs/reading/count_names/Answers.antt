@@ -1,27 +1,18 @@
 -- `reading::count_names` meets its contract: a law of Cutting for each exit.
-use Prim.Native.Nat.{◌+◌}
-use lib.ListN.{get_or}
-use Rattle.loading.proofs.Cutting.{seen, names_short, names_many, names_shut, names_open}
+use Rattle.std.proofs.Common.{arith}
+use Rattle.loading.proofs.Cutting.{seen, names_many, names_shut, names_open}
 use Rattle.loading.proofs.reading.count_names.Goals as goal
+use Rattle.loading.proofs.reading.count_names.Goals.{else-from-le-THREADS-via-then-from-le-THREADS+else-opens, else-from-le-THREADS-via-else-from-le-THREADS}
 
-pub returns-then-bytes-from-lt3 : goal.returns-then-bytes-from-lt3
-returns-then-bytes-from-lt3 c = names_short _ _ _ c.if-bytes-from-lt3.true
+pub returns-then-opens : goal.returns-then-opens
+returns-then-opens c = rw (c.from-then-opens.ensures)
+    (names_open c.args.tag c.args.bytes.now _ _ c.in_ok-size.ensures.lookup.3.1 (omega (arith, c.if-from-le-THREADS.true, c.from.ensures))
+    (seen _ _ c.args.bytes.now c.args.from c.opens.ensures c.if-opens.true))
 
-pub returns-then-size-gt-MOST_NAMES : goal.returns-then-size-gt-MOST_NAMES
-returns-then-size-gt-MOST_NAMES c = names_many _ _ _ c.if-size-gt-MOST_NAMES.true
-
-pub returns-then-not-opens : goal.returns-then-not-opens
-returns-then-not-opens c = names_shut _ _ _
-    (seen c.args.tag
-    (get_or c.args.bytes.now
-    (c.args.from + 2) 0)
-    c.args.bytes.now
-    c.args.from c.opens.ensures (c.if-not-opens.true))
-
-pub returns : goal.returns
-returns c = names_open _ _ _
-    (seen c.args.tag
-    (get_or c.args.bytes.now
-    (c.args.from + 2) 0)
-    c.args.bytes.now
-    c.args.from c.opens.ensures (c.if-not-opens.false))
+pub returns-else-from-le-THREADS : goal.returns-else-from-le-THREADS
+returns-else-from-le-THREADS c = elim c.else-from-le-THREADS.branch [
+  | else-from-le-THREADS-via-then-from-le-THREADS+else-opens w ↦
+      names_shut _ _ _ _ c.in_ok-size.ensures.lookup.3.1 (seen _ _ c.args.bytes.now c.args.from w.opens.ensures w.if-opens.false)
+  | else-from-le-THREADS-via-else-from-le-THREADS w ↦
+      names_many _ _ _ _ c.in_ok-size.ensures.lookup.3.1 (omega (arith, w.if-from-le-THREADS.false, c.from.ensures))
+]

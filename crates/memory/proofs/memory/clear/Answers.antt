@@ -33,16 +33,16 @@ pub bounds-m-10 : goal.bounds-m-10
 bounds-m-10 c = simp length-set (omega arith)
 
 pub set_runner-requires : goal.set_runner-requires
-set_runner-requires c = anew_roomy c.args.m.now c.args.threads c.args.blocks (omega arith) c.requires
+set_runner-requires c = anew_roomy c.args.m.now c.args.l.threads c.args.l.blocks (omega arith) c.requires
 
 pub clear_all_held-requires : goal.clear_all_held-requires
 clear_all_held-requires c = still_roomy c.set_runner.ensures
-    (anew_roomy c.args.m.now c.args.threads c.args.blocks (omega arith) c.requires)
+    (anew_roomy c.args.m.now c.args.l.threads c.args.l.blocks (omega arith) c.requires)
 
 pub shape_of-m : goal.shape_of-m
 shape_of-m c = c.m-2-1.given ∙ c.m-1.given
-    ∙ anew_long c.args.m.now c.args.threads c.args.blocks (omega arith)
+    ∙ anew_long c.args.m.now c.args.l.threads c.args.l.blocks (omega arith)
 
 pub returns : goal.returns
-returns c = anew_nothing c.args.m.now c.args.threads c.args.blocks (omega arith) _ (c.clear_all_held.ensures
+returns c = anew_nothing c.args.m.now c.args.l.threads c.args.l.blocks (omega arith) _ (c.clear_all_held.ensures
     ∙ ap (put_held []) c.set_runner.ensures)

@@ -15,5 +15,5 @@ bounds-m-4 c = simp length-set (omega arith)
 
 pub returns : goal.returns
 unfolding rows_of
-returns c = runner_put c.args.m.now c.runner_words-w.result.name c.runner_words-w.result.slice c.args.r (omega arith)
-    c.runner_words-w.ensures
+returns c = runner_put c.args.m.now c.runner_words-name.result.0 c.runner_words-name.result.1 c.args.r (omega arith)
+    c.runner_words-name.ensures

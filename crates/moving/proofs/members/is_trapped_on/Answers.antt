@@ -1,39 +1,22 @@
 -- `moving::members::is_trapped_on` meets its contract. It asks of the one manager that the thread waits for, not of each member.
-use mathlib.Core.Path.{sym, ◌∙◌}
-use lib.ListN.{take}
+use Rattle.std.proofs.Common.{◌≡◌, get_or, take, sym, ap, ◌∙◌}
 use Rattle.rules.specs.States.{trapped_on}
+use Rattle.laws.specs.Words.{Thread, Trapped}
 use Rattle.memory.specs.Memory.{rows_of}
-use Rattle.moving.proofs.Sets.{never, managed}
-use Rattle.memory.specs.Rows.{members}
+use Rattle.memory.specs.Rows.{members, no_thread}
+use Rattle.moving.proofs.Sets.{not_trapped, managed}
 use Rattle.moving.proofs.members.is_trapped_on.Goals as goal
-
-pub returns-in-Running : goal.returns-in-Running
-unfolding trapped_on
-returns-in-Running c = rw (sym c.state_at-s.ensures ∙ c.in-Running.is) (never _)
-
-pub returns-in-Ready : goal.returns-in-Ready
-unfolding trapped_on
-returns-in-Ready c = rw (sym c.state_at-s.ensures ∙ c.in-Ready.is) (never _)
-
-pub returns-in-Receiving : goal.returns-in-Receiving
-unfolding trapped_on
-returns-in-Receiving c = rw (sym c.state_at-s.ensures ∙ c.in-Receiving.is) (never _)
-
-pub returns-in-Clock : goal.returns-in-Clock
-unfolding trapped_on
-returns-in-Clock c = rw (sym c.state_at-s.ensures ∙ c.in-Clock.is) (never _)
-
-pub returns-in-Device : goal.returns-in-Device
-unfolding trapped_on
-returns-in-Device c = rw (sym c.state_at-s.ensures ∙ c.in-Device.is) (never _)
 
 pub returns-in-Trapped : goal.returns-in-Trapped
 unfolding trapped_on
-returns-in-Trapped c = rw (
-  sym c.state_at-s.ensures
-      ∙ c.in-Trapped.is,
-  ← c.manager_at-g.ensures,
-) (c.is_managed.ensures (members (rows_of c.args.m.now))
-    c.requires.3
-    ∙ sym (managed (take c.args.n
-    (members (rows_of c.args.m.now))) c.manager_at-g.result))
+returns-in-Trapped c =
+    let l = take c.args.n (members (rows_of c.args.m.now)) in
+    let s : c.record-t.result.state ≡ Trapped c.in-Trapped.k = sym c.state.ensures ∙ c.in-Trapped.is in
+    rw (← c.record-t.ensures, s, ← c.manager.ensures)
+    (c.is_managed.ensures (members (rows_of c.args.m.now)) c.requires.3 ∙ sym (managed l c.manager.result))
+
+pub returns-in_default : goal.returns-in_default
+returns-in_default c =
+    let t = get_or (rows_of c.args.m.now).threads c.args.i no_thread in
+    not_trapped (take c.args.n (members (rows_of c.args.m.now))) t
+    (λ k e. c.in_default.not-Trapped k (c.state.ensures ∙ ap (λ (x : Thread). x.state) c.record-t.ensures ∙ e))

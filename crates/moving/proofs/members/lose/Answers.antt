@@ -20,7 +20,8 @@ returns-then-is_managed c =
     rw (is_gone _ _
     (sym (rw (
       c.ends-n.ensures,
-      c.manager_at-g.ensures,
+      c.manager.ensures,
+      c.record.ensures,
       take-take (rows_of c.args.m.now).ends
           (rows_of c.args.m.now).ends
           (rows_of c.args.m.now).ended
@@ -35,7 +36,8 @@ returns-else-is_managed c =
     lose_none _ _ _
     (sym (rw (
       c.ends-n.ensures,
-      c.manager_at-g.ensures,
+      c.manager.ensures,
+      c.record.ensures,
       take-take (rows_of c.args.m.now).ends
           (rows_of c.args.m.now).ends
           (rows_of c.args.m.now).ended (omega arith),

@@ -6,20 +6,22 @@ use Rattle.memory.specs.Rows.{Rows, no_thread}
 use Rattle.memory.proofs.Sizes.{threads_long, same_room}
 use Rattle.moving.proofs.Loops.{turn_starts, turn_next, turn_by, turn_ends}
 use Rattle.moving.proofs.Steps.{by, Within, the_threads, begins, writes, stays, threads_are}
+use Rattle.rules.specs.States.{on_clock}
+use Rattle.laws.specs.Words.{Thread}
 use Rattle.moving.proofs.threads.wake_clock.Goals as goal
 
 pub loop-i-init : goal.loop-i-init
 loop-i-init c = begins the_threads
     (turn_starts _ _ _ _
-    (omega (arith, c.count-n.ensures, c.requires.1, threads_long c.args.m.now)))
+    (omega (arith, c.count-i-end.ensures, c.requires.1, threads_long c.args.m.now)))
 
-pub on_clock_at-requires : goal.on_clock_at-requires
-on_clock_at-requires c = by (Within _) c.loop-i.invariant.only (
+pub record-requires : goal.record-requires
+record-requires c = by (Within _) c.loop-i.invariant.only (
   c.requires.0,
   omega (
     arith,
     c.requires.1,
-    c.count-n.ensures,
+    c.count-i-end.ensures,
     c.loop-i-test.true,
   ),
 )
@@ -30,34 +32,22 @@ turn-requires c = by (Within _) c.loop-i.invariant.only (
   omega (
     arith,
     c.requires.1,
-    c.count-n.ensures,
+    c.count-i-end.ensures,
     c.loop-i-test.true,
   ),
 )
 
-pub overflow_add-i : goal.overflow_add-i
-overflow_add-i c = omega arith
-
-pub loop-i-smaller-then-on_clock_at : goal.loop-i-smaller-then-on_clock_at
-loop-i-smaller-then-on_clock_at c = omega arith
-
-pub loop-i-preserved-then-on_clock_at : goal.loop-i-preserved-then-on_clock_at
-loop-i-preserved-then-on_clock_at c = writes the_threads _ c.loop-i.invariant
+pub loop-i-preserved : goal.loop-i-preserved
+loop-i-preserved c = writes the_threads _ c.loop-i.invariant
     c.turn.ensures
     (turn_next _ _ _ _ _ _ _ no_thread c.loop-i.invariant.so
-    c.loop-i-test.true
-    (sym c.on_clock_at.ensures ∙ c.if-on_clock_at.true) refl)
+    (omega (arith, c.count-i-end.ensures, c.loop-i-test.true))
+    (sym (c.on_clock.ensures ∙ ap (λ (t : Thread). on_clock t.state) c.record.ensures) ∙ c.if-not-on_clock.false) refl)
 
-pub overflow_add-i-else-on_clock_at : goal.overflow_add-i-else-on_clock_at
-overflow_add-i-else-on_clock_at c = omega arith
-
-pub loop-i-smaller : goal.loop-i-smaller
-loop-i-smaller c = omega arith
-
-pub loop-i-preserved : goal.loop-i-preserved
-loop-i-preserved c = stays the_threads c.loop-i.invariant
-    (turn_by _ _ _ _ _ _ no_thread c.loop-i.invariant.so c.loop-i-test.true
-    (sym c.on_clock_at.ensures ∙ c.if-on_clock_at.false))
+pub loop-i-preserved-then-not-on_clock : goal.loop-i-preserved-then-not-on_clock
+loop-i-preserved-then-not-on_clock c = stays the_threads c.loop-i.invariant
+    (turn_by _ _ _ _ _ _ no_thread c.loop-i.invariant.so (omega (arith, c.count-i-end.ensures, c.loop-i-test.true))
+    (sym (c.on_clock.ensures ∙ ap (λ (t : Thread). on_clock t.state) c.record.ensures) ∙ c.if-not-on_clock.true))
 
 pub shape_of-m : goal.shape_of-m
 shape_of-m c =
@@ -65,4 +55,4 @@ shape_of-m c =
 
 pub returns : goal.returns
 returns c = threads_are c.loop-i.invariant.only
-    (rw (← c.count-n.ensures) (turn_ends _ _ _ _ _ _ c.loop-i.invariant.so c.loop-i-test.false))
+    (turn_ends _ _ _ _ _ _ c.loop-i.invariant.so (omega (arith, c.count-i-end.ensures, c.loop-i-test.false)))

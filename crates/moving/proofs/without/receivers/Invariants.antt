@@ -1,12 +1,7 @@
 -- `moving::without::receivers` meets its contract. The loop: Freeing, of Sets.antt.
-use Prim.Native.Nat.{◌-◌}
-use mathlib.Core.Path.{◌≡◌}
 use Rattle.memory.specs.Memory.{rows_of}
 use Rattle.moving.proofs.Sets.{Freeing}
 use Rattle.moving.proofs.without.receivers.Given as goal
 
 abbrev pub invariant-loop-i : goal.invariant-loop-i
-invariant-loop-i l = Freeing (rows_of l.initial.m) (rows_of l.m) l.i × (l.n ≡ (rows_of l.initial.m).count)
-
-abbrev pub decreases-loop-i : goal.decreases-loop-i
-decreases-loop-i l = l.n - l.i
+invariant-loop-i l = Freeing (rows_of l.initial.m) (rows_of l.m) l.i
