@@ -152,7 +152,7 @@ pub fn record(m: &[u32], i: usize) -> ThreadWords<'_>
     }
 }
 
-// The threads one after another, by rising name.
+// The threads one after another, by rising name. Each of the three walks is a type of its own: a model's Value cannot use a trait's members.
 #[derive(Drop)]
 pub struct ThreadWalk<'a> {
     words: &'a [u32],
