@@ -67,7 +67,7 @@ pub(crate) const CLOCK: usize = 13;
 
 const ENDED: usize = 14;
 
-// ---- the head
+// ---- the head. Each word has its own two functions: their clauses name different fields, so one function of a word's number says no more.
 
 // The limit of threads.
 pub fn limit(m: &[u32]) -> usize

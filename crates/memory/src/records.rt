@@ -16,6 +16,11 @@ use rules::{Answer, Manager, Message, MessageKind, Parent, State, Thread, TrapKi
 use std::marker::Model;
 use words::{looks, saying};
 
+// The first word of a thread, and of a message.
+const NAME: usize = 0;
+
+const TO: usize = 0;
+
 // ---- a thread
 
 // A thread, as the words of its record tell it.
@@ -38,7 +43,7 @@ impl<'a> ThreadWords<'a> {
     pub fn name(&self) -> u8
         ensures { result ≡ self.now.name }
     {
-        saying::byte(self.words[0])
+        saying::byte(self.words[NAME])
     }
 
     #[inline(always)]
@@ -88,7 +93,7 @@ impl<'a> ThreadWords<'a> {
     pub fn words(&self) -> &[u32]
         ensures { (length result.now ≡ 11) × (thread_in result.now ≡ self.now) }
     {
-        self.words
+        &self.words[..11]
     }
 
     // ---- tests for which its state is not made, so a walk over many is short
@@ -147,7 +152,7 @@ pub fn record(m: &[u32], i: usize) -> ThreadWords<'_>
     }
 }
 
-// The threads one after another, by rising name.
+// The threads one after another, by rising name. Each of the three walks is a type of its own: a model's Value cannot use a trait's members.
 #[derive(Drop)]
 pub struct ThreadWalk<'a> {
     words: &'a [u32],
@@ -218,7 +223,7 @@ impl<'a> MessageWords<'a> {
     pub fn to(&self) -> u8
         ensures { result ≡ self.now.to }
     {
-        saying::byte(self.words[0])
+        saying::byte(self.words[TO])
     }
 
     #[inline(always)]

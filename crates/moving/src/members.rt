@@ -15,19 +15,12 @@ ghost use Rattle.moving.specs.Marks.{Marks};
 use memory::{memory as rows, records};
 use rules::{Manager, Parent, State, TrapKind, Wanted};
 
-// A byte as a place. A call asks for no bound of an array's byte, where a cast would.
-fn wide(b: u8) -> usize
-    ensures { result ≡ b }
-{
-    b as usize
-}
-
 // Is the name among the first n of the set?
 pub(crate) fn has(marks: &[u8; 256], n: usize, name: u8) -> bool
     requires { n ≤ 255 }
     ensures { (xs : List ℕ) → Marks xs marks.now → result ≡ has_in name (take n xs) }
 {
-    wide(marks[name as usize]) < n
+    usize::from(marks[name as usize]) < n
 }
 
 // Is the name in the set?

@@ -67,11 +67,12 @@ pub fn find_place(m: &[u32], name: u8) -> usize
         × Rising (view (rows_of m.now)).threads }
     ensures { result ≡ place (λ t. not (ltb t.name name)) (view (rows_of m.now)).threads }
 {
+    // A loop of its own: the library's partition_point is on slices, and the names stand apart, one in each record.
     let mut low = 0;
     let mut high = rows::count(m);
     while low < high {
         let middle = low + (high - low) / 2;
-        if rows::name_at(m, middle) < name {
+        if records::record(m, middle).name() < name {
             low = middle + 1;
         } else {
             high = middle;

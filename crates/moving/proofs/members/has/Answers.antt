@@ -6,5 +6,5 @@ use lib.Dec.{ltb}
 use Rattle.moving.proofs.members.has.Goals as goal
 
 pub returns : goal.returns
-returns c = λ xs M. ap (λ (k : ℕ). ltb k c.args.n) c.wide.ensures
+returns c = λ xs M. ap (λ (k : ℕ). ltb k c.args.n) c.from.ensures
     ∙ M.told c.args.name c.args.n (omega arith) c.requires
