@@ -22,7 +22,8 @@ fn successor(name: u8) -> u8
     next as u8
 }
 
-// The first name behind `last`, up to 253, that no thread has, or 0 where all of them are in use. The threads stand by rising name: the
+// The first name behind `last`, up to 253, that no thread has, or 0 where all of them are in use: so the rules' free_name has it, which goes
+// on from there, and 0 may be free. The threads stand by rising name: the
 // walk begins at the first one that is not below, and each that has the name moves it on. It ends before a higher name, or behind the
 // last thread.
 fn free_behind(m: &[u32], last: u8) -> u8

@@ -1,14 +1,15 @@
 -- The bytes of one field: the numbers in them, how long each tag's field is, and what the rules say of each exit of the decoder.
 use Rattle.std.proofs.Common.{if◌then◌else◌, ◌==◌, Some, None}
 use Prim.Native.Nat.{ℕ, suc, ◌+◌, ◌*◌, ◌≤◌, ◌<◌}
-use mathlib.Core.Path.{◌≡◌, refl, ◌∙◌}
+use mathlib.Core.Path.{◌≡◌, refl, sym, ◌∙◌}
 use mathlib.Core.Logic.{◌≢◌}
 use mathlib.Core.Bool.{Bool, true, false, ◌&&◌, false≢true}
 use mathlib.Core.List.{List, [], ◌∷◌}
 use native.Mathlib.Omega.{arith}
 use lib.ListN.{length, take, drop, get_or, length-drop}
 use lib.Seq.{take_all, take-add, drop-drop, get_or-drop, drop-cons, drop-length}
-use mir.Syntax.{w8}
+use mir.Syntax.{w8, w16}
+use Rattle.std.specs.Int.{from_be_bytes}
 use mir.Val.{Fits}
 use borrow.Author.Tests.{eqb-true, eq-eqb, ne_eqb, lt-ltb}
 use Rattle.rules.specs.Lists.{all, is_byte, number_from, number}
@@ -168,6 +169,11 @@ pub record Head (l : List ℕ) (f : EventField) (n : ℕ) : Type 0 where
   pub long : 3 ≤ length l
   pub says : event_field (tag_facts (get_or l 0 0)) ≡ Some f
   pub gives : n ≡ get_or l 1 0 * 256 + get_or l 2 0
+
+pub heads : {l : List ℕ} {f : EventField} {n : ℕ} {o : Option EventField} → ((i : ℕ) → Fits w8 (get_or l i 0)) → 3 ≤ length l →
+    o ≡ event_field (tag_facts (get_or l 0 0)) → o ≡ Some f → n ≡ from_be_bytes w16 (get_or l 1 0 ∷ get_or l 2 0 ∷ []) → Head l f n
+heads {l} bytes long says known given =
+    record { bytes = bytes; long = long; says = sym says ∙ known; gives = omega (arith, given) }
 
 module _ {l : List ℕ} {f : EventField} {n : ℕ} (h : Head l f n) where
   pub known : ((tag_facts (get_or l 0 0)).known ≡ true) × ((tag_facts (get_or l 0 0)).length ≡ f.length)

@@ -1,4 +1,4 @@
-// Events as bytes: what one field means.
+// Events as bytes: what one field means. What means nothing is an event of the rules (Events.decode, Proper), so it is Malformed and not None.
 ghost use Rattle.std.specs.Prelude.{◌≡◌, true, ◌+◌, ◌≤◌, ◌<◌, length, take, drop, if◌then◌else◌};
 ghost use Rattle.rules.specs.Lists.{number};
 ghost use Rattle.rules.specs.Pick.{pick as pick_of};
@@ -9,6 +9,7 @@ ghost use Rattle.rules.specs.Tags.{target as target_of, tag_facts as facts_of, m
 
 use rules::{Call, Event, Target, TrapKind, Wanted, numbers, pick, tags};
 
+// As a From it would have to stand in crate rules, and only request 3 reads a byte so.
 fn target(n: u8) -> Target
     ensures { result ≡ target_of n }
 {
@@ -19,21 +20,12 @@ fn target(n: u8) -> Target
     }
 }
 
-// A byte as a number that has room for four.
-fn wide(x: u8) -> u32
-    ensures { (result ≡ x) × (result < 256) }
-{
-    x as u32
-}
-
 // The number in four bytes of a slice.
 fn word_at(s: &[u8], at: usize) -> u32
     requires { at + 4 ≤ length s.now }
     ensures { result ≡ number (take 4 (drop at s.now)) }
 {
-    let high = wide(s[at]) * 256 + wide(s[at + 1]);
-    let low = wide(s[at + 2]) * 256 + wide(s[at + 3]);
-    high * 65536 + low
+    u32::from_be_bytes([s[at], s[at + 1], s[at + 2], s[at + 3]])
 }
 
 // The number in eight bytes of a slice.
@@ -41,12 +33,12 @@ fn pending_at(s: &[u8], at: usize) -> u64
     requires { at + 8 ≤ length s.now }
     ensures { result ≡ number (take 8 (drop at s.now)) }
 {
-    let high = word_at(s, at) as u64;
-    let low = word_at(s, at + 4) as u64;
+    let high = u64::from(word_at(s, at));
+    let low = u64::from(word_at(s, at + 4));
     high * 4294967296 + low
 }
 
-// A request whose argument meets its service's rule.
+// A request whose argument meets its service's rule. The numbers are the document's, as in the rules' table `services`.
 fn request(service: u8, argument: u8) -> Call
     requires { meets_of (rule_of service) argument ≡ true }
     ensures { ByTheRunner result ≡ request_of service argument }
@@ -78,6 +70,7 @@ fn trap(kind: u8, cause: u32) -> Event
 fn interrupt(pending: u64, word: u32) -> Event
     ensures { result ≡ interrupt_for (pick_of pending) word }
 {
+    // What the pick answers is laid out as in C: 0 is no refusal.
     let p = pick::pick(pending);
     if p.refusal == 0 {
         Event::Interrupt(p.device, word)
@@ -89,8 +82,7 @@ fn interrupt(pending: u64, word: u32) -> Event
 fn asked(service: u8, argument: u8) -> Event
     ensures { result ≡ (if meets_of (rule_of service) argument then request_of service argument else Rubbish) }
 {
-    let rule = tags::argument_rule(service);
-    if tags::meets(rule, argument) {
+    if tags::meets(tags::argument_rule(service), argument) {
         Event::ByRunner(request(service, argument))
     } else {
         Event::Malformed
@@ -123,11 +115,8 @@ pub fn decode(s: &[u8]) -> Event
     let Some(f) = tags::tag_facts(tag) else {
         return Event::Malformed;
     };
-    let length = (wide(s[1]) * 256 + wide(s[2])) as usize;
-    if length != f.length as usize {
-        return Event::Malformed;
-    }
-    if s.len() != length + 3 {
+    let length = u16::from_be_bytes([s[1], s[2]]);
+    if length != f.length || s.len() != usize::from(length) + 3 {
         return Event::Malformed;
     }
     meaning(tag, s)

@@ -56,7 +56,8 @@ fn act(m: &mut [u32], e: Accepted) -> Answer
     Answer::Nothing
 }
 
-// What a step reports: the refusal, the status and the runner as they stand now, and the answer.
+// What a step reports: the refusal, the status and the runner as they stand now, and the answer. Here a refusal becomes the document's
+// number: the rules' Decision has numbers, and C reads them.
 fn decided(m: &[u32], refusal: u8, answer: Answer) -> Decision
     requires { Shaped m.now }
     ensures { result ≡ (decided_of refusal (tables m.now handing answer)).decision }

@@ -30,6 +30,7 @@ pub fn fill_thread(m: &mut [u32], t: Thread)
     rows::set_count(m, n + 1);
 }
 
+// As join_ready in queues.rt, but asks of no order of names, and promises none; so with fill_clock and fill_held.
 pub fn fill_ready(m: &mut [u32], name: u8)
     requires { Shaped m.old × (length (tables m.old).ready < (limits m.old).threads) }
     ensures { Fills m.old m.new

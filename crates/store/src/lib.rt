@@ -1,9 +1,6 @@
 // What handlers use: the memory in the words of the rules. Every name that they need stands here; another store with these names and
 // promises would serve the same handlers.
-#![tactic(
-    auto,
-    unfolding(crate::specs::Store::tables, crate::specs::Store::limits, crate::specs::Store::Shaped)
-)]
+#![tactic(auto, unfolding(crate::specs::Store::tables, crate::specs::Store::limits, crate::specs::Store::Shaped))]
 
 mod ended;
 mod filling;

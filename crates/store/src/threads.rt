@@ -42,7 +42,7 @@ pub fn name_at(m: &[u32], i: usize) -> u8
     records::record(m, i).name()
 }
 
-// Where the first thread stands whose name is not below this one, or how many there are.
+// Where the first thread stands whose name is not below this one, or how many there are: a walk from there ends at once, so no Option.
 pub fn place_of(m: &[u32], name: u8) -> usize
     requires { Holding m.now }
     ensures { result ≡ place (λ t. not (nat_lt t.name name)) (tables m.now).threads }
