@@ -252,28 +252,6 @@ pub fn hint_waiter(m: &mut [u32], i: usize)
 
 // ---- threads, field by field
 
-pub fn name_at(m: &[u32], i: usize) -> u8
-    requires { Roomy (rows_of m.now) × (i < (rows_of m.now).limits.threads) }
-    ensures { result ≡ (get_or (rows_of m.now).threads i no_thread).name }
-{
-    saying::byte(m[THREADS + i * RECORD])
-}
-
-pub fn parent_at(m: &[u32], i: usize) -> Parent
-    requires { Roomy (rows_of m.now) × (i < (rows_of m.now).limits.threads) }
-    ensures { result ≡ (get_or (rows_of m.now).threads i no_thread).parent }
-{
-    saying::parent_from(m[THREADS + i * RECORD + 1])
-}
-
-pub fn state_at(m: &[u32], i: usize) -> State
-    requires { Roomy (rows_of m.now) × (i < (rows_of m.now).limits.threads) }
-    ensures { result ≡ (get_or (rows_of m.now).threads i no_thread).state }
-{
-    let at = THREADS + i * RECORD;
-    saying::state_from(m[at + 2], m[at + 3])
-}
-
 // Where the manager entry of a kind stands in a record.
 pub(crate) fn manager_word(k: TrapKind) -> usize
     ensures { result ≡ manager_place k }
@@ -285,57 +263,7 @@ pub(crate) fn manager_word(k: TrapKind) -> usize
     }
 }
 
-pub fn manager_at(m: &[u32], i: usize, k: TrapKind) -> Manager
-    requires { Roomy (rows_of m.now) × (i < (rows_of m.now).limits.threads) }
-    ensures { result ≡ manager_of k (get_or (rows_of m.now).threads i no_thread).managers }
-{
-    let at = THREADS + i * RECORD + manager_word(k);
-    saying::manager_from(m[at])
-}
-
-pub fn ticks_at(m: &[u32], i: usize) -> u32
-    requires { Roomy (rows_of m.now) × (i < (rows_of m.now).limits.threads) }
-    ensures { result ≡ (get_or (rows_of m.now).threads i no_thread).ticks }
-{
-    m[THREADS + i * RECORD + 7]
-}
-
-pub fn answer_at(m: &[u32], i: usize) -> Answer
-    requires { Roomy (rows_of m.now) × (i < (rows_of m.now).limits.threads) }
-    ensures { result ≡ (get_or (rows_of m.now).threads i no_thread).answer }
-{
-    let at = THREADS + i * RECORD;
-    saying::answer_from(m[at + 8], m[at + 9], m[at + 10])
-}
-
-// The whole thread. It reads eleven words: a loop asks for the field that it wants.
-pub fn thread_at(m: &[u32], i: usize) -> Thread
-    requires { Roomy (rows_of m.now) × (i < (rows_of m.now).limits.threads) }
-    ensures { result ≡ get_or (rows_of m.now).threads i no_thread }
-{
-    let at = THREADS + i * RECORD;
-    saying::read_thread(&m[at..at + 11])
-}
-
 // ---- a test on the thread at a place: its state is not made, so a walk over many is short
-
-// Would it receive from this sender?
-pub fn receives_at(m: &[u32], i: usize, sender: u8) -> bool
-    requires { Roomy (rows_of m.now) × (i < (rows_of m.now).limits.threads) }
-    ensures { result ≡ receives sender (get_or (rows_of m.now).threads i no_thread).state }
-{
-    let at = THREADS + i * RECORD;
-    looks::receives(sender, m[at + 2], m[at + 3])
-}
-
-// Is it trapped, and n the manager that it waits for?
-pub fn trapped_on_at(m: &[u32], i: usize, n: u8) -> bool
-    requires { Roomy (rows_of m.now) × (i < (rows_of m.now).limits.threads) }
-    ensures { result ≡ awaits n (get_or (rows_of m.now).threads i no_thread) }
-{
-    let at = THREADS + i * RECORD;
-    looks::awaits(n, &m[at..at + 11])
-}
 
 // ---- a thread changed
 
@@ -449,30 +377,6 @@ pub fn put_ended(m: &mut [u32], i: usize, name: u8)
 }
 
 // ---- messages and notices
-
-pub fn receiver_at(m: &[u32], i: usize) -> u8
-    requires { Roomy (rows_of m.now) × (i < (rows_of m.now).limits.threads + (rows_of m.now).limits.blocks) }
-    ensures { result ≡ (get_or (rows_of m.now).messages i no_message).to }
-{
-    let at = THREADS + (m[LIMIT] as usize) * RECORD + i * MESSAGE;
-    saying::byte(m[at])
-}
-
-pub fn sender_at(m: &[u32], i: usize) -> u8
-    requires { Roomy (rows_of m.now) × (i < (rows_of m.now).limits.threads + (rows_of m.now).limits.blocks) }
-    ensures { result ≡ (get_or (rows_of m.now).messages i no_message).from }
-{
-    let at = THREADS + (m[LIMIT] as usize) * RECORD + i * MESSAGE;
-    saying::sender_from(m[at + 1])
-}
-
-pub fn kind_at(m: &[u32], i: usize) -> MessageKind
-    requires { Roomy (rows_of m.now) × (i < (rows_of m.now).limits.threads + (rows_of m.now).limits.blocks) }
-    ensures { result ≡ (get_or (rows_of m.now).messages i no_message).kind }
-{
-    let at = THREADS + (m[LIMIT] as usize) * RECORD + i * MESSAGE;
-    saying::kind_from(m[at + 1])
-}
 
 pub fn message_at(m: &[u32], i: usize) -> Message
     requires { Roomy (rows_of m.now) × (i < (rows_of m.now).limits.threads + (rows_of m.now).limits.blocks) }
@@ -621,11 +525,3 @@ pub fn shaped(m: &[u32], l: Limits) -> bool
 
 // ---- words as they stand, for a dump
 
-// The words of the thread at a place.
-pub fn thread_words(m: &[u32], i: usize) -> &[u32]
-    requires { Roomy (rows_of m.now) × (i < (rows_of m.now).limits.threads) }
-    ensures { (length result.now ≡ 11) × (thread_in result.now ≡ get_or (rows_of m.now).threads i no_thread) }
-{
-    let at = THREADS + i * RECORD;
-    &m[at..at + 11]
-}
