@@ -16,9 +16,10 @@ fn above(x: &Index<'_>, i: usize, name: u8, p: Parent) -> usize
     ensures { result ≡ above_of (tables x.now).threads i name p }
 {
     match p {
-        Parent::NoParent if name == 0 => rows::count(x.words()),
+        Parent::NoParent if name != 0 => i,
+        Parent::NoParent => rows::count(x.words()),
         Parent::ParentIs(m) if name != 0 => x.place_of(m).unwrap_or(i),
-        _ => i,
+        Parent::ParentIs(_) => i,
     }
 }
 
