@@ -23,7 +23,7 @@ fn above(x: &Index<'_>, i: usize, name: u8, p: Parent) -> usize
     }
 }
 
-// What stands above each thread.
+// What stands above each thread, by places: each entry is written at its thread's place, which a walk does not say.
 fn upward(x: &Index<'_>) -> [u8; 256]
     ensures { Upward (tables x.now).threads result }
 {
