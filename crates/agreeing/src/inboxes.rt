@@ -21,8 +21,9 @@ use words::states;
 fn is_match(x: &Index<'_>, l: &MessageWords<'_>) -> bool
     ensures { result ≡ any (accepts l.now) (tables x.now).threads }
 {
-    match x.place_of(l.to()) {
-        Some(j) => records::record(x.words(), j).receives(l.from()),
+    let (to, from) = (l.to(), l.from());
+    match x.place_of(to) {
+        Some(j) => records::record(x.words(), j).receives(from),
         None => false,
     }
 }

@@ -1,4 +1,4 @@
-// The index of names that a table check makes once, and passes over the rows of a memory.
+// The index of names that a table check makes once, and looks names up in.
 #![tactic(auto)]
 
 pub mod index;

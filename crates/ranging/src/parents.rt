@@ -16,13 +16,14 @@ fn above(x: &Index<'_>, i: usize, name: u8, p: Parent) -> usize
     ensures { result ≡ above_of (tables x.now).threads i name p }
 {
     match p {
-        None if name == 0 => rows::count(x.words()),
+        None if name != 0 => i,
+        None => rows::count(x.words()),
         Some(m) if name != 0 => x.place_of(m).unwrap_or(i),
-        _ => i,
+        Some(_) => i,
     }
 }
 
-// What stands above each thread.
+// What stands above each thread, by places: each entry is written at its thread's place, which a walk does not say.
 fn upward(x: &Index<'_>) -> [u8; 256]
     ensures { Upward (tables x.now).threads result }
 {

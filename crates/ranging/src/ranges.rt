@@ -1,4 +1,5 @@
-// Ranges, names and orders.
+// Ranges, names and orders. `Shaped m.now` stays a clause: the walks of crates/memory ask for it of the lent words, and a type around these
+// would only repeat each walk.
 #![tactic(auto, unfolding(rules::specs::TableRules::state_in_range, store::specs::Store::Shaped, store::specs::Store::tables, store::specs::Store::limits))]
 
 ghost use Rattle.std.specs.Prelude.{◌≡◌, true, ltb, leb};
