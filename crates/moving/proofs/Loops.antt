@@ -1,17 +1,16 @@
 -- Loops over a row: what is written so far, followed by what the rule makes of the rest, is what the rule makes of all.
 -- n counts the row's entries, r₀ is the array as it came, r as it is, i the place in it.
 use Rattle.std.proofs.Common.{if◌then◌else◌}
-use Prim.Native.Nat.{ℕ, suc, ◌+◌, ◌-◌, ◌≤◌, ◌<◌}
+use Prim.Native.Nat.{ℕ, ◌+◌, ◌-◌, ◌≤◌, ◌<◌}
 use mathlib.Core.Path.{◌≡◌, refl, sym, ◌∙◌, ap, ap₂, subst}
-use mathlib.Core.Bool.{Bool, true, false, ◌&&◌, ◌||◌}
+use mathlib.Core.Bool.{Bool, true, false, ◌&&◌}
 use mathlib.Core.List.{List, [], ◌∷◌, ◌++◌, map, map-id, append-nil}
 use native.Mathlib.Numerals.{add-one}
 use native.Mathlib.Omega.{arith}
 use lib.ListN.{length, take, drop, get_or, set, length-set, drop_of_length-le}
 use lib.Seq.{drop-cons, get_or-take, get_or-drop, get_or-set_same, take-suc-set, take-set-le, take-set-lt, drop-set-lt, length-take-le}
 use lib.Seq.{append_snoc, take-take, drop-drop, set-get_or, set_split}
-use Rattle.rules.specs.Lists.{keep, count, any, one_if, all}
-use Rattle.memory.specs.Rows.{place}
+use Rattle.rules.specs.Lists.{keep, count, one_if, all}
 
 module _ {A : Type 0} where
   -- ---- an array's entries from i on
@@ -97,36 +96,6 @@ module _ {A : Type 0} where
         let e : i ≡ n = omega (arith, M.left.within) in
         ap (λ (k : ℕ). take k r) (sym e)
         ∙ (sym (append-nil (take i r)) ∙ (ap (λ (l : List A). take i r ++ map f l) (sym (cut_end r₀ n i M.left.whole h)) ∙ M.so))
-
-  -- ---- where the first stands that passes
-  module _ (p : A → Bool) (n : ℕ) (r : List A) where
-    pub record Sought (i : ℕ) : Type 0 where
-      pub whole : n ≤ length r
-      pub within : i ≤ n
-      pub so : place p (take n r) ≡ i + place p (drop i (take n r))
-
-    pub seek_starts : n ≤ length r → Sought 0
-    seek_starts h = record { whole = h; within = omega arith; so = omega arith }
-
-    pub seek_next : (i : ℕ) (d : A) → Sought i → i < n → p (get_or r i d) ≡ false → Sought (i + 1)
-    unfolding place
-    seek_next i d S h e =
-        let q : place p (drop i (take n r)) ≡ suc (place p (drop (i + 1) (take n r))) =
-        ap (place p) (cut_cons r n i d S.whole h) ∙ ap (λ (b : Bool). if b then 0 else suc (place p (drop (i + 1) (take n r)))) e in
-        record { whole = S.whole; within = omega arith; so = S.so ∙ (ap (λ (k : ℕ). i + k) q ∙ omega arith) }
-
-    pub seek_finds : (i : ℕ) (d : A) → Sought i → i < n → p (get_or r i d) ≡ true → i ≡ place p (take n r)
-    unfolding place
-    seek_finds i d S h e =
-        let q : place p (drop i (take n r)) ≡ 0 =
-        ap (place p) (cut_cons r n i d S.whole h) ∙ ap (λ (b : Bool). if b then 0 else suc (place p (drop (i + 1) (take n r)))) e in
-        omega (arith, S.so)
-
-    pub seek_ends : (i : ℕ) → Sought i → n ≤ i → i ≡ place p (take n r)
-    unfolding place
-    seek_ends i S h =
-        let q : place p (drop i (take n r)) ≡ 0 = ap (place p) (cut_end r n i S.whole h) in
-        omega (arith, S.so)
 
   -- ---- those that pass, changed and closed up
   module _ (p : A → Bool) (g : A → A) (n : ℕ) (r₀ : List A) where
@@ -407,31 +376,6 @@ module _ {A : Type 0} where
     pub count_ends : (k i : ℕ) → Counted k i → n ≤ i → k ≡ count p (take n r)
     unfolding count
     count_ends k i C h = let z : count p (drop i (take n r)) ≡ 0 = ap (count p) (cut_end r n i C.whole h) in omega (arith, C.so)
-
-  -- ---- does one pass?
-  module _ (p : A → Bool) (n : ℕ) (r : List A) where
-    pub record Missed (i : ℕ) : Type 0 where
-      pub whole : n ≤ length r
-      pub within : i ≤ n
-      pub so : any p (take n r) ≡ any p (drop i (take n r))
-
-    pub any_starts : n ≤ length r → Missed 0
-    any_starts h = record { whole = h; within = omega arith; so = refl }
-
-    any_cons : (i : ℕ) (d : A) → Missed i → i < n → any p (take n r) ≡ (p (get_or r i d) || any p (drop (i + 1) (take n r)))
-    unfolding any
-    any_cons i d M h = M.so ∙ ap (any p) (cut_cons r n i d M.whole h)
-
-    pub any_next : (i : ℕ) (d : A) → Missed i → i < n → p (get_or r i d) ≡ false → Missed (i + 1)
-    any_next i d M h e =
-        record { whole = M.whole; within = omega arith; so = any_cons i d M h ∙ ap (λ (b : Bool). b || any p (drop (i + 1) (take n r))) e }
-
-    pub any_finds : (i : ℕ) (d : A) → Missed i → i < n → p (get_or r i d) ≡ true → true ≡ any p (take n r)
-    any_finds i d M h e = sym (any_cons i d M h ∙ ap (λ (b : Bool). b || any p (drop (i + 1) (take n r))) e)
-
-    pub any_ends : (i : ℕ) → Missed i → n ≤ i → false ≡ any p (take n r)
-    unfolding any
-    any_ends i M h = sym (M.so ∙ ap (any p) (cut_end r n i M.whole h))
 
   -- ---- those that pass changed, the others as they are
   module _ (p : A → Bool) (g : A → A) (n : ℕ) (r₀ : List A) where

@@ -4,14 +4,14 @@ use mathlib.Core.Path.{◌≡◌, refl, sym, ap, ◌∙◌}
 use mathlib.Core.Bool.{Bool, true, false, not}
 use mathlib.Core.List.{List, [], ◌∷◌, ◌++◌}
 use native.Mathlib.Omega.{arith}
-use lib.ListN.{length, take, drop, get_or, set, length-append, length-set}
+use lib.ListN.{length, take, drop, get_or, set, length-append}
 use lib.Seq.{length-take-le}
-use Rattle.laws.specs.Words.{Thread, Message}
-use Rattle.memory.specs.Rows.{Rows, view, Roomy, put_threads, put_count, put_ready, put_readies, put_clock, put_clocks, put_messages}
-use Rattle.memory.specs.Rows.{put_letters, ReadyIs, ClockIs, ThreadsAre, ThreadsLeft, MessagesAre}
+use Rattle.laws.specs.Words.{Thread}
+use Rattle.memory.specs.Rows.{Rows, view, Roomy, put_threads, put_count, put_ready, put_readies}
+use Rattle.memory.specs.Rows.{ReadyIs, ThreadsAre, ThreadsLeft}
 pub use Rattle.moving.specs.Row.{Row, the_threads, the_ready, the_clock, the_messages}
 use Rattle.moving.specs.Row.{RowIs}
-use Rattle.moving.proofs.Loops.{wrote, Sifted, sift_drops, sift_holds, Shifted, shift_ends, Appended, append_starts, append_next}
+use Rattle.moving.proofs.Loops.{Sifted, sift_drops, sift_holds, Shifted, shift_ends, Appended, append_starts, append_next}
 use Rattle.moving.proofs.Loops.{append_ends}
 
 -- what is asked of the rows, asked of what they are equal to
@@ -20,16 +20,6 @@ by P e h = rw e h
 
 abbrev pub Within : ℕ → Rows → Type 0
 Within i r = Roomy r × (i < r.limits.threads)
-
-abbrev pub Among : ℕ → Rows → Type 0
-Among i r = Roomy r × (i < r.limits.threads + r.limits.blocks)
-
--- the same of two places, for a move
-abbrev pub BothWithin : ℕ → ℕ → Rows → Type 0
-BothWithin i j r = Roomy r × (i < r.limits.threads) × (j < r.limits.threads)
-
-abbrev pub BothAmong : ℕ → ℕ → Rows → Type 0
-BothAmong i j r = Roomy r × (i < r.limits.threads + r.limits.blocks) × (j < r.limits.threads + r.limits.blocks)
 
 -- ---- one row of the rows
 
@@ -84,12 +74,6 @@ module _ {A : Type 0} (w : Row A) (d : A) (q : A → Bool) {n : ℕ} {r₀ r : R
 
 -- ---- a row with one more
 
--- behind the first n
-pub one_more : {A : Type 0} (w : Row A) (r₀ : Rows) {r₁ : Rows} (n : ℕ) (x : A) → n < length (w.of r₀) →
-    r₁ ≡ w.put (set (w.of r₀) n x) r₀ →
-    Only w r₀ (λ (l : List A). (take (n + 1) l ≡ take n (w.of r₀) ++ (x ∷ [])) × (length l ≡ length (w.of r₀))) r₁
-one_more w r₀ n x h e = written w e (wrote (w.of r₀) n x h, length-set (w.of r₀) n x)
-
 -- in the gap that a loop has opened
 pub filled : {A : Type 0} (w : Row A) {r₀ r r₁ : Rows} {n i : ℕ} (at : ℕ) (x : A) → Only w r₀ (λ (l : List A). Shifted n (w.of r₀) l i) r →
     i ≡ at → r₁ ≡ w.put (set (w.of r) at x) r →
@@ -99,22 +83,9 @@ filled w {r₀} {r} {n = n} at x O e z = writes w _ O z (shift_ends n (w.of r₀
 -- ---- what a loop leaves, when the row has k entries
 
 module _ {r₀ r r₁ : Rows} (k : ℕ) where
-  pub ready_is : {l : List ℕ} → r ≡ put_ready r.ready r₀ → r₁ ≡ put_readies k r → take k r.ready ≡ l → k ≤ length r.ready →
-      k ≤ r₀.limits.threads → ReadyIs r₀ r₁ l
-  ready_is o e s h f =
-      rw e (record { only = ap (put_readies k) o; says = s; counts = sym (length-take-le k r.ready h) ∙ ap length s; fits = f })
-
-  pub clock_is : {l : List ℕ} → r ≡ put_clock r.clock r₀ → r₁ ≡ put_clocks k r → take k r.clock ≡ l → k ≤ r₀.limits.threads →
-      ClockIs r₀ r₁ l
-  clock_is o e s f = rw e (record { only = ap (put_clocks k) o; says = s; fits = f })
-
   pub threads_left : {l : List Thread} → r ≡ put_threads r.threads r₀ → r₁ ≡ put_count k r → take k r.threads ≡ l →
       k ≤ r₀.limits.threads → ThreadsLeft r₀ r₁ l
   threads_left o e s f = rw e (record { only = ap (put_count k) o; says = s; fits = f })
-
-  pub messages_are : {l : List Message} → r ≡ put_messages r.messages r₀ → r₁ ≡ put_letters k r → take k r.messages ≡ l →
-      k ≤ r₀.limits.threads + r₀.limits.blocks → MessagesAre r₀ r₁ l
-  messages_are o e s f = rw e (record { only = ap (put_letters k) o; says = s; fits = f })
 
 -- the same of any row
 pub row_is : {A : Type 0} (w : Row A) {r₀ r r₁ : Rows} (k : ℕ) {l : List A} → r ≡ w.put (w.of r) r₀ → r₁ ≡ w.put_count k r →

@@ -15,7 +15,9 @@ pub trait Row {
 
     fn count(m: &[u32]) -> usize
         requires { Roomy (rows_of m.now) }
-        ensures { result ≡ row.count (rows_of m.now) };
+        ensures counts { result ≡ row.count (rows_of m.now) }
+        ensures long { length (row.of (rows_of m.now)) ≡ row.limit (rows_of m.now).limits }
+        ensures small { row.limit (rows_of m.now).limits < 4294967296 };
 
     fn set_count(m: &mut [u32], n: usize)
         requires { Roomy (rows_of m.old) × (n < 4294967296) }
@@ -34,26 +36,16 @@ pub trait Row {
         requires { Roomy (rows_of m.old) × (from < row.limit (rows_of m.old).limits) × (to < row.limit (rows_of m.old).limits) }
         ensures { rows_of m.new ≡ row.put
             (set (row.of (rows_of m.old)) to (get_or (row.of (rows_of m.old)) from row.none)) (rows_of m.old) };
-
-    ghost long: { (m : List ℕ) → length (row.of (rows_of m)) ≡ row.limit (rows_of m).limits };
-
-    ghost small: { (m : List ℕ) → Roomy (rows_of m) → row.limit (rows_of m).limits < 4294967296 };
 }
 
 pub struct ThreadRow;
 
 impl Row for ThreadRow {
-    ghost use Rattle.std.proofs.Common.{arith};
-    ghost use Rattle.memory.proofs.Sizes.{threads_long};
     ghost use Rattle.moving.specs.Row.{the_threads};
 
     type Entry = Thread;
 
     ghost row = { the_threads };
-
-    ghost long = { threads_long };
-
-    ghost small = { λ m r. Prim.omega (arith, r.low) };
 
     fn count(m: &[u32]) -> usize {
         rows::count(m)
@@ -79,17 +71,11 @@ impl Row for ThreadRow {
 pub struct ReadyRow;
 
 impl Row for ReadyRow {
-    ghost use Rattle.std.proofs.Common.{arith};
-    ghost use Rattle.memory.proofs.Sizes.{ready_long};
     ghost use Rattle.moving.specs.Row.{the_ready};
 
     type Entry = u8;
 
     ghost row = { the_ready };
-
-    ghost long = { ready_long };
-
-    ghost small = { λ m r. Prim.omega (arith, r.low) };
 
     fn count(m: &[u32]) -> usize {
         rows::readies(m)
@@ -115,17 +101,11 @@ impl Row for ReadyRow {
 pub struct ClockRow;
 
 impl Row for ClockRow {
-    ghost use Rattle.std.proofs.Common.{arith};
-    ghost use Rattle.memory.proofs.Sizes.{clock_long};
     ghost use Rattle.moving.specs.Row.{the_clock};
 
     type Entry = u8;
 
     ghost row = { the_clock };
-
-    ghost long = { clock_long };
-
-    ghost small = { λ m r. Prim.omega (arith, r.low) };
 
     fn count(m: &[u32]) -> usize {
         rows::clocks(m)
@@ -151,17 +131,11 @@ impl Row for ClockRow {
 pub struct MessageRow;
 
 impl Row for MessageRow {
-    ghost use Rattle.std.proofs.Common.{arith};
-    ghost use Rattle.memory.proofs.Sizes.{messages_long};
     ghost use Rattle.moving.specs.Row.{the_messages};
 
     type Entry = Message;
 
     ghost row = { the_messages };
-
-    ghost long = { messages_long };
-
-    ghost small = { λ m r. Prim.omega (arith, r.low, r.few) };
 
     fn count(m: &[u32]) -> usize {
         rows::letters(m)

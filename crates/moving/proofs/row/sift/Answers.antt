@@ -11,7 +11,7 @@ pub loop-i-init : goal.loop-i-init
 loop-i-init g c =
     let w = g.R.Row.row in
     let r = rows_of c.args.m.now in
-    let l : length (w.of r) ≡ w.limit r.limits = g.met.R.Row.long c.args.m.now in
+    let l : length (w.of r) ≡ w.limit r.limits = c.count-n.ensures.long in
     record {
       left = begins w (starts (w.count r) (w.of r) 0 (omega (arith, l, c.requires.1)) (omega arith));
       behind = omega arith;
@@ -22,14 +22,14 @@ pub entry-requires : goal.entry-requires
 entry-requires g c =
     let w = g.R.Row.row in
     let n : w.limit (rows_of c.loop-i.m).limits ≡ w.limit (rows_of c.args.m.now).limits = only_limit w c.loop-i.invariant.left.only in
-    let e : c.count-n.result ≡ w.count (rows_of c.args.m.now) = c.count-n.ensures in
+    let e : c.count-n.result ≡ w.count (rows_of c.args.m.now) = c.count-n.ensures.counts in
     (only_roomy w c.loop-i.invariant.left.only c.requires.0, omega (arith, n, e, c.requires.1, c.loop-i-test.true))
 
 pub shift-requires : goal.shift-requires
 shift-requires g c =
     let w = g.R.Row.row in
     let n : w.limit (rows_of c.loop-i.m).limits ≡ w.limit (rows_of c.args.m.now).limits = only_limit w c.loop-i.invariant.left.only in
-    let e : c.count-n.result ≡ w.count (rows_of c.args.m.now) = c.count-n.ensures in (
+    let e : c.count-n.result ≡ w.count (rows_of c.args.m.now) = c.count-n.ensures.counts in (
       only_roomy w c.loop-i.invariant.left.only c.requires.0,
       omega (arith, n, e, c.requires.1, c.loop-i-test.true),
       omega (arith, n, e, c.requires.1, c.loop-i-test.true, c.loop-i.invariant.behind),
@@ -42,7 +42,7 @@ pub loop-i-preserved-then-goes : goal.loop-i-preserved-then-goes
 loop-i-preserved-then-goes g c =
     let w = g.R.Row.row in
     let I = c.loop-i.invariant in
-    let e : c.count-n.result ≡ w.count (rows_of c.args.m.now) = c.count-n.ensures in
+    let e : c.count-n.result ≡ w.count (rows_of c.args.m.now) = c.count-n.ensures.counts in
     let low : c.loop-i.i < w.count (rows_of c.args.m.now) = omega (arith, e, c.loop-i-test.true) in
     record {
       left = stays w I.left (passes_by _ _ _ _ I.left.so low);
@@ -54,7 +54,7 @@ pub loop-i-preserved : goal.loop-i-preserved
 loop-i-preserved g c =
     let w = g.R.Row.row in
     let I = c.loop-i.invariant in
-    let e : c.count-n.result ≡ w.count (rows_of c.args.m.now) = c.count-n.ensures in
+    let e : c.count-n.result ≡ w.count (rows_of c.args.m.now) = c.count-n.ensures.counts in
     let low : c.loop-i.i < w.count (rows_of c.args.m.now) = omega (arith, e, c.loop-i-test.true) in
     record {
       left = writes w _ I.left c.shift.ensures (moves _ _ _ _ _ _ I.left.so low I.behind);
@@ -66,7 +66,7 @@ pub set_count-requires : goal.set_count-requires
 set_count-requires g c =
     let w = g.R.Row.row in
     let I = c.loop-i.invariant in
-    let s : w.limit (rows_of c.args.m.now).limits < 4294967296 = g.met.R.Row.small c.args.m.now c.requires.0 in
+    let s : w.limit (rows_of c.args.m.now).limits < 4294967296 = c.count-n.ensures.small in
     (only_roomy w I.left.only c.requires.0, omega (arith, s, c.requires.1, I.behind, I.left.so.within))
 
 pub shape_of-m : goal.shape_of-m
@@ -79,7 +79,7 @@ pub returns : goal.returns
 returns g c =
     let w = g.R.Row.row in
     let I = c.loop-i.invariant in
-    let e : c.count-n.result ≡ w.count (rows_of c.args.m.now) = c.count-n.ensures in
+    let e : c.count-n.result ≡ w.count (rows_of c.args.m.now) = c.count-n.ensures.counts in
     λ q h. let K = I.keeps q h in
     row_is w _ K.only c.set_count.ensures
     (keep_ends _ _ _ _ _ _ K.so (omega (arith, e, c.loop-i-test.false)))
