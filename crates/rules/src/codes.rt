@@ -8,10 +8,11 @@ ghost use Rattle.rules.specs.Numbers.{nobody};
 ghost use Rattle.rules.specs.Words.{by_wanted};
 ghost use Rattle.rules.specs.Tables.{me};
 ghost use Rattle.rules.specs.Events.{wanted};
+ghost use Rattle.rules.specs.Tags.{target};
 ghost use Rattle.rules.specs.Load.{parent_from as parent_for, manager_from, trap_kind_from, message_kind_from, state_from, answer_from};
 
 use crate::{
-    Answer, Manager, MessageKind, Parent, Runner, State, Status, TrapKind, Wanted, numbers,
+    Answer, Manager, MessageKind, Parent, Runner, State, Status, Target, TrapKind, Wanted, numbers,
 };
 
 // ---- numbers to what they stand for
@@ -42,6 +43,17 @@ impl From<u8> for TrapKind {
             0 => TrapKind::Program,
             1 => TrapKind::Tlb,
             _ => TrapKind::SysBp,
+        }
+    }
+}
+
+impl From<u8> for Target {
+    ghost from_gives = { λ n t. t ≡ target n };
+
+    fn from(n: u8) -> Target {
+        match n {
+            numbers::NOBODY => Target::Oneself,
+            _ => Target::Named(n),
         }
     }
 }

@@ -5,20 +5,9 @@ ghost use Rattle.rules.specs.Pick.{pick as pick_of};
 ghost use Rattle.rules.specs.declared.Event.TheVariants.{ByRunner as ByTheRunner, Malformed as Rubbish};
 ghost use Rattle.rules.specs.Events.{request as request_of, trap_of as trap_for, interrupt_of as interrupt_for, meaning as meaning_of};
 ghost use Rattle.rules.specs.Events.{decode as decode_of};
-ghost use Rattle.rules.specs.Tags.{target as target_of, tag_facts as facts_of, meets as meets_of, argument_rule as rule_of};
+ghost use Rattle.rules.specs.Tags.{tag_facts as facts_of, meets as meets_of, argument_rule as rule_of};
 
 use rules::{Call, Event, Target, TrapKind, Wanted, numbers, pick, tags};
-
-// As a From it would have to stand in crate rules, and only request 3 reads a byte so.
-fn target(n: u8) -> Target
-    ensures { result ≡ target_of n }
-{
-    if n == numbers::NOBODY {
-        Target::Oneself
-    } else {
-        Target::Named(n)
-    }
-}
 
 // The number in four bytes of a slice.
 fn word_at(s: &[u8], at: usize) -> u32
@@ -46,7 +35,7 @@ fn request(service: u8, argument: u8) -> Call
     match service {
         1 => Call::CreateBrother,
         2 => Call::CreateSon,
-        3 => Call::Terminate(target(argument)),
+        3 => Call::Terminate(Target::from(argument)),
         4 => Call::SetManager(TrapKind::Program, argument),
         5 => Call::SetManager(TrapKind::Tlb, argument),
         6 => Call::SetManager(TrapKind::SysBp, argument),

@@ -13,7 +13,7 @@ returns-in-2 c = rw c.in-2.is
 
 pub returns-in-3 : goal.returns-in-3
 unfolding request_of asked_in
-returns-in-3 c = rw (c.in-3.is, c.target.ensures)
+returns-in-3 c = rw (c.in-3.is, c.from.ensures)
 
 pub returns-in-4 : goal.returns-in-4
 unfolding request_of asked_in
