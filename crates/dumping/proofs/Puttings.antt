@@ -4,33 +4,37 @@ use mathlib.Core.Path.{◌≡◌, refl, sym, ap, ◌∙◌}
 use Rattle.std.proofs.Common.{Option, Some, None, if◌then◌else◌, is_some}
 use mathlib.Core.Bool.{Bool, true, false}
 use mathlib.Core.List.{List, [], ◌∷◌, ◌++◌, append-nil}
-use native.Mathlib.Nat.{mul-le-mul_left}
+use native.Mathlib.Nat.{mul-suc, mul-le-mul_left}
 use native.Mathlib.Omega.{arith}
 use lib.ListN.{length, length-append}
 use lib.Seq.{append_snoc}
 use mir.Val.{bool_byte}
-use Rattle.rules.specs.Lists.{any, each, four_bytes}
+use Rattle.rules.specs.Lists.{any, each}
 use Rattle.rules.specs.Interrupt.{held_for}
-use Rattle.rules.specs.Dump.{field, held_value}
 use Rattle.laws.specs.Words.{Held}
-use Rattle.laws.proofs.Tally.{each_append, length_each}
+use Rattle.laws.proofs.Tally.{each_append}
 use Rattle.store.specs.Store.{word_for}
 use Rattle.memory.specs.Rows.{held_word}
 use Rattle.buffer.specs.Puts.{Puts}
 use Rattle.buffer.proofs.Putting.{rest, back, behind, said, room, stays_long, puts_none}
 use Rattle.dumping.specs.Dumping.{held_at}
 
--- ---- fields of one length, a part of the table at a time
+-- ---- entries of a length at most, a part of the table at a time
 
--- the entries of `done` are written; f writes an entry, in k bytes
+pub each_few : {A : Type 0} (f : A → List ℕ) (k : ℕ) → ((x : A) → length (f x) ≤ k) → (xs : List A) → length (each f xs) ≤ k * length xs
+unfolding each
+each_few f k h [] = omega arith
+each_few f k h (x ∷ xs) = omega (arith, length-append (f x) (each f xs), h x, each_few f k h xs, mul-suc k (length xs))
+
+-- the entries of `done` are written; f writes an entry, in k bytes at most
 pub record Written {A : Type 0} (f : A → List ℕ) (k : ℕ) (whole done : List A) (before now : List ℕ) (at : ℕ) : Type 0 where
-  pub sized : (x : A) → length (f x) ≡ k
+  pub sized : (x : A) → length (f x) ≤ k
   pub enough : k * length whole ≤ length before
   pub few : length done ≤ length whole
   pub so : Puts (each f done) before now at
 
 pub write_starts : {A : Type 0} {f : A → List ℕ} {k : ℕ} {whole : List A} {before : List ℕ} →
-    ((x : A) → length (f x) ≡ k) → k * length whole ≤ length before → Written f k whole [] before before 0
+    ((x : A) → length (f x) ≤ k) → k * length whole ≤ length before → Written f k whole [] before before 0
 unfolding each
 write_starts {before = before} s e = record { sized = s; enough = e; few = omega arith; so = puts_none before }
 
@@ -38,21 +42,21 @@ module _ {A : Type 0} {f : A → List ℕ} {k : ℕ} {whole done : List A} {befo
     (W : Written f k whole done before now at) where
   -- the buffer is as long as it was
   pub written_long : length now ≡ length before
-  written_long = stays_long W.so (omega (arith, length_each f k done W.sized, W.enough, mul-le-mul_left k W.few))
+  written_long = stays_long W.so (omega (arith, each_few f k W.sized done, W.enough, mul-le-mul_left k W.few))
 
   module _ (next : List A) (h : length (done ++ next) ≤ length whole) where
     -- what comes next has room behind what was passed
     pub write_room : at + k * length next ≤ length before
     write_room =
         let more : length done + length next ≤ length whole = omega (arith, length-append done next, h) in
-        omega (arith, W.so.counts, length_each f k done W.sized, W.enough, mul-le-mul_left k more)
+        omega (arith, W.so.counts, each_few f k W.sized done, W.enough, mul-le-mul_left k more)
 
     pub write_fits : k * length next ≤ length (rest at now)
     write_fits = omega (arith, write_room, room W.so)
 
     module _ {ys : List ℕ} {m : ℕ} (p : Puts (each f next) (rest at now) ys m) where
       pub write_within : at + m ≤ length before
-      write_within = omega (arith, write_room, p.counts, length_each f k next W.sized)
+      write_within = omega (arith, write_room, p.counts, each_few f k W.sized next)
 
       pub write_next : Written f k whole (done ++ next) before (back at now ys) (at + m)
       write_next =
@@ -95,14 +99,14 @@ module _ (d : ℕ) (hs : List Held) where
       go None = refl
       go (Some w) = refl
 
-  pub no_word : {o : Option ℕ} → o ≡ held_word d hs → o ≡ None → (b : List ℕ) → Puts (each (λ h. field 6 (held_value h)) (held_at d hs)) b b 0
-  unfolding each
-  no_word e f b = said (puts_none b) (sym (ap (each (λ h. field 6 (held_value h))) (held_is e f)))
+  module _ (f : Held → List ℕ) where
+    pub no_word : {o : Option ℕ} → o ≡ held_word d hs → o ≡ None → (b : List ℕ) → Puts (each f (held_at d hs)) b b 0
+    unfolding each
+    no_word e g b = said (puts_none b) (sym (ap (each f) (held_is e g)))
 
-  pub one_word : {o : Option ℕ} {w : ℕ} {b c : List ℕ} {m : ℕ} → o ≡ held_word d hs → o ≡ Some w → Puts (6 ∷ 0 ∷ 5 ∷ d ∷ four_bytes w) b c m →
-      Puts (each (λ h. field 6 (held_value h)) (held_at d hs)) b c m
-  unfolding each held_value
-  one_word e f p = said p (sym (ap (each (λ h. field 6 (held_value h))) (held_is e f)))
+    pub one_word : {o : Option ℕ} {w : ℕ} {b c : List ℕ} {m : ℕ} → o ≡ held_word d hs → o ≡ Some w →
+        Puts (f (record { device = d; word = w })) b c m → Puts (each f (held_at d hs)) b c m
+    one_word e g p = said (one_field f p) (sym (ap (each f) (held_is e g)))
 
-  pub word_room : {o : Option ℕ} {w n : ℕ} → o ≡ held_word d hs → o ≡ Some w → 8 * length (held_at d hs) ≤ n → 8 ≤ n
-  word_room e f h = omega (arith, ap length (held_is e f))
+  pub word_room : {o : Option ℕ} {k w n : ℕ} → o ≡ held_word d hs → o ≡ Some w → k * length (held_at d hs) ≤ n → k ≤ n
+  word_room {k = k} e f h = omega (arith, ap (λ (l : List Held). k * length l) (held_is e f), h)

@@ -131,3 +131,21 @@ pub row_none : (row before : List ℕ) → length row ≡ 0 → 0 < length befor
 unfolding numbers_line
 row_none [] before e h = one_more (puts_none before) 10 h
 row_none (n ∷ ns) before e h = absurd (omega arith)
+
+-- ---- a line put from its first number, and then each number behind a space
+
+pub line_first : (n : ℕ) {before mid : List ℕ} {k : ℕ} → Puts (decimal n) before mid k → Puts (body (n ∷ [])) before mid k
+unfolding body each
+line_first n p = said p (sym (append-nil (decimal n)))
+
+module _ (l : List ℕ) {before mid : List ℕ} {at : ℕ} (p : Puts (body l) before mid at) where
+  pub line_within : at ≤ 21 * length l
+  line_within = omega (arith, p.counts, body_few l)
+
+  module _ (some : 0 < length l) where
+    pub line_next : (m : ℕ) {k : ℕ} {ys : List ℕ} → Puts (32 ∷ decimal m) (rest at mid) ys k
+        → Puts (body (l ++ (m ∷ []))) before (back at mid ys) (at + k)
+    line_next m q = said (behind p q) (sym (body_more l m some))
+
+    pub line_ends : at < length before → Puts (numbers_line l) before (set mid at 10) (at + 1)
+    line_ends h = said (one_more p 10 h) (body_end l some)

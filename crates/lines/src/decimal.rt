@@ -22,7 +22,7 @@ pub fn put_decimal(out: &mut [u8], n: u64) -> usize
 }
 
 // A number behind a space.
-fn put_spaced(out: &mut [u8], n: u64) -> usize
+pub(crate) fn put_spaced(out: &mut [u8], n: u64) -> usize
     requires { 21 ≤ length out.old }
     ensures { Puts (32 ∷ decimal n) out.old out.new result }
 {

@@ -1,5 +1,5 @@
 // What the programs print: numbers, the line of a decision, the last line, tables.
-#![tactic(auto)]
+#![tactic(auto, unfolding(store::specs::Store::Shaped, store::specs::Store::tables))]
 
 pub mod decimal;
 pub mod last;

@@ -14,17 +14,14 @@ pub fn put_line(out: &mut [u8], k: u64, d: Decision) -> usize
     ensures { Puts (line k d) out.old out.new result }
 {
     let a = d.answer;
-    let kind = a.kind();
-    let sender = a.sender();
-    let word = a.word();
     let row = [
         k,
         d.refusal as u64,
         d.status as u64,
         d.runner as u64,
-        kind as u64,
-        sender as u64,
-        word as u64,
+        a.kind() as u64,
+        a.sender() as u64,
+        a.word() as u64,
     ];
     decimal::put_numbers(out, &row)
 }

@@ -1,32 +1,17 @@
 // Held words: one for a device at most.
 ghost use Rattle.std.specs.Prelude.{◌≡◌, ◌<◌, true, not, nat_lt};
-ghost use Rattle.rules.specs.Lists.{all, any, keep};
+ghost use Rattle.rules.specs.Lists.{all, keep};
 ghost use Rattle.rules.specs.Numbers.{devices};
 ghost use Rattle.rules.specs.Tables.{with_held};
 ghost use Rattle.rules.specs.Interrupt.{held_for, hold as hold_of};
-ghost use Rattle.store.specs.Store.{tables, Shaped, Holding, Leaves, word_for, held_word as held_word_of};
+ghost use Rattle.store.specs.Store.{tables, Shaped, Holding, Leaves, held_word};
 
 use memory::memory as rows;
-
-pub fn is_held(m: &[u32], d: u8) -> bool
-    requires { Shaped m.now × (d < devices) }
-    ensures { result ≡ any (held_for d) (tables m.now).held }
-{
-    rows::is_held(m, d)
-}
-
-// The word that is held for a device, or 0.
-pub fn held_word(m: &[u32], d: u8) -> u32
-    requires { Shaped m.now × (d < devices) }
-    ensures { result ≡ word_for d (tables m.now).held }
-{
-    rows::held_word(m, d)
-}
 
 // The word that is held for a device, if one is.
 pub fn word_held(m: &[u32], d: u8) -> Option<u32>
     requires { Shaped m.now × (d < devices) }
-    ensures { result ≡ held_word_of d (tables m.now).held }
+    ensures { result ≡ held_word d (tables m.now).held }
 {
     rows::held(m, d)
 }

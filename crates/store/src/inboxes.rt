@@ -1,11 +1,10 @@
 // Inboxes: messages and notices by rising receiver, oldest first.
-ghost use Rattle.std.specs.Prelude.{◌≡◌, ◌+◌, ◌<◌, not, length, slice_index_or};
+ghost use Rattle.std.specs.Prelude.{◌≡◌, ◌+◌, ◌<◌, not, length};
 ghost use Rattle.rules.specs.Lists.{keep, pull};
 ghost use Rattle.rules.specs.Tables.{with_messages};
 ghost use Rattle.rules.specs.Waking.{notice_of, queue as queue_of};
 ghost use Rattle.rules.specs.Receive.{wanted_by};
 ghost use Rattle.rules.specs.Refusals.{no_block_free};
-ghost use Rattle.memory.specs.Rows.{no_message};
 ghost use Rattle.store.specs.Store.{limits, tables, Shaped, Holding, Leaves, Takes};
 
 use memory::memory as rows;
@@ -18,14 +17,6 @@ pub fn message_count(m: &[u32]) -> usize
     ensures { result ≡ length (tables m.now).messages }
 {
     rows::letters(m)
-}
-
-// The message at a place of the dump's order.
-pub fn message_at(m: &[u32], i: usize) -> Message
-    requires { Shaped m.now × (i < length (tables m.now).messages) }
-    ensures { result ≡ slice_index_or (tables m.now).messages i no_message }
-{
-    rows::message_at(m, i)
 }
 
 // Is no block free? With fewer messages than blocks nothing has to be counted.

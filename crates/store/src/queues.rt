@@ -33,13 +33,6 @@ pub fn clock_count(m: &[u32]) -> usize
     rows::clocks(m)
 }
 
-pub fn clock_at(m: &[u32], i: usize) -> u8
-    requires { Shaped m.now × (i < length (tables m.now).clock) }
-    ensures { result ≡ slice_index (tables m.now).clock i }
-{
-    rows::clock_at(m, i)
-}
-
 // A name joins the ready queue at its tail.
 pub fn join_ready(m: &mut [u32], name: u8)
     requires { Holding m.old × (length (tables m.old).ready < (limits m.old).threads) }

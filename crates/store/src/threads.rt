@@ -1,5 +1,5 @@
 // Threads, by name.
-ghost use Rattle.std.specs.Prelude.{None as Parentless, ◌≡◌, ◌<◌, false, not, ltb, length, get_or, nat_lt, slice_index_or};
+ghost use Rattle.std.specs.Prelude.{None as Parentless, ◌≡◌, ◌<◌, false, not, ltb, length, get_or, nat_lt};
 ghost use Rattle.rules.specs.Lists.{any, insert};
 ghost use Rattle.std.specs.List.{find};
 ghost use Rattle.rules.specs.Tables.{named, of_thread, live, change, in_state, with_ticks, with_threads, with_managers, set_entry};
@@ -26,15 +26,7 @@ pub fn thread_count(m: &[u32]) -> usize
     rows::count(m)
 }
 
-// The thread at a place of the dump's order.
-pub fn thread_at(m: &[u32], i: usize) -> Thread
-    requires { Shaped m.now × (i < length (tables m.now).threads) }
-    ensures { result ≡ slice_index_or (tables m.now).threads i no_thread }
-{
-    records::record(m, i).thread()
-}
-
-// The name of that thread.
+// The name of the thread at a place of the dump's order.
 pub fn name_at(m: &[u32], i: usize) -> u8
     requires { Shaped m.now × (i < length (tables m.now).threads) }
     ensures { result ≡ (get_or (tables m.now).threads i no_thread).name }

@@ -1,52 +1,27 @@
--- `lines::tables::put_messages` meets its contract. After i turns the lines of the first i messages stand at the front.
-use Rattle.memory.specs.Rows.{no_message}
-use Rattle.dumping.proofs.Walks.{walk_list}
-use Rattle.buffer.proofs.Putting.{place_within}
+-- `tables::put_messages` meets its contract. The loop: the lines of the messages passed stand at the front.
+use Rattle.std.proofs.Common.{arith, ◌∙◌}
+use Rattle.store.specs.Store.{tables}
+use Rattle.dumping.proofs.Puttings.{write_starts, write_fits, write_next, passes, some_left, one_field}
 use Rattle.lines.specs.Text.{message_line}
-use Rattle.lines.proofs.Entries.{listed_starts, listed_room, listed_next, listed_ends, one_line, one_few, message_few}
-use native.Mathlib.Omega.{arith}
+use Rattle.lines.proofs.Entries.{message_few}
 use Rattle.lines.proofs.tables.put_messages.Goals as goal
 
-pub message_count-n-requires : goal.message_count-n-requires
-message_count-n-requires c = c.requires.0
-
-pub loop-i-init : goal.loop-i-init
-loop-i-init c =
-    listed_starts (walk_list _ no_message _ c.message_count-n.ensures) _
-    (omega (arith, c.requires.1, c.requires.2, c.message_count-n.ensures))
-
-pub message_at-x-requires : goal.message_at-x-requires
-message_at-x-requires c =
-    (c.requires.0, omega (arith, c.loop-i-test.true, c.message_count-n.ensures))
-
-pub slice_bounds-put_message-count : goal.slice_bounds-put_message-count
-slice_bounds-put_message-count c = place_within c.loop-i.invariant.puts
-
-pub slice_bounds-put_message-start : goal.slice_bounds-put_message-start
-slice_bounds-put_message-start c = place_within c.loop-i.invariant.puts
-
-pub slice_bounds-put_message-end : goal.slice_bounds-put_message-end
-slice_bounds-put_message-end c = omega arith
+pub loop-x-init : goal.loop-x-init
+unfolding tables
+loop-x-init c = (
+  c.into_iter-x-iterator.ensures.into_iter_gives ∙ c.messages-x-items.ensures,
+  write_starts message_few (omega (arith, c.requires.1, c.requires.2)),
+)
 
 pub put_message-at-requires : goal.put_message-at-requires
 put_message-at-requires c =
-    listed_room (walk_list _ no_message _ c.message_count-n.ensures) c.loop-i.invariant c.loop-i-test.true
+    let l = c.loop-x in
+    omega (arith, write_fits l.invariant.1 _ (some_left _ l.invariant.0 c.in-Some.ensures.steps))
 
-pub overflow_add-at : goal.overflow_add-at
-overflow_add-at c =
-    let walk = walk_list _ no_message _ c.message_count-n.ensures in
-    let next = listed_next walk c.loop-i.invariant c.loop-i-test.true (one_few message_line message_few _)
-    (one_line message_line c.message_at-x.ensures c.put_message-at.ensures) in
-    omega (arith, next.low, next.within, c.requires.1, c.message_count-n.ensures)
-
-pub loop-i-preserved : goal.loop-i-preserved
-loop-i-preserved c =
-    let walk = walk_list _ no_message _ c.message_count-n.ensures in
-    listed_next walk c.loop-i.invariant c.loop-i-test.true (one_few message_line message_few _)
-    (one_line message_line c.message_at-x.ensures c.put_message-at.ensures)
-
-pub shape_of-out : goal.shape_of-out
-shape_of-out c = c.loop-i.invariant.long
-
-pub returns : goal.returns
-returns c = listed_ends (walk_list _ no_message _ c.message_count-n.ensures) c.loop-i.invariant c.loop-i-test.false
+pub loop-x-preserved : goal.loop-x-preserved
+loop-x-preserved c =
+    let l = c.loop-x in
+    let s = c.in-Some.ensures.steps in (
+      passes _ l.invariant.0 s,
+      write_next l.invariant.1 _ (some_left _ l.invariant.0 s) (one_field message_line (rw c.message.ensures at c.put_message-at.ensures)),
+    )

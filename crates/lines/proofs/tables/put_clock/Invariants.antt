@@ -1,7 +1,0 @@
--- `lines::tables::put_clock` meets its contract. After i turns the tag and the first i names stand in the row of numbers.
-use Rattle.store.specs.Store.{tables}
-use Rattle.lines.proofs.Entries.{Named}
-use Rattle.lines.proofs.tables.put_clock.Given as goal
-
-abbrev pub invariant-loop-i : goal.invariant-loop-i
-invariant-loop-i l = Named 4 (tables l.m).clock l.row l.i
