@@ -14,48 +14,70 @@ ghost use Rattle.moving.specs.Marks.{Marks};
 
 use memory::{memory as rows, records};
 use rules::{Manager, Parent, State, TrapKind, Wanted};
+use std::marker::Model;
 
-// Is the name among the first n of the set?
-pub(crate) fn has(marks: &[u8; 256], n: usize, name: u8) -> bool
-    requires { n ≤ 255 }
-    ensures { (xs : List ℕ) → Marks xs marks.now → result ≡ has_in name (take n xs) }
-{
-    usize::from(marks[name as usize]) < n
+// The marks, a byte for each name.
+#[derive(Drop)]
+pub struct NameMarks {
+    at: [u8; 256],
+}
+
+impl Model for NameMarks {
+    ghost Value = { List ℕ };
+
+    ghost view = { λ s. s.at };
+}
+
+impl NameMarks {
+    // Nobody is marked.
+    #[tactic(auto, using(crate::proofs::Marking::no_marks))]
+    pub fn none() -> Self
+        ensures { Marks [] result }
+    {
+        NameMarks { at: [255; 256] }
+    }
+
+    // Is the name among the first n of the set?
+    pub(crate) fn has(&self, n: usize, name: u8) -> bool
+        requires { n ≤ 255 }
+        ensures { (xs : List ℕ) → Marks xs self.now → result ≡ has_in name (take n xs) }
+    {
+        usize::from(self.at[usize::from(name)]) < n
+    }
+
+    // A name is marked as the one at place n. A name that is marked stays at its first place.
+    fn mark(&mut self, n: usize, name: u8)
+        requires { n < 255 }
+        ensures { (xs : List ℕ) → length xs ≡ n → Marks xs self.old → Marks (xs ++ (name ∷ [])) self.new }
+    {
+        if !self.has(255, name) {
+            self.at[usize::from(name)] = n as u8;
+        }
+    }
 }
 
 // Is the name in the set?
-pub fn is_member(m: &[u32], marks: &[u8; 256], name: u8) -> bool
+pub fn is_member(m: &[u32], marks: &NameMarks, name: u8) -> bool
     requires { Roomy (rows_of m.now) × ((rows_of m.now).ends ≤ (rows_of m.now).limits.threads)
         × Marks (members_of (rows_of m.now)) marks.now }
     ensures { result ≡ has_in name (members_of (rows_of m.now)) }
 {
     let n = rows::ends(m);
-    has(marks, n, name)
-}
-
-// A name is marked as the one at place n. A name that is marked stays at its first place.
-fn mark(marks: &mut [u8; 256], n: usize, name: u8)
-    requires { n < 255 }
-    ensures { (xs : List ℕ) → length xs ≡ n → Marks xs marks.old → Marks (xs ++ (name ∷ [])) marks.new }
-{
-    if has(marks, 255, name) {
-        return;
-    }
-    marks[name as usize] = n as u8;
+    marks.has(n, name)
 }
 
 // The set is one name alone.
-pub fn begin(m: &mut [u32], marks: &mut [u8; 256], name: u8)
+pub fn begin(m: &mut [u32], marks: &mut NameMarks, name: u8)
     requires { Roomy (rows_of m.old) × (0 < (rows_of m.old).limits.threads) × Marks [] marks.old }
     ensures { MembersAre (rows_of m.old) (rows_of m.new) (name ∷ []) × Marks (name ∷ []) marks.new }
 {
-    mark(marks, 0, name);
+    marks.mark(0, name);
     rows::put_ended(m, 0, name);
     rows::set_ends(m, 1);
 }
 
 // A name joins the set.
-fn add(m: &mut [u32], marks: &mut [u8; 256], name: u8)
+fn add(m: &mut [u32], marks: &mut NameMarks, name: u8)
     requires { Roomy (rows_of m.old) × ((rows_of m.old).ends < (rows_of m.old).limits.threads)
         × Marks (members_of (rows_of m.old)) marks.old }
     ensures { (rows_of m.new ≡ put_ends ((rows_of m.old).ends + 1)
@@ -63,28 +85,28 @@ fn add(m: &mut [u32], marks: &mut [u8; 256], name: u8)
         × Marks (members_of (rows_of m.new)) marks.new }
 {
     let n = rows::ends(m);
-    mark(marks, n, name);
+    marks.mark(n, name);
     rows::put_ended(m, n, name);
     rows::set_ends(m, n + 1);
 }
 
-fn is_child(marks: &[u8; 256], n: usize, p: Parent) -> bool
+fn is_child(marks: &NameMarks, n: usize, p: Parent) -> bool
     requires { n ≤ 255 }
     ensures { (xs : List ℕ) → Marks xs marks.now → result ≡ by_parent false (λ k. has_in k (take n xs)) p }
 {
-    matches!(p, Some(name) if has(marks, n, name))
+    matches!(p, Some(name) if marks.has(n, name))
 }
 
 // Is the entry one of the first n?
-fn is_managed(marks: &[u8; 256], n: usize, g: Manager) -> bool
+fn is_managed(marks: &NameMarks, n: usize, g: Manager) -> bool
     requires { n ≤ 255 }
     ensures { (xs : List ℕ) → Marks xs marks.now → result ≡ by_manager false (λ k. has_in k (take n xs)) g }
 {
-    matches!(g, Manager::Set(name) if has(marks, n, name))
+    matches!(g, Manager::Set(name) if marks.has(n, name))
 }
 
 // Is the thread at a place trapped on one of the first n?
-fn is_trapped_on(m: &[u32], marks: &[u8; 256], n: usize, i: usize) -> bool
+fn is_trapped_on(m: &[u32], marks: &NameMarks, n: usize, i: usize) -> bool
     requires { Roomy (rows_of m.now) × (n ≤ 255) × (i < (rows_of m.now).limits.threads)
         × Marks (members_of (rows_of m.now)) marks.now }
     ensures { result ≡ any (λ k. awaits k (get_or (rows_of m.now).threads i no_thread))
@@ -99,18 +121,18 @@ fn is_trapped_on(m: &[u32], marks: &[u8; 256], n: usize, i: usize) -> bool
 }
 
 // Does the thread at a place depend on one of the first n, without being one of them?
-fn joins(m: &[u32], marks: &[u8; 256], n: usize, i: usize) -> bool
+fn joins(m: &[u32], marks: &NameMarks, n: usize, i: usize) -> bool
     requires { Roomy (rows_of m.now) × (n ≤ 255) × (i < (rows_of m.now).limits.threads)
         × Marks (members_of (rows_of m.now)) marks.now }
     ensures { result ≡ (depends_of (take n (members_of (rows_of m.now))) (get_or (rows_of m.now).threads i no_thread)
         && not (has_in (get_or (rows_of m.now).threads i no_thread).name (take n (members_of (rows_of m.now))))) }
 {
     let t = records::record(m, i);
-    !has(marks, n, t.name()) && (is_child(marks, n, t.parent()) || is_trapped_on(m, marks, n, i))
+    !marks.has(n, t.name()) && (is_child(marks, n, t.parent()) || is_trapped_on(m, marks, n, i))
 }
 
 // A round: those join that depend on who was in the set when it began.
-pub fn grow(m: &mut [u32], marks: &mut [u8; 256])
+pub fn grow(m: &mut [u32], marks: &mut NameMarks)
     requires { Roomy (rows_of m.old) × ((rows_of m.old).count ≤ (rows_of m.old).limits.threads)
         × ((rows_of m.old).ends + count_of (λ t. depends_of (members_of (rows_of m.old)) t
         && not (has_in t.name (members_of (rows_of m.old)))) (view (rows_of m.old)).threads ≤ (rows_of m.old).limits.threads)
@@ -132,7 +154,7 @@ pub fn grow(m: &mut [u32], marks: &mut [u8; 256])
 // ---- what names a member
 
 // The manager entry of a kind is gone if it names a member.
-fn lose(m: &mut [u32], marks: &[u8; 256], i: usize, k: TrapKind)
+fn lose(m: &mut [u32], marks: &NameMarks, i: usize, k: TrapKind)
     requires { Roomy (rows_of m.old) × ((rows_of m.old).ends ≤ (rows_of m.old).limits.threads)
         × (i < (rows_of m.old).limits.threads) × Marks (members_of (rows_of m.old)) marks.now }
     ensures { rows_of m.new ≡ put_threads
@@ -150,7 +172,7 @@ fn lose(m: &mut [u32], marks: &[u8; 256], i: usize, k: TrapKind)
 }
 
 // The manager entries of the thread at a place that name a member are gone.
-pub fn lose_managers(m: &mut [u32], marks: &[u8; 256], i: usize)
+pub fn lose_managers(m: &mut [u32], marks: &NameMarks, i: usize)
     requires { Roomy (rows_of m.old) × ((rows_of m.old).ends ≤ (rows_of m.old).limits.threads)
         × (i < (rows_of m.old).limits.threads) × Marks (members_of (rows_of m.old)) marks.now }
     ensures { rows_of m.new ≡ put_threads
@@ -165,7 +187,7 @@ pub fn lose_managers(m: &mut [u32], marks: &[u8; 256], i: usize)
 
 // Does it receive from a member alone?
 #[tactic(auto, unfolding(rules::specs::Ending::misses))]
-pub fn misses(m: &[u32], marks: &[u8; 256], s: State) -> bool
+pub fn misses(m: &[u32], marks: &NameMarks, s: State) -> bool
     requires { Roomy (rows_of m.now) × ((rows_of m.now).ends ≤ (rows_of m.now).limits.threads)
         × Marks (members_of (rows_of m.now)) marks.now }
     ensures { result ≡ Misses_of (members_of (rows_of m.now)) s }

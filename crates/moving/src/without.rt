@@ -9,14 +9,15 @@ ghost use Rattle.memory.specs.Memory.{rows_of};
 ghost use Rattle.moving.specs.Marks.{Marks};
 ghost use Rattle.moving.specs.Row.{RowIs, entries};
 
+use crate::members::{self, NameMarks};
+use crate::queues;
 use crate::row::{self, ClockRow, MessageRow, ReadyRow, Row};
-use crate::{members, queues};
 use memory::{memory as rows, records};
 use rules::{Answer, Message, State, Wanted};
 
 // Threads: the members go, and no manager entry names one. A record is changed before it is moved: what is read behind a move waits for
 // its stores.
-pub fn threads(m: &mut [u32], marks: &[u8; 256])
+pub fn threads(m: &mut [u32], marks: &NameMarks)
     requires { Roomy (rows_of m.old) × ((rows_of m.old).ends ≤ (rows_of m.old).limits.threads)
         × ((rows_of m.old).count ≤ (rows_of m.old).limits.threads) × Marks (members_of (rows_of m.old)) marks.now }
     ensures { ThreadsLeft (rows_of m.old) (rows_of m.new)
@@ -36,7 +37,7 @@ pub fn threads(m: &mut [u32], marks: &[u8; 256])
 }
 
 // The names of a queue.
-fn names<R: Row<Entry = u8>>(m: &mut [u32], marks: &[u8; 256])
+fn names<R: Row<Entry = u8>>(m: &mut [u32], marks: &NameMarks)
     requires { Roomy (rows_of m.old) × ((rows_of m.old).ends ≤ (rows_of m.old).limits.threads)
         × (R.Row.row.count (rows_of m.old) ≤ R.Row.row.limit (rows_of m.old).limits) × Marks (members_of (rows_of m.old)) marks.now }
     ensures { RowIs R.Row.row (rows_of m.old) (rows_of m.new)
@@ -46,12 +47,12 @@ fn names<R: Row<Entry = u8>>(m: &mut [u32], marks: &[u8; 256])
     let goes = |x: u8| -> bool
         requires { n ≤ 255 }
         ensures { (xs : List ℕ) → Marks xs marks.entry.now → result ≡ has_in x (take n xs) }
-    { members::has(marks, n, x) };
+    { marks.has(n, x) };
     row::sift::<R, _>(m, goes);
 }
 
 // The ready queue.
-pub fn ready(m: &mut [u32], marks: &[u8; 256])
+pub fn ready(m: &mut [u32], marks: &NameMarks)
     requires { Roomy (rows_of m.old) × ((rows_of m.old).ends ≤ (rows_of m.old).limits.threads)
         × ((rows_of m.old).readies ≤ (rows_of m.old).limits.threads) × Marks (members_of (rows_of m.old)) marks.now }
     ensures { ReadyIs (rows_of m.old) (rows_of m.new)
@@ -61,7 +62,7 @@ pub fn ready(m: &mut [u32], marks: &[u8; 256])
 }
 
 // The clock queue.
-pub fn clock(m: &mut [u32], marks: &[u8; 256])
+pub fn clock(m: &mut [u32], marks: &NameMarks)
     requires { Roomy (rows_of m.old) × ((rows_of m.old).ends ≤ (rows_of m.old).limits.threads)
         × ((rows_of m.old).clocks ≤ (rows_of m.old).limits.threads) × Marks (members_of (rows_of m.old)) marks.now }
     ensures { ClockIs (rows_of m.old) (rows_of m.new)
@@ -71,7 +72,7 @@ pub fn clock(m: &mut [u32], marks: &[u8; 256])
 }
 
 // Messages and notices to or from members.
-pub fn messages(m: &mut [u32], marks: &[u8; 256])
+pub fn messages(m: &mut [u32], marks: &NameMarks)
     requires { Roomy (rows_of m.old) × ((rows_of m.old).ends ≤ (rows_of m.old).limits.threads)
         × ((rows_of m.old).letters ≤ (rows_of m.old).limits.threads + (rows_of m.old).limits.blocks)
         × Marks (members_of (rows_of m.old)) marks.now }
@@ -83,7 +84,7 @@ pub fn messages(m: &mut [u32], marks: &[u8; 256])
     let goes = |x: Message| -> bool
         requires { n ≤ 255 }
         ensures { (xs : List ℕ) → Marks xs marks.entry.now → result ≡ (has_in x.to (take n xs) || has_in x.from (take n xs)) }
-    { members::has(marks, n, x.to) || members::has(marks, n, x.from) };
+    { marks.has(n, x.to) || marks.has(n, x.from) };
     row::sift::<MessageRow, _>(m, goes);
 }
 
@@ -98,7 +99,7 @@ fn told_gone(s: State) -> Answer
 }
 
 // Those that receive from a member become ready, by rising name, told that the sender is gone.
-pub fn receivers(m: &mut [u32], marks: &[u8; 256])
+pub fn receivers(m: &mut [u32], marks: &NameMarks)
     requires { Roomy (rows_of m.old) × ((rows_of m.old).ends ≤ (rows_of m.old).limits.threads)
         × ((rows_of m.old).count ≤ (rows_of m.old).limits.threads)
         × ((rows_of m.old).readies + count_of (λ t. Misses_of (members_of (rows_of m.old)) t.state) (view (rows_of m.old)).threads

@@ -6,11 +6,11 @@ ghost use Rattle.rules.specs.Ending.{grow as grow_of, ended_set as ended_set_of,
 ghost use Rattle.store.specs.Store.{limits, tables, found, Finding, Finds, Marks, Leaves};
 ghost use Rattle.handling.specs.Standing.{MidEvent};
 
-use store;
+use store::{self, NameMarks};
 
 // The set closed under dependants: as long as a round adds somebody, another follows.
 // Threads not yet in the set are fewer with each round.
-fn close(m: &mut [u32], marks: &mut [u8; 256])
+fn close(m: &mut [u32], marks: &mut NameMarks)
     requires { Finding m.old
         × (length (found m.old) + count_of (λ t. not (has t.name (found m.old))) (tables m.old).threads ≤ (limits m.old).threads)
         × Marks (found m.old) marks.old }
@@ -27,7 +27,7 @@ fn close(m: &mut [u32], marks: &mut [u8; 256])
 }
 
 // The smallest set that holds a live thread and, with each member, its children and those trapped on it.
-fn ended_set(m: &mut [u32], marks: &mut [u8; 256], name: u8)
+fn ended_set(m: &mut [u32], marks: &mut NameMarks, name: u8)
     requires { MidEvent m.old × (live name (tables m.old) ≡ true) × Marks [] marks.old }
     ensures { Finds m.old m.new (ended_set_of (tables m.old).threads name)
         × Marks (found m.new) marks.new }
@@ -40,7 +40,7 @@ pub fn end(m: &mut [u32], name: u8)
     requires { MidEvent m.old × (live name (tables m.old) ≡ true) }
     ensures { Leaves m.old m.new (end_of name (tables m.old)) }
 {
-    let mut marks = [255u8; 256];
+    let mut marks = NameMarks::none();
     ended_set(m, &mut marks, name);
     store::remove_ended(m, &marks);
     store::release_ended(m, &marks);

@@ -1,2 +1,2 @@
 -- The marks beside an ending's set, for those above.
-pub use Rattle.moving.proofs.Marking.{no_marks, marks_of}
+pub use Rattle.moving.proofs.Marking.{marks_of}

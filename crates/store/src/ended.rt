@@ -5,11 +5,12 @@ ghost use Rattle.rules.specs.Ending.{depends, grow as grow_of, remove as remove_
 ghost use Rattle.store.specs.Store.{limits, tables, Holding, Leaves, found, Finding, Finds, Removes, Marks};
 
 use memory::memory as rows;
-use moving::{members, without};
+use moving::members::{self, NameMarks};
+use moving::without;
 use rules::Runner;
 
 // The set is one name alone.
-pub fn begin_ended(m: &mut [u32], marks: &mut [u8; 256], name: u8)
+pub fn begin_ended(m: &mut [u32], marks: &mut NameMarks, name: u8)
     requires { Holding m.old × (0 < (limits m.old).threads) × Marks [] marks.old }
     ensures { Finds m.old m.new (name ∷ []) × Marks (found m.new) marks.new }
 {
@@ -25,7 +26,7 @@ pub fn ended_count(m: &[u32]) -> usize
 }
 
 // A round: those join that depend on who was in the set when it began.
-pub fn grow_ended(m: &mut [u32], marks: &mut [u8; 256])
+pub fn grow_ended(m: &mut [u32], marks: &mut NameMarks)
     requires { Finding m.old
         × (length (found m.old) + count_of (λ t. depends (found m.old) t && not (has t.name (found m.old)))
         (tables m.old).threads ≤ (limits m.old).threads) × Marks (found m.old) marks.old }
@@ -36,7 +37,7 @@ pub fn grow_ended(m: &mut [u32], marks: &mut [u8; 256])
 }
 
 // The tables without the set.
-pub fn remove_ended(m: &mut [u32], marks: &[u8; 256])
+pub fn remove_ended(m: &mut [u32], marks: &NameMarks)
     requires { Finding m.old × Marks (found m.old) marks.now }
     ensures { Removes m.old m.new (remove_of (found m.old) (tables m.old)) }
 {
@@ -56,7 +57,7 @@ pub fn remove_ended(m: &mut [u32], marks: &[u8; 256])
 }
 
 // Those that receive from one of the set become ready, by rising name, told that the sender is gone.
-pub fn release_ended(m: &mut [u32], marks: &[u8; 256])
+pub fn release_ended(m: &mut [u32], marks: &NameMarks)
     requires { Finding m.old
         × (length (tables m.old).ready + count_of (λ t. misses (found m.old) t.state) (tables m.old).threads ≤ (limits
         m.old).threads) × Marks (found m.old) marks.now }

@@ -15,6 +15,7 @@ pub use filling::{clear, fill_clock, fill_held, fill_message, fill_ready, fill_t
 pub use head::{beats, last, runner, set_last, set_runner, set_time, since};
 pub use held::{clear_held, hold, word_held};
 pub use inboxes::{blocks_full, discard_notice, message_count, queue, take_message};
+pub use moving::members::NameMarks;
 pub use queues::{
     clock_count, drop_front, join_clock, join_ready, ready_at, ready_count, wake_clock,
 };

@@ -1,10 +1,7 @@
 -- `end` meets its contract: what the ended set leaves, with those released that miss a member.
 use Rattle.serving.proofs.EndingRounds.{release_room, ended}
-use Rattle.store.proofs.Marking.{no_marks, marks_of}
+use Rattle.store.proofs.Marking.{marks_of}
 use Rattle.serving.proofs.ending.end.Goals as goal
-
-pub ended_set-requires : goal.ended_set-requires
-ended_set-requires c = (c.requires.0, c.requires.1, no_marks)
 
 pub release_ended-requires : goal.release_ended-requires
 release_ended-requires c = (
