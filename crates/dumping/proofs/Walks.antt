@@ -1,15 +1,13 @@
--- A table passed part by part: entry by entry, or for held words device by device.
+-- Held words passed device by device.
 use Rattle.std.proofs.Common.{◌==◌}
 use Prim.Native.Nat.{ℕ, ◌+◌, ◌≤◌, ◌<◌}
 use mathlib.Core.Path.{◌≡◌, refl, ap, ◌∙◌}
 use mathlib.Core.Logic.{⊎_elim, ◌≢◌}
 use mathlib.Core.Bool.{Bool, true, false}
-use native.Mathlib.Numerals.{add-one}
 use mathlib.Core.List.{List, [], ◌∷◌, ◌++◌, Memᴰ}
 use native.Mathlib.Omega.{arith}
 use lib.Dec.{ltb}
-use lib.ListN.{length, take, get_or}
-use lib.Seq.{length-take-le, take_all, take-suc}
+use lib.ListN.{length}
 use borrow.Author.Tests.{ltb-true, ltb-false, lt-ltb, le-ltb}
 use Rattle.rules.specs.Lists.{all, any, keep, chain}
 use Rattle.rules.specs.Numbers.{devices}
@@ -19,24 +17,6 @@ use Rattle.laws.proofs.Tally.{count_length, length_keep, keep_none, none_count, 
 use Rattle.laws.proofs.Ordered.{up, chain_tail, up_below, up_few}
 use Rattle.store.specs.Store.{tables, word_for}
 use Rattle.dumping.specs.Dumping.{Dumpable, held_at}
-
--- ---- a table passed part by part, as the printed tables pass theirs
-
--- after i turns the entries of `done i` are passed and those of `next i` come; after n turns all are passed
-pub record Walk {A : Type 0} (whole : List A) (done next : ℕ → List A) (n : ℕ) : Type 0 where
-  pub starts : done 0 ≡ []
-  pub goes : (i : ℕ) → i < n → done (i + 1) ≡ done i ++ next i
-  pub ends : done n ≡ whole
-  pub few : (i : ℕ) → i ≤ n → length (done i) ≤ length whole
-
-pub walk_list : {A : Type 0} (ts : List A) (d : A) (n : ℕ) → n ≡ length ts → Walk ts (λ i. take i ts) (λ i. get_or ts i d ∷ []) n
-walk_list ts d n e =
-    record {
-      starts = refl;
-      goes = λ i h. ap (λ (k : ℕ). take k ts) (add-one i) ∙ take-suc ts i d (omega arith);
-      ends = take_all n ts (omega arith);
-      few = λ i h. omega (arith, length-take-le i ts (omega arith));
-    }
 
 -- ---- device by device
 
@@ -101,13 +81,6 @@ module _ {m : List ℕ} (D : Dumpable m) where
 
   pub few_passed : (d : ℕ) → length (below d hs) ≤ length hs
   few_passed d = omega (arith, length_keep (λ k. ltb k.device d) hs, count_length (λ k. ltb k.device d) hs)
-
-abbrev pub WalkHeld : List Held → Type 0
-WalkHeld hs = Walk hs (λ d. below d hs) (λ d. held_at d hs) devices
-
-pub walk_held : {m : List ℕ} → Dumpable m → WalkHeld (tables m).held
-walk_held D =
-    record { starts = none_passed D; goes = λ d h. one_passed D d; ends = last_passed D refl; few = λ d h. few_passed D d }
 
 pub held_few : {m : List ℕ} → Dumpable m → length (tables m).held ≤ devices
 held_few {m} D =
