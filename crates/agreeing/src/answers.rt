@@ -11,7 +11,7 @@ use memory::records;
 use rules::{Answer, State, numbers};
 use words::states;
 
-// Words are in their range by their type.
+// Words are in their range by their type. crates/faults has the same for a dump: it rests on no crate of the memory, nor this one on it.
 fn answer_in_range(a: Answer) -> bool
     ensures { result ≡ answer_in_range_of a }
 {

@@ -76,8 +76,8 @@ fn serve(m: &mut [u32], events: &[u8], out: &mut [u32]) -> Result<usize, Refusal
     Ok(c.end)
 }
 
-// In place. What is handed back is the unread end of the caller's bytes, and the refusal is left where the caller says: nucleus_batch
-// hands both on so.
+// In place. What is handed back is the unread end of the caller's bytes, and the refusal is left where the caller says:
+// "The refusal, 0 or 14, is left in a lent number" (document 02, CR 2).
 pub fn batch<'a>(m: &mut [u32], events: &'a [u8], out: &mut [u32], refusal: &mut u8) -> &'a [u8]
     ensures { Batches m.old events.entry out.old result m.new out.new
         refusal.new }

@@ -14,8 +14,8 @@ use words::saying;
 // "Gone" among managers.
 const GONE: u32 = 257;
 
-// Numbers, and no enums, for speed: a value by cases of a thread's words, and its numbers again, is what this file leaves out. A dump that
-// is written misses its bar of docs/BENCH.md as it is.
+// Numbers, and no enums: a value by cases of a thread's words, and its numbers again, is what this file leaves out (docs/BENCH.md, dump
+// written). So it says which numbers are right, and nothing is made of them.
 // How many states there are, and the numbers of those that have a detail.
 const STATES: u32 = 6;
 

@@ -5,7 +5,7 @@ ghost use Rattle.faults.specs.Order.{seen as seen_of, misplaced_behind, after as
 
 use rules::tags;
 
-// The place of a field that no dump has: behind them all.
+// The place of a field that no dump has: behind them all. No None: the rules' dump_facts gives it this place, and it is compared with others.
 const BEHIND_ALL: u8 = 6;
 
 #[tactic(auto, unfolding(rules::specs::Tags::dump_field, rules::specs::Tags::dump_facts, rules::specs::Tags::dump_facts_in))]

@@ -47,7 +47,8 @@ pub struct Placed<'a> {
     pub field: Field<'a>,
 }
 
-// The fields from an offset on. It stops before one that is cut off.
+// The fields from an offset on. It stops before one that is cut off. The reader of crates/fields gives the fields alone; here each comes with
+// its offset and what stood before it.
 #[derive(Drop)]
 pub struct Fields<'a> {
     bytes: &'a [u8],

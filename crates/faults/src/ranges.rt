@@ -16,7 +16,7 @@ use crate::placed::Field;
 use crate::{lengths, values};
 use rules::{Answer, MessageKind, Parent, Runner, State, Wanted, codes, numbers, tags};
 
-// Statuses are 0 to 3.
+// Statuses are 0 to 3. No Status is made of the number: nothing reads one back, since no memory holds it.
 const STATUSES: u8 = 4;
 
 fn is_name(n: u8) -> bool

@@ -8,7 +8,8 @@ use rules::{
     Answer, Held, Manager, Managers, Message, MessageKind, Runner, State, Thread, codes, numbers,
 };
 
-// A big-endian number of four bytes.
+// A big-endian number of four bytes. crates/stepping has the same for events: neither rests on the other. That a value is long enough stays
+// a clause here and below: crates/loading lends slices of a dump.
 pub fn word_at(v: &[u8], at: usize) -> u32
     requires { at + 4 ≤ length v.now }
     ensures { result ≡ word_of v.now at }
@@ -16,7 +17,7 @@ pub fn word_at(v: &[u8], at: usize) -> u32
     u32::from_be_bytes([v[at], v[at + 1], v[at + 2], v[at + 3]])
 }
 
-// The runner of field 1.
+// The runner of field 1. No From: it is two numbers.
 pub fn runner_from(name: u8, slice: u8) -> Runner
     ensures { result ≡ runner_from name slice }
 {

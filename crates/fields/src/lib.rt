@@ -15,7 +15,7 @@ pub struct Cut {
     pub whole: bool,
 }
 
-// The field at a place, for callers whose own parameters are plain.
+// The field at a place, by the reader that the pages tell of; `cuts::cut_at` is the work under it.
 pub fn field_at(input: &[u8], place: usize) -> Cut
     ensures { result ≡ cut input.now place }
 {

@@ -8,7 +8,8 @@ ghost use Rattle.handling.specs.Standing.{MidEvent};
 use rules::{Answer, Runner, State, Status, numbers};
 use store;
 
-// The front of the ready queue runs with a full slice, and its waiting answer is handed over.
+// The front of the ready queue runs with a full slice, and its waiting answer is handed over. No front that is an Option: the rules ask for
+// the list, and this is the one place that takes from it.
 fn run_next(m: &mut [u32], given: Answer) -> Answer
     requires { MidEvent m.old }
     ensures { Hands m.old m.new result

@@ -14,13 +14,14 @@ const ROOM: usize = 1048576;
 // Each round but the last reads a byte or more.
 const ROUNDS: u64 = 1048577;
 
-// Why the program stops before its output.
+// Why the program stops before its output. The text is all that is told of it, so it is the error.
 const CANNOT_READ: &str = "inspect: cannot read\n";
 
 const CANNOT_WRITE: &str = "inspect: cannot write\n";
 
 const TOO_LONG: &str = "inspect: too long\n";
 
+// A function, as the rooms of crates/stream: so its length is known by its clause.
 fn buffer() -> [u8; 1048576]
     ensures { 1048576 ≡ length result }
 {

@@ -3,6 +3,7 @@ ghost use Rattle.std.specs.Prelude.{◌≡◌, ◌+◌, ◌*◌, ◌≤◌, ◌�
 ghost use Rattle.buffer.specs.Puts.{Puts};
 ghost use Rattle.lines.specs.Text.{decimal, numbers_line};
 
+// No Display: `fmt` writes by a formatter, and a line goes into a lent buffer, of which the clause says each byte.
 // From the last digit to the first. Most numbers of a line have one digit, so that case goes by itself.
 pub fn put_decimal(out: &mut [u8], n: u64) -> usize
     requires { 20 ≤ length out.old }

@@ -263,8 +263,6 @@ pub(crate) fn manager_word(k: TrapKind) -> usize
     }
 }
 
-// ---- a test on the thread at a place: its state is not made, so a walk over many is short
-
 // ---- a thread changed
 
 pub fn set_ticks(m: &mut [u32], i: usize, n: u32)
@@ -321,7 +319,8 @@ pub fn move_thread(m: &mut [u32], from: usize, to: usize)
     hint_place(m, name, to);
 }
 
-// ---- queues: places of the ready queue, of the clock queue, and of an ending's set
+// ---- queues: places of the ready queue, of the clock queue, and of an ending's set. Each has functions of its own, as the head's words
+// have: their clauses name different parts of the rows.
 
 pub fn ready_at(m: &[u32], i: usize) -> u8
     requires { Roomy (rows_of m.now) × (i < (rows_of m.now).limits.threads) }
@@ -407,26 +406,8 @@ pub fn move_message(m: &mut [u32], from: usize, to: usize)
     m.copy_within(at..at + MESSAGE, base + to * MESSAGE);
 }
 
-// ---- held words, each at its device's place
-
-pub fn is_held(m: &[u32], d: u8) -> bool
-    requires { Roomy (rows_of m.now) × (d < devices) }
-    ensures { result ≡ any (held_for d) (rows_of m.now).held }
-{
-    m[HELD + (d as usize) * 2] == 1
-}
-
-// The word that is held for a device, or 0.
-pub fn held_word(m: &[u32], d: u8) -> u32
-    requires { Roomy (rows_of m.now) × (d < devices) }
-    ensures { result ≡ word_for d (rows_of m.now).held }
-{
-    if is_held(m, d) {
-        m[HELD + (d as usize) * 2 + 1]
-    } else {
-        0
-    }
-}
+// ---- held words, each at its device's place. A device is a byte of an event or of a dump: that it is below 48 is asked where it is used,
+// and no type of its own is on the way from there.
 
 // The word that is held for a device, if one is.
 #[inline(always)]
@@ -522,6 +503,3 @@ pub fn shaped(m: &[u32], l: Limits) -> bool
         && m[CLOCKS] <= l.threads
         && m[LETTERS] <= messages
 }
-
-// ---- words as they stand, for a dump
-

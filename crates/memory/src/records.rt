@@ -152,7 +152,7 @@ pub fn record(m: &[u32], i: usize) -> ThreadWords<'_>
     }
 }
 
-// The threads one after another, by rising name. Each of the three walks is a type of its own: a model's Value cannot use a trait's members.
+// The threads one after another, by rising name. How many are left stands beside the words: behind them are those of other rows. Each of the three walks is a type of its own: a model's Value cannot use a trait's members.
 #[derive(Drop)]
 pub struct ThreadWalk<'a> {
     words: &'a [u32],
@@ -353,7 +353,7 @@ impl<'a> Iterator for NameWalk<'a> {
     }
 }
 
-// The ready queue.
+// The ready queue. The two queues are one walk under two names, since the clauses name their parts of the rows.
 #[tactic(auto, using(crate::proofs::Walks::ready_walked), unfolding(crate::specs::Memory::rows_of))]
 #[inline(always)]
 pub fn ready(m: &[u32]) -> NameWalk<'_>

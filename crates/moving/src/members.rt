@@ -16,7 +16,8 @@ use memory::{memory as rows, records};
 use rules::{Manager, Parent, State, TrapKind, Wanted};
 use std::marker::Model;
 
-// The marks, a byte for each name.
+// The marks, a byte for each name. 255 and no None stands for no mark: it is behind every place, so a look-up is one compare of bytes.
+// They stay beside the memory: they last for one ending, and the memory's words have no room for them.
 #[derive(Drop)]
 pub struct NameMarks {
     at: [u8; 256],

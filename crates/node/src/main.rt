@@ -9,7 +9,7 @@ use stream::Run;
 // A proved loop has to end, and nothing says that the input does: this many rounds no run uses up.
 const ROUNDS: u64 = 35184372088832;
 
-// Why the program stops before its input ends.
+// Why the program stops before its input ends. The text is all that is told of it, so it is the error.
 const CANNOT_READ: &str = "node: cannot read\n";
 
 const CANNOT_WRITE: &str = "node: cannot write\n";

@@ -6,7 +6,8 @@ use crate::Turned;
 use lines::line;
 use stepping::step;
 
-// `ended` says that nothing comes behind the input: a field that is cut off is then answered too.
+// `ended` says that nothing comes behind the input: a field that is cut off is then answered too. It is
+// a fact of the input, which the claims' Turns has as a Bool. No `for`: a turn also ends where the next line has no room.
 pub fn turn(m: &mut [u32], first: u64, input: &[u8], ended: bool, out: &mut [u8]) -> Turned
     requires { Standing m.old × (first + length input.now < 18446744073709551616) }
     ensures { Turns m.old first input.now ended out.old out.new result m.new }

@@ -32,6 +32,7 @@ impl Span {
         n
     }
 
+    // That the window lies in the buffer is a clause: the buffer's length is no part of the window.
     // What comes next is read behind what waits. What the read answers is handed on as it is: no contract can say it.
     pub fn refill<R: Read>(self, reader: &mut R, buf: &mut [u8]) -> Span
         requires { (self.at ≤ self.held) × (self.held ≤ length buf.old) }

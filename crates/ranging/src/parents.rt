@@ -11,7 +11,7 @@ use memory::{memory as rows, records};
 use rules::Parent;
 
 // What stands above the thread at the place i: its parent's place, or above thread 0 how many threads there are. One whose parent is wrong
-// stands above itself, so that going up from it ends nowhere.
+// stands above itself, so that going up from it ends nowhere. A number and no Option: going up is one look in an array of bytes.
 fn above(x: &Index<'_>, i: usize, name: u8, p: Parent) -> usize
     ensures { result ≡ above_of (tables x.now).threads i name p }
 {

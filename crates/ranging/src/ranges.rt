@@ -12,6 +12,7 @@ ghost use Rattle.store.specs.Store.{Shaped, tables, limits};
 use memory::{memory as rows, records};
 use rules::{State, numbers};
 
+// Of a memory. crates/faults asks a dump's state for more.
 fn state_in_range(s: State) -> bool
     ensures { result ≡ state_in_range_of s }
 {

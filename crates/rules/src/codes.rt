@@ -15,7 +15,7 @@ use crate::{
     Answer, Manager, MessageKind, Parent, Runner, State, Status, Target, TrapKind, Wanted, numbers,
 };
 
-// ---- numbers to what they stand for
+// ---- numbers to what they stand for. A parent is an Option of a number, and the From between these is the library's: so it has functions.
 
 pub fn parent_from(n: u8) -> Parent
     ensures { result ≡ parent_for n }

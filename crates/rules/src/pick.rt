@@ -6,6 +6,7 @@ ghost use Rattle.rules.specs.Pick.{pick as pick_of};
 
 use crate::{Picked, numbers};
 
+// Refusal 2, as C reads it.
 const REFUSED: Picked = Picked {
     refusal: 2,
     device: numbers::NOBODY,

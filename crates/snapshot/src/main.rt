@@ -9,7 +9,7 @@ use stream::Run;
 // As in the event program: a proved loop has to end.
 const ROUNDS: u64 = 35184372088832;
 
-// Why the program stops before its input ends.
+// Why the program stops before its input ends. The text is all that is told of it, so it is the error.
 const CANNOT_READ: &str = "snapshot: cannot read\n";
 
 const CANNOT_WRITE: &str = "snapshot: cannot write\n";

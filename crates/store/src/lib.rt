@@ -1,5 +1,6 @@
 // What handlers use: the memory in the words of the rules. Every name that they need stands here; another store with these names and
-// promises would serve the same handlers.
+// promises would serve the same handlers. Shaped and Holding stay clauses, as Roomy does in crates/memory: they are facts about lent words at
+// a call, and while tables are filled in the one holds without the other.
 #![tactic(auto, unfolding(crate::specs::Store::tables, crate::specs::Store::limits, crate::specs::Store::Shaped))]
 
 mod ended;

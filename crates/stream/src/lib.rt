@@ -18,6 +18,7 @@ pub struct Run {
     pub filled: usize,
 }
 
+// Three rooms by name: each size is in the clauses of who asks for it, and one function of a size would say no more than `[0; N]`.
 // Room for the input: no field is longer than 65,538 bytes, so that a window without a whole field has room for more.
 pub fn input_buffer() -> [u8; 131072]
     ensures { 131072 ≡ length result }

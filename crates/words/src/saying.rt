@@ -78,7 +78,7 @@ fn wanted_from(w: u32) -> Wanted
     }
 }
 
-// No device has this number: a state that no table rule allows.
+// No device has this number: a state that no table rule allows. No None: the rules read such words so (state_in).
 const WRONG_STATE: State = State::Device(numbers::NOBODY);
 
 fn trapped_from(d: u32) -> State
@@ -106,7 +106,7 @@ pub fn state_from(w: u32, d: u32) -> State
     }
 }
 
-// No answer has this sender: one that no table rule allows.
+// No answer has this sender: one that no table rule allows. No None: the rules read such words so (answer_in).
 const WRONG_ANSWER: Answer = Answer::FromMessage(numbers::NOBODY, 0);
 
 pub fn answer_from(k: u32, s: u32, w: u32) -> Answer
@@ -147,6 +147,7 @@ pub fn runner_from(n: u32, s: u32) -> Runner
     }
 }
 
+// The eleven words are a part of a lent memory: a slice of it has no array's type, so their number is a clause here.
 pub fn read_thread(w: &[u32]) -> Thread
     requires { 11 ≤ length w.now }
     ensures { result ≡ thread_in w.now }
@@ -305,19 +306,4 @@ pub fn write_message(w: &mut [u32], m: Message)
     ensures { message_in w.new ≡ m }
 {
     w.copy_from_slice(&[u32::from(m.to), sender_word(m.kind, m.from), m.word]);
-}
-
-// Four words as they stand: to move an entry, it need not be known what they say.
-pub fn four_at(w: &[u32]) -> [u32; 4]
-    requires { length w.now ≡ 4 }
-    ensures { w.now ≡ result }
-{
-    [w[0], w[1], w[2], w[3]]
-}
-
-pub fn put_four(w: &mut [u32], x: [u32; 4])
-    requires { length w.old ≡ 4 }
-    ensures { w.new ≡ x }
-{
-    w.copy_from_slice(&x);
 }
