@@ -1,9 +1,9 @@
 -- A pass finds the first of the rules' offsets.
-use Rattle.std.proofs.Common.{ℕ, ◌+◌, ◌≡◌, Bool, true, false, ◌||◌, ◌&&◌, not, cond, if◌then◌else◌, ◌==◌, List, [], ◌∷◌, ◌++◌, map, refl, sym, ap, ◌∙◌, length, Option, Some, None, find, option_map, true≢false, ltb, Bor, is_some, MatchOption}
+use Rattle.std.proofs.Common.{ℕ, ◌+◌, ◌≡◌, Bool, true, false, ◌||◌, ◌&&◌, not, if◌then◌else◌, ◌==◌, List, [], ◌∷◌, ◌++◌, map, refl, sym, ap, ◌∙◌, length, Option, Some, None, find, option_map, true≢false, ltb, Bor, is_some, MatchOption}
 use Rattle.std.specs.Bool.{⊤}
 use Rattle.std.proofs.lemmas.Iterator.{YieldsList}
 use Rattle.std.proofs.lemmas.Iterator.Search.{find_from_yields_List}
-use Rattle.std.specs.Iterator.{YieldsThen}
+use Rattle.std.specs.Iterator.{Yields, YieldsThen}
 use Rattle.std.specs.Fn.{CalledAt}
 use denote.Param.Members.{Mut}
 use Rattle.std.specs.List.{FoldsTo}
@@ -95,22 +95,8 @@ ends_from bytes =
 
 -- ---- the pass over lengths, and the end
 
-abbrev wrong : Placed → Bool
-wrong f = wrong_length f.field
-
-abbrev wrong_offsets : List ℕ → List ℕ
+abbrev pub wrong_offsets : List ℕ → List ℕ
 wrong_offsets bytes = offsets (λ f. wrong_length f.field) (placed bytes)
-
-pub record Walked (bytes : List ℕ) (s : Fields) : Type 0 where
-  pub same_end : end_of s ≡ ends_badly bytes
-  pub rest : option_map (λ f. f.at) (find wrong (left s)) ≡ earliest_of (wrong_offsets bytes)
-
-pub walk_starts : (bytes : Bor (List ℕ)) (s : Fields) → s ≡ fields_from bytes → Walked bytes.now s
-walk_starts bytes s e = record {
-  same_end = ap (λ (x : Fields). end_of x) e ∙ ends_from bytes;
-  rest = ap (λ (x : Fields). option_map (λ f. f.at) (find wrong (left x))) e
-      ∙ first_fault (λ f. wrong_length f.field) wrong (λ at tags b f t. refl) bytes.now;
-}
 
 earliest_first : (xs ys : List ℕ) (x : ℕ) → Some x ≡ earliest_of xs → Some x ≡ earliest_of (xs ++ ys)
 earliest_first [] ys x e = absurd (true≢false (ap is_some e))
@@ -124,25 +110,29 @@ end_or_none : (n : ℕ) (b : Bool) → then_some b n ≡ earliest_of (if b then 
 end_or_none n true = refl
 end_or_none n false = refl
 
-module _ (bytes : List ℕ) (s t : Fields) (W : Walked bytes s) where
-  module _ (f : Placed) (G : Gives s (Some f) t) where
-    abbrev at_first : {x : Bool} → wrong f ≡ x → find wrong (left s) ≡ cond x (Some f) (find wrong (left t))
-    at_first e = ap (find wrong) G.first ∙ ap (λ (b : Bool). cond b (Some f) (find wrong (left t))) e
+-- calls keep the end
+end_kept : (xs : List Placed) (s t : Fields) → Yields Gives s xs t → end_of t ≡ end_of s
+end_kept [] s t e = ap (λ (x : Fields). end_of x) (sym e)
+end_kept (x ∷ xs) s t g = end_kept xs g.0 t g.2 ∙ g.1.same_end
 
-    pub walk_next : wrong f ≡ false → Walked bytes t
-    walk_next e = record {
-      same_end = G.same_end ∙ W.same_end;
-      rest = ap (option_map (λ x. x.at)) (sym (at_first e)) ∙ W.rest;
-    }
+-- what a search for a wrong length finds
+pub wrong_found : {F : Type 0} {g : Mut F (Bor Placed × Unit {0}) Bool} (bytes : Bor (List ℕ)) (s u : Fields) (closure : F) (r : Option Placed)
+    → s ≡ fields_from bytes
+    → (xs : List Placed) × (j : F) × YieldsThen Gives s xs r u × FoldsTo (λ p x q. CalledAt g p x false q) closure xs j
+    × MatchOption r ⊤ (λ x. (h : F) × CalledAt g j x true h)
+    → ((x : Placed) (b : Bool) (q : F) → CalledAt g closure x b q → (q ≡ closure) × (b ≡ wrong_length x.field))
+    → option_map (λ f. f.at) r ≡ earliest_of (wrong_offsets bytes.now)
+wrong_found = first_found (λ f. wrong_length f.field) (λ f. wrong_length f.field) (λ at tags b f t. refl)
 
-    pub walk_finds : wrong f ≡ true → Some f.at ≡ earliest_of (faults_15 bytes)
-    unfolding faults_15
-    walk_finds e = earliest_first (wrong_offsets bytes) _ f.at (ap (option_map (λ x. x.at)) (sym (at_first e)) ∙ W.rest)
+pub first_wrong : (bytes : List ℕ) (at : ℕ) → Some at ≡ earliest_of (wrong_offsets bytes) → Some at ≡ earliest_of (faults_15 bytes)
+unfolding faults_15
+first_wrong bytes at e = earliest_first (wrong_offsets bytes) _ at e
 
-  pub walk_ends : Gives s None t → then_some (ends_at t) (length bytes) ≡ earliest_of (faults_15 bytes)
-  unfolding faults_15
-  walk_ends G =
-      let none : None ≡ earliest_of (wrong_offsets bytes) = ap (λ l. option_map (λ x. x.at) (find wrong l)) (sym G.first.0) ∙ W.rest in
-      let badly : ends_at t ≡ ends_badly bytes = G.done refl ∙ (G.same_end ∙ W.same_end) in
-      ap (λ (b : Bool). then_some b (length bytes)) badly
-      ∙ (end_or_none (length bytes) (ends_badly bytes) ∙ sym (earliest_second (wrong_offsets bytes) _ none))
+pub none_wrong : (bytes : Bor (List ℕ)) (s u : Fields) (xs : List Placed) → s ≡ fields_from bytes → YieldsThen Gives s xs None u
+    → None ≡ earliest_of (wrong_offsets bytes.now) → then_some (ends_at u) (length bytes.now) ≡ earliest_of (faults_15 bytes.now)
+unfolding faults_15
+none_wrong bytes s u xs e g none =
+    let end : end_of s ≡ ends_badly bytes.now = ap (λ (x : Fields). end_of x) e ∙ ends_from bytes in
+    let badly : ends_at u ≡ ends_badly bytes.now = g.2.done refl ∙ (g.2.same_end ∙ (end_kept xs s g.0 g.1 ∙ end)) in
+    ap (λ (b : Bool). then_some b (length bytes.now)) badly
+    ∙ (end_or_none (length bytes.now) (ends_badly bytes.now) ∙ sym (earliest_second (wrong_offsets bytes.now) _ none))

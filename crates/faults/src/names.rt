@@ -46,8 +46,7 @@ impl Living {
         ensures { Named bytes.now result }
     {
         let mut marks = [false; 256];
-        let mut fields = Fields::new(bytes);
-        while let Some(f) = fields.next() {
+        for f in Fields::new(bytes) {
             if f.field.tag() == tags::THREAD {
                 let name = f.field.value().first().copied().unwrap_or(0);
                 marks[usize::from(name)] = true;

@@ -13,12 +13,10 @@ pub fn cut_short(bytes: &[u8]) -> Option<usize>
     ensures { result ≡ earliest_of (faults_15 bytes.now) }
 {
     let mut fields = Fields::new(bytes);
-    while let Some(f) = fields.next() {
-        if lengths::wrong_length(&f.field) {
-            return Some(f.at);
-        }
+    match fields.find(|f| lengths::wrong_length(&f.field)) {
+        Some(f) => Some(f.at),
+        None => fields.ends_badly().then_some(bytes.len()),
     }
-    fields.ends_badly().then_some(bytes.len())
 }
 
 pub fn out_of_order(bytes: &[u8]) -> Option<usize>

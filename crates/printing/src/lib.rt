@@ -21,6 +21,8 @@ pub enum Reading {
 }
 
 // The bytes of a buffer from `at` up to `held` wait to be served, and so stands the input behind them.
+// The contracts ask that `at` is at most `held`. A ghost field would have to be proved in specs/ too (tried: `heard` is refused there), and
+// stream's `after_turn` makes a window of any turn, also of one that used more than waited.
 #[derive(Clone, Copy)]
 pub struct Span {
     pub at: usize,

@@ -15,6 +15,7 @@ pub fn turn(m: &mut [u32], first: u64, input: &[u8], ended: bool, out: &mut [u8]
     let mut line = first;
     let mut used = 0;
     let mut filled = 0;
+    // A `for` over the fields' reader would end before a field that is cut off, which is answered too where nothing comes behind it.
     while used < input.len() {
         let next = fields::field_at(input, used);
         if !next.whole && !ended {

@@ -1,17 +1,17 @@
 -- `passes::cut_short` meets its contract: the first wrong length, or the end.
-use Rattle.std.proofs.Common.{Bool, sym, ap, ◌∙◌, length}
+use Rattle.std.proofs.Common.{Bool, ap, ◌∙◌, length, rules}
 use Rattle.std.specs.Bool.{then_some}
-use Rattle.faults.proofs.Passing.{walk_starts, walk_finds, walk_ends}
+use Rattle.faults.proofs.Passing.{wrong_found, first_wrong, none_wrong}
 use Rattle.faults.proofs.passes.cut_short.Goals as goal
 
-pub loop-f-init : goal.loop-f-init
-loop-f-init c = walk_starts c.args.bytes c.new-fields.result c.new-fields.ensures
+pub returns-in-Some : goal.returns-in-Some
+returns-in-Some c =
+    first_wrong _ _ (wrong_found c.args.bytes c.new-fields.result _ _ _ c.new-fields.ensures c.in-Some.ensures.ran (λ x b q e. search rules))
 
-pub returns-then-wrong_length : goal.returns-then-wrong_length
-returns-then-wrong_length c = walk_finds _ _ _ c.loop-f.invariant _ c.in-Some.ensures.steps (sym c.wrong_length.ensures ∙ c.if-wrong_length.true)
-
-pub returns : goal.returns
-returns c =
+pub returns-in-None : goal.returns-in-None
+returns-in-None c =
+    let ran = c.in-None.ensures.ran in
+    let none = wrong_found c.args.bytes c.new-fields.result _ _ _ c.new-fields.ensures ran (λ x b q e. search rules) in
     c.then_some.ensures
     ∙ (ap (λ (b : Bool). then_some b (length c.args.bytes.now)) c.ends_badly.ensures
-    ∙ walk_ends _ _ _ c.loop-f.invariant c.in_default.ensures.steps)
+    ∙ none_wrong _ _ _ ran.0 c.new-fields.ensures ran.2 none)

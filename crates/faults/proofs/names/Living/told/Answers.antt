@@ -4,7 +4,7 @@ use Rattle.faults.proofs.Naming.{mark_starts, mark_skips, mark_next, mark_ends}
 use Rattle.faults.proofs.names.Living.told.Goals as goal
 
 pub loop-f-init : goal.loop-f-init
-loop-f-init c = mark_starts c.args.bytes c.new-fields.result c.new-fields.ensures
+loop-f-init c = mark_starts c.args.bytes c.into_iter-f-iterator.result (c.into_iter-f-iterator.ensures.into_iter_gives ∙ c.new-f-items.ensures)
 
 pub loop-f-preserved-then-tag-eq-THREAD : goal.loop-f-preserved-then-tag-eq-THREAD
 loop-f-preserved-then-tag-eq-THREAD c =
@@ -16,4 +16,4 @@ loop-f-preserved c =
     mark_skips _ _ _ _ c.loop-f.invariant _ c.in-Some.ensures.steps (λ e. c.if-tag-eq-THREAD.false (c.tag.ensures ∙ e))
 
 pub returns : goal.returns
-returns c = mark_ends _ _ _ _ c.loop-f.invariant c.in_default.ensures.steps
+returns c = mark_ends _ _ _ _ c.loop-f.invariant c.in-None.ensures.steps

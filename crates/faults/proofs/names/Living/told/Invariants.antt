@@ -3,4 +3,4 @@ use Rattle.faults.proofs.Naming.{Marked}
 use Rattle.faults.proofs.names.Living.told.Given as goal
 
 abbrev pub invariant-loop-f : goal.invariant-loop-f
-invariant-loop-f l = Marked l.bytes l.marks l.fields
+invariant-loop-f l = Marked l.bytes l.marks l.f-iterator
