@@ -12,6 +12,7 @@ ghost use Rattle.memory.specs.Layout.{size};
 use batching::batch;
 use checking::check;
 use dumping::writing;
+use fields::cuts;
 use lending::{WORDS, start};
 use loading::load;
 use rules::Verdict;
@@ -24,26 +25,12 @@ const BIG_WORDS: usize = 1968;
 // A dump has at most so many bytes.
 const LONGEST: usize = 1241;
 
-fn wide(b: u8) -> usize
-    ensures { result < 256 }
-{
-    b as usize
-}
-
 // Where the field at `at` ends: a tag byte, a length of two bytes, the value. One that is cut off ends with the bytes.
 fn field_end(s: &[u8], at: usize) -> usize
     requires { at < length s.now }
     ensures { (at < result) × (result ≤ length s.now) }
 {
-    let left = s.len() - at;
-    if left < 3 {
-        return s.len();
-    }
-    let size = wide(s[at + 1]) * 256 + wide(s[at + 2]) + 3;
-    if left < size {
-        return s.len();
-    }
-    at + size
+    cuts::cut_at(s, at).end
 }
 
 // Every field of s, on a memory that stands: how many are accepted.

@@ -1,6 +1,7 @@
 -- The bytes of one field: the numbers in them, how long each tag's field is, and what the rules say of each exit of the decoder.
 use Rattle.std.proofs.Common.{if◌then◌else◌, ◌==◌, Some, None}
-use Prim.Native.Nat.{ℕ, suc, ◌+◌, ◌*◌, ◌≤◌, ◌<◌}
+use Prim.Native.Nat.{ℕ, zero, suc, ◌+◌, ◌*◌, ◌≤◌, ◌<◌}
+use native.Mathlib.Nat.{add-zero}
 use mathlib.Core.Path.{◌≡◌, refl, sym, ◌∙◌}
 use mathlib.Core.Logic.{◌≢◌}
 use mathlib.Core.Bool.{Bool, true, false, ◌&&◌, false≢true}
@@ -13,13 +14,13 @@ use Rattle.std.specs.Int.{from_be_bytes}
 use mir.Val.{Fits}
 use borrow.Author.Tests.{eqb-true, eq-eqb, ne_eqb, lt-ltb}
 use Rattle.rules.specs.Lists.{all, is_byte, number_from, number}
-use Rattle.rules.specs.Numbers.{wrap}
 use Rattle.rules.specs.Tags.{facts_in, tag_facts, event_field, rule_in, argument_rule, meets}
 use Rattle.rules.specs.Pick.{pick}
+use Rattle.rules.specs.Load.{trap_kind_from}
 use Rattle.rules.specs.Events.{wanted, request, trap_of, interrupt_of, meaning, field_of, decode}
 use Rattle.std.specs.declared.option.Option.{Option}
 use Rattle.rules.specs.declared.EventField.{EventField}
-use Rattle.laws.specs.Words.{Send, Receive, Event, Malformed, ByRunner, Tick, TagFacts, NoService, ADevice}
+use Rattle.laws.specs.Words.{Send, Receive, Trap, Event, Malformed, ByRunner, Tick, TagFacts, NoService, ADevice}
 use Rattle.laws.proofs.Tests.{by_if, ◌&◌}
 use Rattle.laws.proofs.Bytes.{first_four}
 
@@ -30,14 +31,29 @@ unfolding all
 all_bytes [] h = refl
 all_bytes (b ∷ bs) h = lt-ltb b 256 (h 0).fits & all_bytes bs (λ i. h (suc i))
 
--- eight bytes, four by four
+-- eight bytes, two by two
 pub eight_at : (l : List ℕ) (at : ℕ) → at + 8 ≤ length l →
-    number (take 4 (drop at l)) * wrap + number (take 4 (drop (at + 4) l)) ≡ number (take 8 (drop at l))
+    ((get_or l at 0 * 256 + get_or l (at + 1) 0) * 65536 + (get_or l (at + 2) 0 * 256 + get_or l (at + 3) 0)) * 4294967296
+    + ((get_or l (at + 4) 0 * 256 + get_or l (at + 5) 0) * 65536 + (get_or l (at + 6) 0 * 256 + get_or l (at + 7) 0))
+    ≡ number (take 8 (drop at l))
 unfolding number_from
 eight_at l at h =
     let m : 4 ≤ length (drop at l) = simp length-drop (omega arith) in
     let n : 4 ≤ length (drop 4 (drop at l)) = simp length-drop (omega arith) in
-    rw (← drop-drop 4 at l, take-add 4 4 (drop at l), first_four (drop at l), first_four (drop 4 (drop at l))) (omega arith)
+    rw (take-add 4 4 (drop at l), first_four (drop at l), first_four (drop 4 (drop at l))) (simp (get_or-drop, add-zero) (omega arith))
+
+-- ---- the kinds of a trap
+
+pub a_kind : (k c : ℕ) → k < 3 → trap_of k c ≡ ByRunner (Trap (trap_kind_from k) c)
+unfolding trap_of
+a_kind zero c h = refl
+a_kind (suc zero) c h = refl
+a_kind (suc (suc zero)) c h = refl
+a_kind (suc (suc (suc k))) c h = absurd (omega arith)
+
+pub no_kind : (k c : ℕ) → 3 ≤ k → trap_of k c ≡ Malformed
+unfolding trap_of
+no_kind k c h = rw (ne_eqb k 0 (λ e. omega (arith, e)), ne_eqb k 1 (λ e. omega (arith, e)), ne_eqb k 2 (λ e. omega (arith, e)))
 
 -- ---- what a field with a known tag means
 

@@ -22,9 +22,16 @@ fn pending_at(s: &[u8], at: usize) -> u64
     requires { at + 8 ≤ length s.now }
     ensures { result ≡ number (take 8 (drop at s.now)) }
 {
-    let high = u64::from(word_at(s, at));
-    let low = u64::from(word_at(s, at + 4));
-    high * 4294967296 + low
+    u64::from_be_bytes([
+        s[at],
+        s[at + 1],
+        s[at + 2],
+        s[at + 3],
+        s[at + 4],
+        s[at + 5],
+        s[at + 6],
+        s[at + 7],
+    ])
 }
 
 // A request whose argument meets its service's rule. The numbers are the document's, as in the rules' table `services`.
@@ -49,9 +56,7 @@ fn trap(kind: u8, cause: u32) -> Event
     ensures { result ≡ trap_for kind cause }
 {
     match kind {
-        0 => Event::ByRunner(Call::Trap(TrapKind::Program, cause)),
-        1 => Event::ByRunner(Call::Trap(TrapKind::Tlb, cause)),
-        2 => Event::ByRunner(Call::Trap(TrapKind::SysBp, cause)),
+        0..=2 => Event::ByRunner(Call::Trap(TrapKind::from(kind), cause)),
         _ => Event::Malformed,
     }
 }
