@@ -11,9 +11,12 @@ pub fn wrong_length(field: &Field) -> bool
     ensures { result ≡ wrong_length_of field.now }
 {
     match tags::dump_facts(field.tag()) {
-        Some(DumpField {
-            length: Some(n), ..
-        }) => field.value().len() != usize::from(n),
+        Some(
+            DumpField {
+                length: Some(n),
+                ..
+            },
+        ) => field.value().len() != usize::from(n),
         _ => false,
     }
 }

@@ -93,10 +93,7 @@ fn answer_fits(kind: u8, sender: u8, word: u32) -> bool
     ensures { result ≡ answer_fits_of kind sender word }
 {
     let a = Answer::from_numbers(kind, sender, word);
-    kind == a.kind()
-        && sender == a.sender()
-        && word == a.word()
-        && answer_right(a)
+    kind == a.kind() && sender == a.sender() && word == a.word() && answer_right(a)
 }
 
 fn kind_fits(n: u8) -> bool
