@@ -55,6 +55,7 @@ fn run(m: &mut [u32], events: &[u8], count: usize, out: &mut [u32])
 {
     let good = check::check(m);
     let mut used = 0;
+    // Over the count, and not over a reader: k also says where in the buffer the decision stands.
     for k in 0..count {
         let end = cuts::cut_at(events, used).end;
         let d = answer(m, good, &events[used..end]);
