@@ -95,6 +95,8 @@ pub extern "C" fn gauge_lent(s: &[u8]) -> u64 {
     run_lent(&mut m, s)
 }
 
+// This loop and those of `writes` and `reads` are three. One loop with a closure was not tried: what each call asks of its memory and its
+// buffer would have to hold again at each turn by a law of the closure.
 // How often, of 1,000 times, a memory passes the check. The beats change, so that no check can be left out.
 fn passes(m: &mut [u32]) -> u64 {
     let mut passed: u64 = 0;

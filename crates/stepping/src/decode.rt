@@ -102,16 +102,15 @@ fn meaning(tag: u8, s: &[u8]) -> Event
 pub fn decode(s: &[u8]) -> Event
     ensures { result ≡ decode_of s.now }
 {
-    if s.len() < 3 {
-        return Event::Malformed;
-    }
-    let tag = s[0];
-    let Some(f) = tags::tag_facts(tag) else {
+    let [tag, high, low, value @ ..] = s else {
         return Event::Malformed;
     };
-    let length = u16::from_be_bytes([s[1], s[2]]);
-    if length != f.length || s.len() != usize::from(length) + 3 {
+    let Some(f) = tags::tag_facts(*tag) else {
+        return Event::Malformed;
+    };
+    let length = u16::from_be_bytes([*high, *low]);
+    if length != f.length || value.len() != usize::from(length) {
         return Event::Malformed;
     }
-    meaning(tag, s)
+    meaning(*tag, s)
 }
