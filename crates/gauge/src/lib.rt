@@ -95,8 +95,8 @@ pub extern "C" fn gauge_lent(s: &[u8]) -> u64 {
     run_lent(&mut m, s)
 }
 
-// This loop and those of `writes` and `reads` are three. One loop with a closure was not tried: what each call asks of its memory and its
-// buffer would have to hold again at each turn by a law of the closure.
+// This loop and those of `writes` and `reads` are three: of one loop's closure a law would have to say that what its call asks of memory and
+// buffer holds again at each turn, and the law would be longer than the loops.
 // How often, of 1,000 times, a memory passes the check. The beats change, so that no check can be left out.
 fn passes(m: &mut [u32]) -> u64 {
     let mut passed: u64 = 0;
