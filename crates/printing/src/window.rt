@@ -22,13 +22,16 @@ fn heard(left: usize, got: Option<usize>) -> Span
 }
 
 impl Span {
-    // What waits moves to the front of the buffer. The answer: how many bytes that is.
+    // What waits moves to the front of the buffer, if it does not stand there: else each read of a long input would copy all that came before
+    // it. The answer: how many bytes that is.
     fn settle(self, buf: &mut [u8]) -> usize
         requires { (self.at ≤ self.held) × (self.held ≤ length buf.old) }
         ensures { Settled self buf.old buf.new result }
     {
         let n = self.held - self.at;
-        buf.copy_within(self.at..self.held, 0);
+        if self.at > 0 {
+            buf.copy_within(self.at..self.held, 0);
+        }
         n
     }
 
