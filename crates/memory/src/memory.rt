@@ -306,6 +306,7 @@ pub fn put_thread(m: &mut [u32], i: usize, t: Thread)
 }
 
 // The thread at one place is written at another.
+#[inline(always)]
 pub fn move_thread(m: &mut [u32], from: usize, to: usize)
     requires { Roomy (rows_of m.old) × (from < (rows_of m.old).limits.threads) × (to < (rows_of m.old).limits.threads) }
     ensures { rows_of m.new ≡ put_threads
@@ -394,6 +395,7 @@ pub fn put_message(m: &mut [u32], i: usize, x: Message)
 }
 
 // The message at one place is written at another.
+#[inline(always)]
 pub fn move_message(m: &mut [u32], from: usize, to: usize)
     requires { Roomy (rows_of m.old) × (from < (rows_of m.old).limits.threads + (rows_of m.old).limits.blocks)
         × (to < (rows_of m.old).limits.threads + (rows_of m.old).limits.blocks) }

@@ -90,7 +90,7 @@ impl<'a> ThreadWords<'a> {
 
     // The words as they stand, for a dump.
     #[inline(always)]
-    pub fn words(&self) -> &[u32]
+    pub fn words(&self) -> &'a [u32]
         ensures { (length result.now ≡ 11) × (thread_in result.now ≡ self.now) }
     {
         &self.words[..11]

@@ -17,16 +17,19 @@ use rules::{Manager, Parent, State, TrapKind, Wanted};
 use std::marker::Model;
 
 // The marks, a byte for each name. 255 and no None stands for no mark: it is behind every place, so a look-up is one compare of bytes.
-// They stay beside the memory: they last for one ending, and the memory's words have no room for them.
-#[derive(Drop)]
+// They stay beside the memory: they last for one ending, and the memory's words have no room for them. Any bytes can be marks: what is
+// asked of them is a clause (Marks).
+#[derive(Clone, Copy)]
 pub struct NameMarks {
-    at: [u8; 256],
+    pub at: [u8; 256],
 }
 
 impl Model for NameMarks {
     ghost Value = { List ℕ };
 
     ghost view = { λ s. s.at };
+
+    ghost inverse = { λ xs. record { at = xs } };
 }
 
 impl NameMarks {
