@@ -10,3 +10,5 @@ mod passes;
 mod placed;
 mod ranges;
 pub mod values;
+
+pub use order::Before;

@@ -22,10 +22,10 @@ fn place_of(tag: u8) -> u8
 // among them. The flags are what the document asks, once for each of three tags.
 #[derive(Clone, Copy, Default)]
 pub struct Before {
-    place: u8,
-    head: bool,
-    ready: bool,
-    clock: bool,
+    pub place: u8,
+    pub head: bool,
+    pub ready: bool,
+    pub clock: bool,
 }
 
 #[tactic(auto, unfolding(crate::specs::Order::seen, crate::specs::Order::misplaced_behind, crate::specs::Order::after, crate::specs::Order::missing, rules::specs::Tags::dump_field))]
