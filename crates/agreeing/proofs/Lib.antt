@@ -1,2 +1,3 @@
 pub mod Inboxing
+pub mod Lettering
 pub mod Noticing

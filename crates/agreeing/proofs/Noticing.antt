@@ -33,12 +33,12 @@ once_first p z (x ∷ l) c (suc i) h e =
     rw (first_fails p x l i z c (omega arith) e) (ap suc (once_first p z l (rest_once p x l c) i (omega arith) e))
 
 module _ {A : Type 0} (p : A → Bool) where
-  fails_within : (done : List A) (x : A) (left : List A) → p x ≡ false → all p (done ++ x ∷ left) ≡ false
+  pub fails_within : (done : List A) (x : A) (left : List A) → p x ≡ false → all p (done ++ x ∷ left) ≡ false
   unfolding all
   fails_within [] x left e = rw e
   fails_within (y ∷ done) x left e = rw (fails_within done x left e) (and_false (p y))
 
-  all_more : (done : List A) (x : A) → all p done ≡ true → p x ≡ true → all p (done ++ x ∷ []) ≡ true
+  pub all_more : (done : List A) (x : A) → all p done ≡ true → p x ≡ true → all p (done ++ x ∷ []) ≡ true
   unfolding all
   all_more [] x a e = rw e
   all_more (y ∷ done) x a e = rw (and_left (p y) _ a) (all_more done x (and_right (p y) _ a) e)

@@ -10,25 +10,26 @@ ghost use Rattle.rules.specs.Waking.{accepts};
 ghost use Rattle.rules.specs.TableRules.{inboxes_right as inboxes_right_of, messages_right as messages_right_of};
 ghost use Rattle.rules.specs.TableRules.{notices_right as notices_right_of};
 ghost use Rattle.store.specs.Store.{tables, limits};
+ghost use Rattle.indexing.specs.Index.{Once};
 
 use indexing::index::Index;
 use memory::memory as rows;
 use memory::records::{self, MessageWords};
-use moving::messages;
 use words::states;
 
 // A message is a match exactly if the thread of its receiver's name would receive from its sender. Names are distinct.
 fn is_match(x: &Index<'_>, l: &MessageWords<'_>) -> bool
+    requires { Once x.now }
     ensures { result ≡ any (accepts l.now) (tables x.now).threads }
 {
-    let (to, from) = (l.to(), l.from());
-    match x.place_of(to) {
-        Some(j) => records::record(x.words(), j).receives(from),
+    match x.place_of(l.to()) {
+        Some(j) => records::record(x.words(), j).receives(l.from()),
         None => false,
     }
 }
 
 pub fn inboxes_right(x: &Index<'_>) -> bool
+    requires { Once x.now }
     ensures { result ≡ inboxes_right_of (tables x.now) }
 {
     records::messages(x.words()).all(|l| !is_match(x, &l))
@@ -40,15 +41,24 @@ fn ends_live(x: &Index<'_>, l: &MessageWords<'_>) -> bool
     x.is_live(l.to()) && x.is_live(l.from())
 }
 
+// Both ends of each message are live. Ordinary messages are counted on the way: a second pass for them is a tenth of the check.
 pub fn messages_right(x: &Index<'_>) -> bool
     ensures { result ≡ messages_right_of (limits x.now) (tables x.now) }
 {
     let m = x.words();
-    records::messages(m).all(|l| ends_live(x, &l)) && messages::blocks_used(m) <= rows::blocks(m)
+    let mut used = 0;
+    for l in records::messages(m) {
+        if !ends_live(x, &l) {
+            return false;
+        }
+        used += usize::from(states::is_ordinary(l.kind()));
+    }
+    used <= rows::blocks(m)
 }
 
 // A notice's sender is trapped on its receiver, and it is the sender's first: `seen` marks the places of senders met. Names are distinct.
 pub fn notices_right(x: &Index<'_>) -> bool
+    requires { Once x.now }
     ensures { result ≡ notices_right_of (tables x.now) }
 {
     let m = x.words();

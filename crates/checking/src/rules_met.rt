@@ -6,6 +6,7 @@ ghost use Rattle.rules.specs.TableRules.{ranges, names_right, orders_right, pare
 ghost use Rattle.rules.specs.TableRules.{names_live, trapped_right, answers_right, inboxes_right, messages_right, notices_right};
 ghost use Rattle.rules.specs.TableRules.{table_rules};
 ghost use Rattle.store.specs.Store.{Shaped, tables, limits};
+ghost use Rattle.indexing.specs.Index.{Once};
 
 use agreeing::{answers, inboxes, managers, places};
 use indexing::index::Index;
@@ -21,14 +22,17 @@ fn rows_right(m: &[u32]) -> bool
 
 // The rules on the places of threads: above each other, in the queues, as the runner.
 fn places_right(x: &Index<'_>) -> bool
+    requires { Once x.now }
     ensures { result ≡ (parents_right (tables x.now) && places_agree (tables x.now)
         && runner_right (tables x.now).ready (tables x.now).runner) }
 {
     parents::parents_right(x) && places::places_agree(x) && places::runner_right(x.words())
 }
 
-// The rules on messages.
+// The rules on messages. They and those on threads stay functions of their own: with all in one the memory's place is read anew at each look.
+#[inline(never)]
 fn messages_met(x: &Index<'_>) -> bool
+    requires { Once x.now }
     ensures { result ≡ (inboxes_right (tables x.now) && messages_right (limits x.now) (tables x.now)
         && notices_right (tables x.now)) }
 {
@@ -36,6 +40,7 @@ fn messages_met(x: &Index<'_>) -> bool
 }
 
 // The rules on threads by themselves.
+#[inline(never)]
 fn threads_right(x: &Index<'_>) -> bool
     ensures { result ≡ (names_live (tables x.now) && trapped_right (tables x.now)
         && answers_right (tables x.now)) }

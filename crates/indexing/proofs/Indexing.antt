@@ -1,7 +1,7 @@
 -- The index: how it is filled from the last thread to the first, and what a look into it says of "any" in the table rules.
 use Rattle.std.proofs.Common.{if◌then◌else◌}
 use Prim.Native.Nat.{ℕ, suc, ◌+◌, ◌-◌, ◌≤◌, ◌<◌}
-use mathlib.Core.Path.{◌≡◌, refl, sym, ap, ◌∙◌}
+use mathlib.Core.Path.{◌≡◌, refl, sym, ap, subst, ◌∙◌}
 use mathlib.Core.Bool.{Bool, true, false, ◌&&◌}
 use mathlib.Core.List.{List, ◌∷◌}
 use native.Mathlib.Omega.{arith}
@@ -23,7 +23,7 @@ use Rattle.std.proofs.Common.{cond, Some, None, position}
 use Rattle.std.specs.Bool.{then_some}
 use Rattle.std.specs.Option.{is_some}
 use Rattle.memory.proofs.Listing.{position_is, some_if, found, nowhere}
-use Rattle.indexing.specs.Index.{Indexed}
+use Rattle.indexing.specs.Index.{Indexed, Once}
 
 -- ---- filling it
 
@@ -109,6 +109,10 @@ module _ {A : Type 0} (p q : A → Bool) (xs : List A) where
 
   pub none_found : position p xs ≡ None → any (λ x. p x && q x) xs ≡ false
   none_found e = any_neither p q xs (any_no p xs (nowhere p xs e))
+
+-- names come once in the words that an index hands out where they do in its memory
+pub once_there : {m n : List ℕ} → m ≡ n → Once n → Once m
+once_there e o = subst (λ (v : List ℕ). Once v) (sym e) o
 
 -- the thread of a name, as the memory shows it at its place
 module _ (m : List ℕ) (F : Shaped m) where

@@ -1,8 +1,7 @@
 // Where each name stands among the threads: a rule then finds a name in one look, and the check stays a few passes.
 #![tactic(auto, unfolding(store::specs::Store::Shaped, store::specs::Store::tables))]
 
-ghost use Rattle.std.specs.Prelude.{◌≡◌, ◌≤◌, ℕ, List, position, length, ◌==◌};
-ghost use Rattle.rules.specs.Lists.{count};
+ghost use Rattle.std.specs.Prelude.{◌≡◌, ℕ, List, position};
 ghost use Rattle.rules.specs.Tables.{named, live as live_of};
 ghost use Rattle.store.specs.Store.{Shaped, tables};
 ghost use Rattle.indexing.specs.Index.{Indexes};
@@ -10,8 +9,8 @@ ghost use Rattle.indexing.specs.Index.{Indexes};
 use memory::{memory as rows, records};
 use std::marker::Model;
 
-// A memory that is shaped and shows each name once at most, with a place for each name: its thread's, or how many threads there are where
-// nobody has it. A byte for a place keeps it within four lines of a cache.
+// A memory that is shaped, with a place for each name: that of the first thread of this name, or how many threads there are where nobody has
+// it. A byte for a place keeps it within four lines of a cache.
 #[derive(Drop)]
 pub struct Index<'a> {
     m: &'a [u32],
@@ -28,8 +27,9 @@ impl<'a> Model for Index<'a> {
 }
 
 impl<'a> Index<'a> {
+    // From the last thread to the first, so that the first of a name stands.
     pub fn of(m: &'a [u32]) -> Self
-        requires { Shaped m.now × ((k : ℕ) → count (λ t. k == t.name) (tables m.now).threads ≤ 1) }
+        requires { Shaped m.now }
         ensures { result ≡ m.now }
     {
         let count = rows::count(m);
@@ -44,7 +44,6 @@ impl<'a> Index<'a> {
     pub fn words(&self) -> &'a [u32]
         ensures same { result.now ≡ self.now }
         ensures shaped { Shaped result.now }
-        ensures once { (k : ℕ) → count (λ t. k == t.name) (tables result.now).threads ≤ 1 }
     {
         self.m
     }

@@ -4,6 +4,7 @@
 ghost use Rattle.std.specs.Prelude.{◌≡◌, ◌≤◌, ◌<◌, length};
 ghost use Rattle.rules.specs.TableRules.{parents_right as parents_right_of};
 ghost use Rattle.store.specs.Store.{tables};
+ghost use Rattle.indexing.specs.Index.{Once};
 ghost use Rattle.ranging.specs.Upward.{above as above_of, Upward, Leads, AllLead};
 
 use indexing::index::Index;
@@ -65,6 +66,7 @@ fn all_lead(up: &[u8]) -> bool
 }
 
 pub fn parents_right(x: &Index<'_>) -> bool
+    requires { Once x.now }
     ensures { result ≡ parents_right_of (tables x.now) }
 {
     let n = rows::count(x.words());

@@ -125,7 +125,10 @@ pub fn answer_from(k: u32, s: u32, w: u32) -> Answer
 pub fn sender_from(w: u32) -> u8
     ensures { result ≡ sender_in w }
 {
-    byte(if w < PAST_BYTES { w } else { w - PAST_BYTES })
+    match u8::try_from(w) {
+        Ok(n) => n,
+        Err(_) => byte(w - PAST_BYTES),
+    }
 }
 
 pub fn kind_from(w: u32) -> MessageKind

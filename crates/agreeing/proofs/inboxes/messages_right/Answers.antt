@@ -1,31 +1,59 @@
--- `inboxes::messages_right` meets its contract: the two parts of the rule.
-use Rattle.std.proofs.Common.{◌≡◌, rules, Bool, ◌&&◌, leb, ℕ, List, sym, ap, ap₂, ◌∙◌}
-use borrow.Author.Tests.{tests}
-use Rattle.std.proofs.lemmas.Iterator.Search.{all_from_yields_List}
-use Rattle.std.proofs.lemmas.Iterator.Consumers.{YieldsList-from_first}
-use Rattle.rules.specs.Lists.{all}
+-- `inboxes::messages_right` meets its contract. The loop: both ends of the messages passed live, and so many of them were ordinary.
+use Rattle.std.proofs.Common.{◌≡◌, ◌∙◌, ◌+◌, ◌∷◌, ◌&&◌, leb, ℕ, List, length, length-append, sym, ap, arith}
+use Rattle.rules.specs.Lists.{one_if}
 use Rattle.rules.specs.Tables.{live}
-use Rattle.rules.specs.Waking.{blocks_used}
-use Rattle.laws.specs.Words.{Message}
-use Rattle.laws.proofs.Both.{fails_first, and_then}
-use Rattle.memory.proofs.Listing.{all_is}
+use Rattle.rules.specs.Waking.{is_ordinary}
+use Rattle.laws.specs.Words.{MessageKind}
+use Rattle.laws.proofs.Tests.{one_at_most}
 use Rattle.store.specs.Store.{tables, limits}
+use Rattle.store.proofs.Lengths.{messages_limit, blocks_limit}
+use Rattle.indexing.proofs.Marking.{walk_here, walk_next, walk_ends}
+use Rattle.indexing.proofs.Passing.{few}
+use Rattle.agreeing.proofs.Lettering.{letters_start, letters_next, letters_few, letters_fail, letters_end}
 use Rattle.agreeing.proofs.inboxes.messages_right.Goals as goal
 
-pub returns-then-all : goal.returns-then-all
-unfolding tables limits
-returns-then-all c = let p : Message → Bool = λ l. live l.to (tables c.args.x.now) && live l.from (tables c.args.x.now) in
-    let ends : c.all.result ≡ all p (tables c.args.x.now).messages = all_from_yields_List p _ _ _ c.all.ensures.ran
-    (YieldsList-from_first (λ x. x) (λ s. s) _ (c.messages.ensures ∙ ap (λ (v : List ℕ). (tables v).messages) c.words-m.ensures.same))
-    (λ x b q k. search (rules, tests)) ∙ all_is p _ in
-    sym (and_then (sym ends ∙ c.if-all.true) (ap₂ leb
-    (sym (c.blocks_used.ensures ∙ ap (λ (v : List ℕ). blocks_used (tables v)) c.words-m.ensures.same))
-    (sym (c.blocks-then-all.ensures ∙ ap (λ (v : List ℕ). (limits v).blocks) c.words-m.ensures.same))))
+pub loop-l-init : goal.loop-l-init
+unfolding tables
+loop-l-init c = (letters_start _, c.into_iter-l-iterator.ensures.into_iter_gives ∙ c.messages-l-items.ensures)
 
-pub returns-else-all : goal.returns-else-all
+pub returns-then-not-ends_live : goal.returns-then-not-ends_live
+returns-then-not-ends_live c =
+    let l = c.in-Some.l in
+    let m = c.words-m.result.now in
+    rw (← c.words-m.ensures.same) (letters_fail (tables m) (limits m) _ l _ (walk_here _ c.loop-l.invariant.1 _ _ c.in-Some.ensures.steps)
+    (ap (λ (v : List ℕ). live l.to (tables v) && live l.from (tables v)) c.words-m.ensures.same
+    ∙ sym c.ends_live.ensures ∙ c.if-not-ends_live.true))
+
+pub overflow_add-used : goal.overflow_add-used
+unfolding limits
+overflow_add-used c =
+    let m = c.words-m.result.now in
+    let F = c.words-m.ensures.shaped in
+    let one : c.from-used.result ≡ one_if c.is_ordinary.result = c.from-used.ensures in omega (
+      arith,
+      letters_few (tables m) c.loop-l.invariant.0,
+      ap length (walk_here c.loop-l.yielded c.loop-l.invariant.1 c.in-Some.l c.next.new.self c.in-Some.ensures.steps),
+      length-append c.loop-l.yielded (c.in-Some.l ∷ c.next.new.self),
+      messages_limit m F,
+      blocks_limit m F,
+      few m F,
+      one,
+      one_at_most c.is_ordinary.result,
+    )
+
+pub loop-l-preserved : goal.loop-l-preserved
+loop-l-preserved c =
+    let l = c.in-Some.l in (
+      letters_next _ c.loop-l.invariant.0 l
+          (ap (λ (v : List ℕ). live l.to (tables v) && live l.from (tables v)) c.words-m.ensures.same
+          ∙ sym c.ends_live.ensures ∙ c.if-not-ends_live.false) _
+          (ap (λ (n : ℕ). c.loop-l.used + n) (c.from-used.ensures ∙ ap one_if (c.is_ordinary.ensures
+          ∙ ap (λ (k : MessageKind). is_ordinary k) c.kind.ensures))),
+      walk_next _ c.loop-l.invariant.1 _ _ c.in-Some.ensures.steps,
+    )
+
+pub returns : goal.returns
 unfolding tables limits
-returns-else-all c = let p : Message → Bool = λ l. live l.to (tables c.args.x.now) && live l.from (tables c.args.x.now) in
-    let ends : c.all.result ≡ all p (tables c.args.x.now).messages = all_from_yields_List p _ _ _ c.all.ensures.ran
-    (YieldsList-from_first (λ x. x) (λ s. s) _ (c.messages.ensures ∙ ap (λ (v : List ℕ). (tables v).messages) c.words-m.ensures.same))
-    (λ x b q k. search (rules, tests)) ∙ all_is p _ in
-    c.if-all.false ∙ sym (fails_first _ (sym ends ∙ c.if-all.false))
+returns c =
+    rw (← c.words-m.ensures.same) (ap (λ (n : ℕ). leb c.loop-l.used n) c.blocks-2.ensures
+    ∙ letters_end _ c.loop-l.invariant.0 (limits c.words-m.result.now) (walk_ends _ c.loop-l.invariant.1 c.in-None.ensures.steps.0))

@@ -6,7 +6,7 @@ use Rattle.rules.specs.Waking.{is_ordinary}
 use Rattle.laws.specs.Words.{MessageKind, Thread}
 use Rattle.memory.specs.Rows.{no_thread}
 use Rattle.store.specs.Store.{tables}
-use Rattle.indexing.proofs.Indexing.{thread_there}
+use Rattle.indexing.proofs.Indexing.{thread_there, once_there}
 use Rattle.indexing.proofs.Marking.{walk_here, walk_next, walk_ends}
 use Rattle.indexing.proofs.Passing.{few, counted, read_length}
 use Rattle.agreeing.proofs.Noticing.{notice_starts, notice_skips, notice_ends, no_sender, not_trapped, met_again, met_now}
@@ -41,12 +41,12 @@ returns-then-not-awaits c =
     ∙ sym c.place_of.ensures ∙ c.in-Some-place_of.is in
     let split = walk_here _ c.loop-l.invariant.1 _ _ c.in-Some.ensures.steps in
     rw (← c.words-m.ensures.same) (elim c.then-not-awaits.branch [
-      | then-not-awaits-via-then-not-awaits w ↦ not_trapped _ _ _ _ c.loop-l.invariant.0 o c.words-m.ensures.once _ at _ split no_thread
+      | then-not-awaits-via-then-not-awaits w ↦ not_trapped _ _ _ _ c.loop-l.invariant.0 o (once_there c.words-m.ensures.same c.requires) _ at _ split no_thread
           (ap (awaits c.in-Some.l.to) (thread_there c.words-m.result.now c.words-m.ensures.shaped _ _ at)
           ∙ ap₂ (λ (k : ℕ) (t : Thread). awaits k t) (sym c.to.ensures) (sym c.record.ensures)
           ∙ sym c.awaits.ensures ∙ w.if-not-awaits.true)
       | then-not-awaits-via-else-not-awaits+then-seen-j w ↦
-          met_again _ _ _ _ c.loop-l.invariant.0 o c.words-m.ensures.once _ at _ split w.if-seen-j.true
+          met_again _ _ _ _ c.loop-l.invariant.0 o (once_there c.words-m.ensures.same c.requires) _ at _ split w.if-seen-j.true
     ])
 
 pub loop-l-preserved : goal.loop-l-preserved
@@ -54,7 +54,7 @@ loop-l-preserved c =
     let o = ap (λ (k : MessageKind). is_ordinary k) (sym c.kind.ensures) ∙ sym c.is_ordinary.ensures ∙ c.if-is_ordinary.false in
     let at = ap₂ (λ (k : ℕ) (v : List ℕ). position (named k) (tables v).threads) (sym c.from.ensures) c.words-m.ensures.same
     ∙ sym c.place_of.ensures ∙ c.in-Some-place_of.is in (
-      met_now _ _ _ _ c.loop-l.invariant.0 o c.words-m.ensures.once _ at no_thread
+      met_now _ _ _ _ c.loop-l.invariant.0 o (once_there c.words-m.ensures.same c.requires) _ at no_thread
           (ap (awaits c.in-Some.l.to) (thread_there c.words-m.result.now c.words-m.ensures.shaped _ _ at)
           ∙ ap₂ (λ (k : ℕ) (t : Thread). awaits k t) (sym c.to.ensures) (sym c.record.ensures)
           ∙ sym c.awaits.ensures ∙ c.if-not-awaits.false)

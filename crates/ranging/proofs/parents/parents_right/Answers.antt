@@ -1,7 +1,6 @@
 -- `parents::parents_right` meets its contract: every place leads above all exactly if the rule holds.
-use Rattle.std.proofs.Common.{◌≡◌, ◌==◌, ◌≤◌, ℕ, List, length, sym, ap, subst, ◌∙◌, arith}
+use Rattle.std.proofs.Common.{◌≡◌, ℕ, List, length, sym, ap, ◌∙◌, arith}
 use Rattle.std.proofs.Math.Seq.{length-take-le}
-use Rattle.rules.specs.Lists.{count}
 use Rattle.store.specs.Store.{tables}
 use Rattle.ranging.proofs.Climbing.{decided}
 use Rattle.ranging.proofs.Raising.{upward_cut}
@@ -14,8 +13,7 @@ returns c =
     let T = tables c.args.x.now in
     let n : length T.threads ≡ c.count-n.result = ap (λ (v : List ℕ). length (tables v).threads) (sym c.words.ensures.same)
     ∙ read_length c.words.result.now c.words.ensures.shaped _ c.count-n.ensures in
-    let once = subst (λ (v : List ℕ). (k : ℕ) → count (λ t. k == t.name) (tables v).threads ≤ 1) c.words.ensures.same c.words.ensures.once in
-    decided T once _ (upward_cut _ _ _ n c.upward.ensures) _ (n ∙ sym (length-take-le _ c.upward.result (omega (
+    decided T c.requires _ (upward_cut _ _ _ n c.upward.ensures) _ (n ∙ sym (length-take-le _ c.upward.result (omega (
       arith,
       c.count-n.ensures,
       counted c.words.result.now c.words.ensures.shaped,

@@ -8,7 +8,7 @@ use Rattle.indexing.proofs.Passing.{threads_whole, read_length}
 use Rattle.indexing.proofs.index.Index.of.Goals as goal
 
 pub loop-i-init : goal.loop-i-init
-loop-i-init c = rw c.count-count.ensures (fill_starts _ _ (threads_whole c.args.m.now c.requires.0))
+loop-i-init c = rw c.count-count.ensures (fill_starts _ _ (threads_whole c.args.m.now c.requires))
 
 pub loop-i-preserved : goal.loop-i-preserved
 loop-i-preserved c = fill_read _ _ _ _ _ no_thread c.loop-i.invariant c.loop-i-test.true
@@ -17,8 +17,7 @@ loop-i-preserved c = fill_read _ _ _ _ _ no_thread c.loop-i.invariant c.loop-i-t
 pub invariant_of-result : goal.invariant_of-result
 unfolding tables
 invariant_of-result c = record {
-  shaped = c.requires.0;
+  shaped = c.requires;
   indexed = fill_ends _ _ _ _ c.loop-i.invariant c.loop-i-test.false;
-  many = read_length c.args.m.now c.requires.0 _ c.count-count.ensures;
-  once = c.requires.1;
+  many = read_length c.args.m.now c.requires _ c.count-count.ensures;
 }
