@@ -22,8 +22,12 @@ fn is_match(x: &Index<'_>, l: &MessageWords<'_>) -> bool
     requires { Once x.now }
     ensures { result ≡ any (accepts l.now) (tables x.now).threads }
 {
-    match x.place_of(l.to()) {
-        Some(j) => records::record(x.words(), j).receives(l.from()),
+    let to = l.to();
+    match x.place_of(to) {
+        Some(j) => {
+            let from = l.from();
+            records::record(x.words(), j).receives(from)
+        }
         None => false,
     }
 }
