@@ -20,7 +20,9 @@ fn rows_right(m: &[u32]) -> bool
     ranges::ranges(m) && ranges::names_right(m) && ranges::orders_right(m)
 }
 
-// The rules on the places of threads: above each other, in the queues, as the runner.
+// The rules on the places of threads: above each other, in the queues, as the runner. This group and the two behind it are compiled as
+// calls: with all in one the memory's place is read anew at each look, and the rows of all stand in one frame.
+#[inline(never)]
 fn places_right(x: &Index<'_>) -> bool
     requires { Once x.now }
     ensures { result ≡ (parents_right (tables x.now) && places_agree (tables x.now)
@@ -29,7 +31,7 @@ fn places_right(x: &Index<'_>) -> bool
     parents::parents_right(x) && places::places_agree(x) && places::runner_right(x.words())
 }
 
-// The rules on messages. They and those on threads stay functions of their own: with all in one the memory's place is read anew at each look.
+// The rules on messages.
 #[inline(never)]
 fn messages_met(x: &Index<'_>) -> bool
     requires { Once x.now }
