@@ -1,5 +1,5 @@
 // A receiver's inbox holds no match; senders and receivers are live; ordinary messages within the limit; notices.
-// Each rule is one pass over the messages: the index says where the thread of a name stands.
+// Each rule is one pass over the messages: the places say where the thread of a name stands.
 #![tactic(auto, unfolding(store::specs::Store::Shaped, store::specs::Store::tables, store::specs::Store::limits))]
 
 ghost use Rattle.std.specs.Prelude.{◌≡◌, ◌&&◌};
@@ -12,13 +12,13 @@ ghost use Rattle.rules.specs.TableRules.{notices_right as notices_right_of};
 ghost use Rattle.store.specs.Store.{tables, limits};
 ghost use Rattle.indexing.specs.Index.{Once};
 
-use indexing::index::Index;
+use indexing::index::{Index, NamePlaces};
 use memory::memory as rows;
 use memory::records::{self, MessageWords};
 use words::states;
 
 // A message is a match exactly if the thread of its receiver's name would receive from its sender. Names are distinct.
-fn is_match(x: &Index<'_>, l: &MessageWords<'_>) -> bool
+fn is_match(x: &NamePlaces<'_>, l: &MessageWords<'_>) -> bool
     requires { Once x.now }
     ensures { result ≡ any (accepts l.now) (tables x.now).threads }
 {
@@ -32,21 +32,27 @@ fn is_match(x: &Index<'_>, l: &MessageWords<'_>) -> bool
     }
 }
 
-pub fn inboxes_right(x: &Index<'_>) -> bool
+pub fn inboxes_right_by_places(x: &NamePlaces<'_>) -> bool
     requires { Once x.now }
     ensures { result ≡ inboxes_right_of (tables x.now) }
 {
     records::messages(x.words()).all(|l| !is_match(x, &l))
 }
 
-fn ends_live(x: &Index<'_>, l: &MessageWords<'_>) -> bool
+pub fn inboxes_right(x: &Index<'_>) -> bool
+    ensures { result ≡ inboxes_right_of (tables x.now) }
+{
+    inboxes_right_by_places(x.places())
+}
+
+fn ends_live(x: &NamePlaces<'_>, l: &MessageWords<'_>) -> bool
     ensures { result ≡ (live_of l.now.to (tables x.now) && live_of l.now.from (tables x.now)) }
 {
     x.is_live(l.to()) && x.is_live(l.from())
 }
 
 // Both ends of each message are live. Ordinary messages are counted on the way: a second pass for them is a tenth of the check.
-pub fn messages_right(x: &Index<'_>) -> bool
+pub fn messages_right(x: &NamePlaces<'_>) -> bool
     ensures { result ≡ messages_right_of (limits x.now) (tables x.now) }
 {
     let m = x.words();
@@ -61,7 +67,7 @@ pub fn messages_right(x: &Index<'_>) -> bool
 }
 
 // A notice's sender is trapped on its receiver, and it is the sender's first: `seen` marks the places of senders met. Names are distinct.
-pub fn notices_right(x: &Index<'_>) -> bool
+pub fn notices_right_by_places(x: &NamePlaces<'_>) -> bool
     requires { Once x.now }
     ensures { result ≡ notices_right_of (tables x.now) }
 {
@@ -80,4 +86,10 @@ pub fn notices_right(x: &Index<'_>) -> bool
         seen[j] = true;
     }
     true
+}
+
+pub fn notices_right(x: &Index<'_>) -> bool
+    ensures { result ≡ notices_right_of (tables x.now) }
+{
+    notices_right_by_places(x.places())
 }

@@ -6,11 +6,11 @@ ghost use Rattle.rules.specs.TableRules.{wanted_live as wanted_live_of, entry_ri
 ghost use Rattle.rules.specs.TableRules.{names_live as names_live_of, manager_set as manager_set_of, trapped_right as trapped_right_of};
 ghost use Rattle.store.specs.Store.{Shaped, tables};
 
-use indexing::index::Index;
+use indexing::index::NamePlaces;
 use memory::records::{self, ThreadWords};
 use rules::{Manager, State, TrapKind, Wanted};
 
-fn wanted_live(x: &Index<'_>, s: State) -> bool
+fn wanted_live(x: &NamePlaces<'_>, s: State) -> bool
     ensures { result ≡ wanted_live_of (tables x.now) s }
 {
     match s {
@@ -19,7 +19,7 @@ fn wanted_live(x: &Index<'_>, s: State) -> bool
     }
 }
 
-fn entry_right(x: &Index<'_>, own: u8, g: Manager) -> bool
+fn entry_right(x: &NamePlaces<'_>, own: u8, g: Manager) -> bool
     ensures { result ≡ entry_right_of (tables x.now) own g }
 {
     match g {
@@ -28,7 +28,7 @@ fn entry_right(x: &Index<'_>, own: u8, g: Manager) -> bool
     }
 }
 
-fn entries_right(x: &Index<'_>, t: &ThreadWords<'_>) -> bool
+fn entries_right(x: &NamePlaces<'_>, t: &ThreadWords<'_>) -> bool
     ensures { result ≡ entries_right_of (tables x.now) t.now }
 {
     entry_right(x, t.name(), t.manager(TrapKind::Program))
@@ -37,13 +37,13 @@ fn entries_right(x: &Index<'_>, t: &ThreadWords<'_>) -> bool
 }
 
 // Are the names live that a thread wants and that are set?
-fn thread_right(x: &Index<'_>, t: &ThreadWords<'_>) -> bool
+fn thread_right(x: &NamePlaces<'_>, t: &ThreadWords<'_>) -> bool
     ensures { result ≡ (wanted_live_of (tables x.now) t.now.state && entries_right_of (tables x.now) t.now) }
 {
     wanted_live(x, t.state()) && entries_right(x, t)
 }
 
-pub fn names_live(x: &Index<'_>) -> bool
+pub fn names_live(x: &NamePlaces<'_>) -> bool
     ensures { result ≡ names_live_of (tables x.now) }
 {
     records::threads(x.words()).all(|t| thread_right(x, &t))

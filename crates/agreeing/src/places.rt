@@ -9,7 +9,7 @@ ghost use Rattle.rules.specs.States.{is_running, is_ready, on_clock};
 ghost use Rattle.rules.specs.TableRules.{places_agree as places_agree_of, runner_right as runner_right_of};
 ghost use Rattle.store.specs.Store.{Shaped, tables};
 
-use indexing::index::Index;
+use indexing::index::NamePlaces;
 use memory::memory as rows;
 use memory::records::{self, NameWalk};
 use rules::{Runner, State, numbers};
@@ -59,7 +59,7 @@ fn all_agree(m: &[u32]) -> bool
     })
 }
 
-fn runner_live(x: &Index<'_>, r: Runner) -> bool
+fn runner_live(x: &NamePlaces<'_>, r: Runner) -> bool
     ensures { result ≡ by_runner true (λ k s. live_of k (tables x.now)) r }
 {
     match r {
@@ -69,13 +69,13 @@ fn runner_live(x: &Index<'_>, r: Runner) -> bool
 }
 
 // Are the names of a queue live?
-fn all_live(x: &Index<'_>, mut names: NameWalk<'_>) -> bool
+fn all_live(x: &NamePlaces<'_>, mut names: NameWalk<'_>) -> bool
     ensures { result ≡ all (λ k. live_of k (tables x.now)) names.entry }
 {
     names.all(|k| x.is_live(k))
 }
 
-pub fn places_agree(x: &Index<'_>) -> bool
+pub fn places_agree(x: &NamePlaces<'_>) -> bool
     ensures { result ≡ places_agree_of (tables x.now) }
 {
     let m = x.words();

@@ -1,4 +1,4 @@
--- The index: how it is filled from the last thread to the first, and what a look into it says of "any" in the table rules.
+-- The places of names: how they are filled in from the last thread to the first, and what a look into them says of "any" in the table rules.
 use Rattle.std.proofs.Common.{if◌then◌else◌}
 use Prim.Native.Nat.{ℕ, suc, ◌+◌, ◌-◌, ◌≤◌, ◌<◌}
 use mathlib.Core.Path.{◌≡◌, refl, sym, ap, subst, ◌∙◌}
@@ -23,7 +23,7 @@ use Rattle.std.proofs.Common.{cond, Some, None, position}
 use Rattle.std.specs.Bool.{then_some}
 use Rattle.std.specs.Option.{is_some}
 use Rattle.memory.proofs.Listing.{position_is, some_if, found, nowhere}
-use Rattle.indexing.specs.Index.{Indexed, Once}
+use Rattle.indexing.specs.Index.{Indexed, Once, Places, Indexes}
 
 -- ---- filling it
 
@@ -110,9 +110,20 @@ module _ {A : Type 0} (p q : A → Bool) (xs : List A) where
   pub none_found : position p xs ≡ None → any (λ x. p x && q x) xs ≡ false
   none_found e = any_neither p q xs (any_no p xs (nowhere p xs e))
 
--- names come once in the words that an index hands out where they do in its memory
+-- names come once in the words that are handed out where they do in the memory
 pub once_there : {m n : List ℕ} → m ≡ n → Once n → Once m
 once_there e o = subst (λ (v : List ℕ). Once v) (sym e) o
+
+-- an index holds its places, with names that come once, and no more
+module _ {m at : List ℕ} {n : ℕ} where
+  pub indexes : Places m at n → Once m → Indexes m at n
+  indexes p o = record { shaped = p.shaped; indexed = p.indexed; many = p.many; once = o }
+
+  pub indexes_places : Indexes m at n → Places m at n
+  indexes_places x = record { shaped = x.shaped; indexed = x.indexed; many = x.many }
+
+  pub indexes_once : Indexes m at n → Once m
+  indexes_once x = x.once
 
 -- the thread of a name, as the memory shows it at its place
 module _ (m : List ℕ) (F : Shaped m) where

@@ -7,13 +7,13 @@ ghost use Rattle.store.specs.Store.{tables};
 ghost use Rattle.indexing.specs.Index.{Once};
 ghost use Rattle.ranging.specs.Upward.{above as above_of, Upward, Leads, AllLead};
 
-use indexing::index::Index;
+use indexing::index::{Index, NamePlaces};
 use memory::{memory as rows, records};
 use rules::Parent;
 
 // What stands above the thread at the place i: its parent's place, or above thread 0 how many threads there are. One whose parent is wrong
 // stands above itself, so that going up from it ends nowhere. A number and no Option: going up is one look in an array of bytes.
-fn above(x: &Index<'_>, i: usize, name: u8, p: Parent) -> usize
+fn above(x: &NamePlaces<'_>, i: usize, name: u8, p: Parent) -> usize
     ensures { result ≡ above_of (tables x.now).threads i name p }
 {
     match p {
@@ -25,7 +25,7 @@ fn above(x: &Index<'_>, i: usize, name: u8, p: Parent) -> usize
 }
 
 // What stands above each thread, by places: each entry is written at its thread's place, which a walk does not say.
-fn upward(x: &Index<'_>) -> [u8; 256]
+fn upward(x: &NamePlaces<'_>) -> [u8; 256]
     ensures { Upward (tables x.now).threads result }
 {
     let m = x.words();
@@ -65,10 +65,16 @@ fn all_lead(up: &[u8]) -> bool
     true
 }
 
-pub fn parents_right(x: &Index<'_>) -> bool
+pub fn parents_right_by_places(x: &NamePlaces<'_>) -> bool
     requires { Once x.now }
     ensures { result ≡ parents_right_of (tables x.now) }
 {
     let n = rows::count(x.words());
     all_lead(&upward(x)[..n])
+}
+
+pub fn parents_right(x: &Index<'_>) -> bool
+    ensures { result ≡ parents_right_of (tables x.now) }
+{
+    parents_right_by_places(x.places())
 }

@@ -1,11 +1,11 @@
--- `Index::of` meets its contract. The loop: the threads from i on are in the index.
+-- `NamePlaces::of` meets its contract. The loop: the threads from i on have their places.
 use Rattle.std.proofs.Common.{ap, ◌∙◌, arith}
 use Rattle.laws.specs.Words.{Thread}
 use Rattle.memory.specs.Rows.{no_thread}
 use Rattle.store.specs.Store.{tables}
 use Rattle.indexing.proofs.Indexing.{fill_starts, fill_read, fill_ends}
 use Rattle.indexing.proofs.Passing.{threads_whole, read_length}
-use Rattle.indexing.proofs.index.Index.of.Goals as goal
+use Rattle.indexing.proofs.index.NamePlaces.of.Goals as goal
 
 pub loop-i-init : goal.loop-i-init
 loop-i-init c = rw c.count-count.ensures (fill_starts _ _ (threads_whole c.args.m.now c.requires))

@@ -1,4 +1,4 @@
--- `inboxes::inboxes_right` meets its contract: the rules ask each thread, and the code asks each message.
+-- `inboxes::inboxes_right_by_places` meets its contract: the rules ask each thread, and the code asks each message.
 use Rattle.std.proofs.Common.{rules, Bool, not, ℕ, List, ap, ◌∙◌}
 use borrow.Author.Tests.{tests}
 use Rattle.std.proofs.lemmas.Iterator.Search.{all_from_yields_List}
@@ -9,7 +9,7 @@ use Rattle.laws.specs.Words.{Message}
 use Rattle.memory.proofs.Listing.{all_is}
 use Rattle.store.specs.Store.{tables}
 use Rattle.agreeing.proofs.Inboxing.{by_messages}
-use Rattle.agreeing.proofs.inboxes.inboxes_right.Goals as goal
+use Rattle.agreeing.proofs.inboxes.inboxes_right_by_places.Goals as goal
 
 pub returns : goal.returns
 unfolding tables

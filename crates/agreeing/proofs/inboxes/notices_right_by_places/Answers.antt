@@ -1,4 +1,4 @@
--- `inboxes::notices_right` meets its contract. The loop: the notices passed are right, and the marks say of whom they were.
+-- `inboxes::notices_right_by_places` meets its contract. The loop: the notices passed are right, and the marks say of whom they were.
 use Rattle.std.proofs.Common.{◌∙◌, ℕ, List, position, refl, sym, ap, ap₂, arith}
 use Rattle.rules.specs.Tables.{named}
 use Rattle.rules.specs.States.{awaits}
@@ -10,8 +10,8 @@ use Rattle.indexing.proofs.Indexing.{thread_there, once_there}
 use Rattle.indexing.proofs.Marking.{walk_here, walk_next, walk_ends}
 use Rattle.indexing.proofs.Passing.{few, counted, read_length}
 use Rattle.agreeing.proofs.Noticing.{notice_starts, notice_skips, notice_ends, no_sender, not_trapped, met_again, met_now}
-use Rattle.agreeing.proofs.inboxes.notices_right.Goals.{then-not-awaits-via-then-not-awaits, then-not-awaits-via-else-not-awaits+then-seen-j}
-use Rattle.agreeing.proofs.inboxes.notices_right.Goals as goal
+use Rattle.agreeing.proofs.inboxes.notices_right_by_places.Goals.{then-not-awaits-via-then-not-awaits, then-not-awaits-via-else-not-awaits+then-seen-j}
+use Rattle.agreeing.proofs.inboxes.notices_right_by_places.Goals as goal
 
 pub loop-l-init : goal.loop-l-init
 unfolding tables

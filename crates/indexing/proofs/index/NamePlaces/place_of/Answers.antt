@@ -1,7 +1,7 @@
--- `Index::place_of` meets its contract: the look-up law of the index.
+-- `NamePlaces::place_of` meets its contract: the look-up law of the places.
 use Rattle.std.proofs.Common.{ℕ, ap, ◌∙◌, get_or, arith}
 use Rattle.indexing.proofs.Indexing.{look_position}
-use Rattle.indexing.proofs.index.Index.place_of.Goals as goal
+use Rattle.indexing.proofs.index.NamePlaces.place_of.Goals as goal
 
 pub returns : goal.returns
 returns c = rw (← c.self.view_is) (c.then_some.ensures ∙ look_position _ _ c.self.invariant.indexed _ (omega arith) _ _

@@ -1,11 +1,11 @@
--- `parents::parents_right` meets its contract: every place leads above all exactly if the rule holds.
+-- `parents::parents_right_by_places` meets its contract: every place leads above all exactly if the rule holds.
 use Rattle.std.proofs.Common.{◌≡◌, ℕ, List, length, sym, ap, ◌∙◌, arith}
 use Rattle.std.proofs.Math.Seq.{length-take-le}
 use Rattle.store.specs.Store.{tables}
 use Rattle.ranging.proofs.Climbing.{decided}
 use Rattle.ranging.proofs.Raising.{upward_cut}
 use Rattle.indexing.proofs.Passing.{few, counted, read_length}
-use Rattle.ranging.proofs.parents.parents_right.Goals as goal
+use Rattle.ranging.proofs.parents.parents_right_by_places.Goals as goal
 
 pub returns : goal.returns
 unfolding tables
